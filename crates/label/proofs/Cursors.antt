@@ -1,0 +1,132 @@
+-- The definitions at a cursor: what each comes to at `drop i s`, for a loop over a slice s with a place i. The loop's invariant is an equation
+-- "the definition at the start is this, put before the definition at the cursor".
+-- Assumes nothing.
+use Prim.Native.Nat.{ℕ, zero, suc, _+_, _*_, _-_, _%_, _^_, _≤_, _<_}
+use native.Mathlib.Omega.{arith}
+use native.Mathlib.Nat.{not-suc-le-zero, add-zero, add-suc, suc-add}
+use native.Mathlib.Numerals.{add-one}
+use mathlib.Core.Path.{_≡_, refl, sym, _∙_, ap, subst}
+use mathlib.Core.Bool.{Bool, true, false, cond, not, _&&_, _||_, false≢true, and-false, and-true}
+use mathlib.Core.List.{List, [], _∷_, _++_, append-assoc, append-nil}
+use borrow.Author.Tests.{ltb-true, ltb-false, eqb-true, eqb-false, leb-true, eq-eqb, ne-eqb, not-true, le-leb, lt-leb}
+use lib.Dec.{eqb, ltb, leb}
+use lib.ListN.{length, getD, take, drop, length-append, length-drop, drop-of-length-le}
+use lib.Seq.{take-all, getD-drop, drop-cons, drop-drop, split-at}
+use Rattle.label.specs.Outcome.{Outcome, ok, no, need, _>>=_, _>>_}
+use Rattle.label.specs.Bytes.{split}
+use Rattle.label.specs.Text.{lead, starts, scalar, xmlChar, unitsOf, decode}
+use Rattle.label.specs.Entry.{Entry}
+use Rattle.label.specs.Run.{Parts, State, opens, takes, cluster, before, next, step, walk}
+use Rattle.label.specs.declared.Glyph.{Glyph}
+use Rattle.label.specs.declared.Cluster.{Cluster}
+use Rattle.label.proofs.Basics.{and-l, and-r, and-i, clash, cases}
+use Rattle.label.proofs.Splits.{none, free, split-join, rest-nil, rest-cons, split-hit, split-miss, split-nil}
+
+-- ── parts ──
+
+pub split-rest : (c : ℕ) (x rest : List ℕ) → free c x ≡ true → split c (x ++ (c ∷ rest)) ≡ x ∷ split c rest
+split-rest c [] rest h = split-hit c c rest (eq-eqb c c refl)
+split-rest c (b ∷ x) rest h =
+    split-miss c b (x ++ (c ∷ rest)) (not-true (eqb b c) (and-l (not (eqb b c)) (free c x) h)) ∙ rw (split-rest c x rest (and-r (not (eqb b c)) (free c x) h))
+
+pub split-all : (c : ℕ) (x : List ℕ) → free c x ≡ true → split c x ≡ x ∷ []
+split-all c x h = subst (λ (y : List ℕ). split c y ≡ x ∷ []) (ap (λ (r : List ℕ). x ++ r) (rest-nil c) ∙ append-nil x) (split-join c [] x h refl)
+
+-- a stretch that a search passed has no byte c
+pub passed-free : (c : ℕ) (s : List ℕ) (n : ℕ) → ((k : ℕ) → k < n → getD s k 0 ≡ c → ⊥) → n ≤ length s → free c (take n s) ≡ true
+passed-free c s zero h l = refl
+passed-free c [] (suc n) h l = absurd (not-suc-le-zero l)
+passed-free c (b ∷ s) (suc n) h l =
+    let e : eqb b c ≡ false = cases (eqb b c) (λ t. absurd (h 0 (omega arith) (eqb-true b c t))) (λ t. t) in
+    rw e (passed-free c s n (λ k p q. h (suc k) (omega arith) q) (omega arith))
+
+pub split-found : (c : ℕ) (s : List ℕ) (e : ℕ) → ((k : ℕ) → k < e → getD s k 0 ≡ c → ⊥) → e < length s → getD s e 0 ≡ c
+    → split c s ≡ take e s ∷ split c (drop (suc e) s)
+split-found c s e h l q =
+    ap (λ (y : List ℕ). split c y) (split-at s e 0 l ∙ rw q)
+    ∙ split-rest c (take e s) (drop (suc e) s) (passed-free c s e h (omega arith))
+
+pub split-last : (c : ℕ) (s : List ℕ) → ((k : ℕ) → k < length s → getD s k 0 ≡ c → ⊥) → split c s ≡ s ∷ []
+split-last c s h = split-all c s (subst (λ (y : List ℕ). free c y ≡ true) (take-all s) (passed-free c s (length s) h (omega arith)))
+  where
+    take-all : (s : List ℕ) → take (length s) s ≡ s
+    take-all [] = refl
+    take-all (b ∷ s) = rw (take-all s)
+
+-- ── characters ──
+
+-- some units before the outcome's
+abbrev pub onto : List ℕ → Outcome (List ℕ) → Outcome (List ℕ)
+onto us o = o >>= (λ vs. ok (us ++ vs))
+
+pub onto-nil : (o : Outcome (List ℕ)) → onto [] o ≡ o
+onto-nil (ok vs) = refl
+onto-nil (no n p) = refl
+
+pub onto-onto : (us vs : List ℕ) (o : Outcome (List ℕ)) → onto us (onto vs o) ≡ onto (us ++ vs) o
+onto-onto us vs (ok ws) = rw append-assoc
+onto-onto us vs (no n p) = refl
+
+pub decode-skip : (k at : ℕ) (s : List ℕ) → decode k at s ≡ decode 0 (at + k) (drop k s)
+unfolding decode
+decode-skip zero at [] = refl
+decode-skip zero at (b ∷ s) = rw (add-zero at)
+decode-skip (suc k) at [] = refl
+decode-skip (suc k) at (b ∷ s) = decode-skip k (suc at) s ∙ rw (add-suc at k, suc-add at k)
+
+-- a well-formed XML character at the cursor
+pub decode-good : (s : List ℕ) (i : ℕ) → i < length s → starts (getD s i 0) (drop (suc i) s) ≡ true
+    → xmlChar (scalar (lead (getD s i 0) .more) (getD s i 0) (drop (suc i) s)) ≡ true
+    → decode 0 i (drop i s) ≡ onto (unitsOf (scalar (lead (getD s i 0) .more) (getD s i 0) (drop (suc i) s)))
+    (decode 0 (suc i + lead (getD s i 0) .more) (drop (suc i + lead (getD s i 0) .more) s))
+unfolding decode
+decode-good s i h t x =
+    let b = getD s i 0 in
+    rw (drop-cons s i 0 h, t, x, decode-skip (lead b .more) (suc i) (drop (suc i) s), drop-drop (lead b .more) (suc i) s)
+
+pub decode-ill : (s : List ℕ) (i : ℕ) → i < length s → starts (getD s i 0) (drop (suc i) s) ≡ false → decode 0 i (drop i s) ≡ no 2 i
+unfolding decode
+decode-ill s i h t = rw (drop-cons s i 0 h, t)
+
+pub decode-outside : (s : List ℕ) (i : ℕ) → i < length s → starts (getD s i 0) (drop (suc i) s) ≡ true
+    → xmlChar (scalar (lead (getD s i 0) .more) (getD s i 0) (drop (suc i) s)) ≡ false → decode 0 i (drop i s) ≡ no 3 i
+unfolding decode
+decode-outside s i h t x = rw (drop-cons s i 0 h, t, x)
+
+pub decode-end : (s : List ℕ) (i : ℕ) → length s ≤ i → decode 0 i (drop i s) ≡ ok []
+unfolding decode
+decode-end s i h = rw (drop-of-length-le s h)
+
+-- ── entries ──
+
+abbrev pub joined : Parts → Parts → Parts
+joined p q = record { clusters = p .clusters ++ q .clusters; glyphs = p .glyphs ++ q .glyphs }
+
+-- clusters and glyphs before the outcome's
+abbrev pub after : Parts → Outcome Parts → Outcome Parts
+after p o = o >>= (λ q. ok (joined p q))
+
+-- what an entry adds
+abbrev pub added : Bool → State → Entry → Parts
+added bare st e = before (opens st) (cluster (takes bare st e) (e .glyphs)) (e .glyph) (record { clusters = []; glyphs = [] })
+
+before-is : (o : Bool) (c : Cluster) (g : Glyph) (q : Parts) → before o c g q ≡ joined (before o c g (record { clusters = []; glyphs = [] })) q
+before-is true c g q = refl
+before-is false c g q = refl
+
+pub walk-good : (bare : Bool) (st : State) (s : List ℕ) (ss : List (List ℕ)) (e : Entry) → step bare st s ≡ ok e
+    → walk bare st (s ∷ ss) ≡ after (added bare st e) (walk bare (next bare st e) ss)
+unfolding walk
+walk-good bare st s ss e h = rw h (go (walk bare (next bare st e) ss))
+  where
+    go : (o : Outcome Parts) → (o >>= (λ p. ok (before (opens st) (cluster (takes bare st e) (e .glyphs)) (e .glyph) p))) ≡ after (added bare st e) o
+    go (ok p) = ap ok (before-is (opens st) (cluster (takes bare st e) (e .glyphs)) (e .glyph) p)
+    go (no n q) = refl
+
+pub walk-bad : (bare : Bool) (st : State) (s : List ℕ) (ss : List (List ℕ)) (n p : ℕ) → step bare st s ≡ no n p → walk bare st (s ∷ ss) ≡ no n p
+unfolding walk
+walk-bad bare st s ss n p h = rw h
+
+-- `&s[a..]`
+pub part-rest : {A : Type 0} (s : List A) (a : ℕ) → take (length s - a) (drop a s) ≡ drop a s
+part-rest s a = take-all (length s - a) (drop a s) (rw length-drop (omega arith))

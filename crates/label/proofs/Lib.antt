@@ -1,0 +1,13 @@
+pub mod Basics
+pub mod Splits
+pub mod Decimals
+pub mod Values
+pub mod Entries
+pub mod Walks
+pub mod Texts
+pub mod Sounds
+pub mod Demands
+pub mod Cursors
+pub mod Outputs
+pub mod Picks
+pub mod Wires

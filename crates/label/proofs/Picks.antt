@@ -1,0 +1,30 @@
+-- What `holding` finds is the stretch of the cluster that holds the glyph.
+-- Assumes nothing.
+use Prim.Native.Nat.{ℕ, zero, suc, _+_, _-_, _≤_, _<_}
+use native.Mathlib.Omega.{arith}
+use native.Mathlib.Nat.{not-suc-le-zero}
+use mathlib.Core.Path.{_≡_, refl, sym, _∙_, ap}
+use mathlib.Core.Bool.{Bool, true, false, cond}
+use mathlib.Core.List.{List, [], _∷_}
+use borrow.Author.Tests.{lt-ltb, le-ltb}
+use lib.Dec.{ltb}
+use lib.ListN.{length}
+use Rattle.label.specs.Pick.{stretch, holding}
+use Rattle.label.specs.Demands.{startsAt, In, unitCounts, glyphCounts}
+use Rattle.label.specs.declared.Cluster.{Cluster}
+
+pub holding-is : (cs : List Cluster) (n u j : ℕ) → In (glyphCounts cs) j n
+    → holding n u cs ≡ stretch (u + startsAt (unitCounts cs) j) (u + startsAt (unitCounts cs) (suc j))
+unfolding holding
+holding-is [] n u j x = absurd (not-suc-le-zero (x .part))
+holding-is (c ∷ cs) n u zero x =
+    let l : n < c .glyphs = omega (arith, x .below) in
+    let a : u + 0 ≡ u = omega arith in
+    let b : u + (c .units + 0) ≡ u + c .units = omega arith in
+    rw (lt-ltb n (c .glyphs) l, a, b)
+holding-is (c ∷ cs) n u (suc j) x =
+    let l : c .glyphs ≤ n = omega (arith, x .from) in
+    let y : In (glyphCounts cs) j (n - c .glyphs) = record { part = omega (arith, x .part); from = omega (arith, x .from); below = omega (arith, x .below, x .from) } in
+    let a : u + c .units + startsAt (unitCounts cs) j ≡ u + (c .units + startsAt (unitCounts cs) j) = omega arith in
+    let b : u + c .units + startsAt (unitCounts cs) (suc j) ≡ u + (c .units + startsAt (unitCounts cs) (suc j)) = omega arith in
+    rw (le-ltb n (c .glyphs) l) (holding-is cs (n - c .glyphs) (u + c .units) j y ∙ rw (a, b))

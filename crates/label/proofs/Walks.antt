@@ -1,0 +1,400 @@
+-- The walk over the entries that the writer makes gives back the clusters and the glyphs.
+-- Assumes nothing.
+use Prim.Native.Nat.{ℕ, zero, suc, _+_, _*_, _-_, _/_, _%_, _^_, _≤_, _<_}
+use native.Mathlib.Omega.{arith}
+use native.Mathlib.Nat.{add-zero, not-suc-le-zero}
+use native.Mathlib.Numerals.{add-one}
+use mathlib.Core.Path.{_≡_, refl, sym, _∙_, ap, subst}
+use mathlib.Core.Bool.{Bool, true, false, cond, not, _&&_, _||_, false≢true, and-true}
+use mathlib.Core.List.{List, [], _∷_, _++_, append-nil, append-assoc}
+use borrow.Author.Tests.{eq-eqb, ne-eqb, not-true, not-false, lt-ltb, le-ltb, ltb-true, ltb-false, le-leb, leb-true, leb-false, eqb-true, eqb-false}
+use lib.Dec.{eqb, ltb, leb, eqb·suc-zero, leb·zero}
+use lib.ListN.{length, getD, drop, length-append, length-drop}
+use lib.Seq.{getD-drop}
+use Rattle.label.specs.Outcome.{Outcome, ok, no, need, _>>=_, _>>_}
+use Rattle.label.specs.Bytes.{empty, split, join, trim, allDigits, valueFrom}
+use Rattle.label.specs.Text.{isLow}
+use Rattle.label.specs.Entry.{Entry, entry, entries, entryOf, wellFormed, isIndexPart, indexDigits, mapUnits, mapGlyphs, isAdvance, isOffset, fieldFits, indexOf, advanceOf, offsetOf}
+use Rattle.label.specs.Run.{Run, Parts, named, fontGlyph, cluster, before, whole, tail, State, start, opens, takes, allowed, next, placed, step, walk}
+use Rattle.label.specs.Write.{entryBytes, written, indicesOf}
+use Rattle.label.specs.Sound.{glyphFits, mayOpen, fits}
+use Rattle.label.specs.declared.Index.{Index}
+use Rattle.label.specs.declared.Index.the-variants.{Named, Font}
+use Rattle.label.specs.declared.Advance.{Advance}
+use Rattle.label.specs.declared.Advance.the-variants.{Given, Own}
+use Rattle.label.specs.declared.Glyph.{Glyph}
+use Rattle.label.specs.declared.Cluster.{Cluster}
+use Rattle.label.proofs.Basics.{and-l, and-r, and-i, clash, cases, bind-ok, need-ok}
+use Rattle.label.proofs.Splits.{free, allFree, empty-nil, trim-nil, trim-gone, trim-kept, free-trim, joined-full, join-nil, join-cons, split-join, total, join-total, total-trim, joined-first}
+use Rattle.label.proofs.Entries.{maps, back, entry-read, entry-semi, entry-short, entry-full}
+
+abbrev pub parts : List Cluster → List Glyph → Parts
+parts cs gs = record { clusters = cs; glyphs = gs }
+
+abbrev pub state : ℕ → ℕ → List ℕ → ℕ → ℕ → State
+state k at rest lack opener = record { k = k; at = at; rest = rest; lack = lack; opener = opener }
+
+pub walk-step : (bare : Bool) (st : State) (s : List ℕ) (ss : List (List ℕ)) (e : Entry) (p : Parts) → step bare st s ≡ ok e
+    → walk bare (next bare st e) ss ≡ ok p → walk bare st (s ∷ ss) ≡ ok (before (opens st) (cluster (takes bare st e) (e .glyphs)) (e .glyph) p)
+unfolding walk
+walk-step bare st s ss e p h k = rw (h, k)
+
+-- ── one entry, forward ──
+
+-- a further glyph of an open cluster
+step-further : (bare : Bool) (k at : ℕ) (rest : List ℕ) (n opener : ℕ) (g : Glyph) → glyphFits g ≡ true → named (g .index) ≡ true → whole 0 rest ≡ true
+    → step bare (state k at rest (suc n) opener) (entryBytes 1 1 g) ≡ ok (back 1 1 g)
+unfolding step placed
+step-further bare k at rest n opener g m i w =
+    rw (entry-read 1 1 g m (λ t. i) k, eqb·suc-zero n, i, leb·zero (length rest), w)
+
+-- a cluster in a text of no units
+step-bare : (k at : ℕ) (rest : List ℕ) (opener : ℕ) (g : Glyph) → glyphFits g ≡ true → named (g .index) ≡ true → whole 0 rest ≡ true
+    → step true (state k at rest 0 opener) (entryBytes 0 1 g) ≡ ok (back 0 1 g)
+unfolding step placed
+step-bare k at rest opener g m i w =
+    rw (entry-read 0 1 g m (λ t. i) k, i, leb·zero (length rest), w)
+
+abbrev opened : ℕ → ℕ → Glyph → Entry
+opened a b g = record { mapped = maps a b; units = a; glyphs = b; glyph = g }
+
+back-open : (a b : ℕ) (g : Glyph) → 1 ≤ a → back a b g ≡ opened a b g
+back-open a b g h =
+    cases (maps a b)
+    (λ t. rw t)
+    (λ t. let q : (leb a 1 && eqb b 1) ≡ true = not-false (leb a 1 && eqb b 1) t in
+    let l : a ≤ 1 = leb-true a 1 (and-l (leb a 1) (eqb b 1) q) in
+    let u : a ≡ 1 = omega arith in
+    let v : b ≡ 1 = eqb-true b 1 (and-r (leb a 1) (eqb b 1) q) in
+    rw (u, v))
+
+step-open : (k at : ℕ) (rest : List ℕ) (opener a b : ℕ) (g : Glyph) → glyphFits g ≡ true → (maps a b ≡ true → named (g .index) ≡ true) → 1 ≤ a → 1 ≤ b
+    → a ≤ length rest → whole a rest ≡ true → step false (state k at rest 0 opener) (entryBytes a b g) ≡ ok (opened a b g)
+unfolding step placed
+step-open k at rest opener a b g m f ha hb hl w =
+    rw (entry-read a b g m f k ∙ ap ok (back-open a b g ha), le-leb 1 a ha, le-leb 1 b hb, le-leb a (length rest) hl, w)
+
+-- ── the writer's entries, forward ──
+
+written-nil : (lack : ℕ) (cs : List Cluster) → written lack cs [] ≡ []
+unfolding written
+written-nil zero [] = refl
+written-nil zero (c ∷ cs) = refl
+written-nil (suc n) cs = refl
+
+pub fits-nil : (bare : Bool) (lack : ℕ) (us : List ℕ) (cs : List Cluster) → fits bare lack us cs [] ≡ true → (lack ≡ 0) × (cs ≡ []) × (us ≡ [])
+unfolding fits
+fits-nil bare lack us cs h =
+    let p : (eqb lack 0 && empty cs) ≡ true = and-l (eqb lack 0 && empty cs) (empty us) h in
+    (eqb-true lack 0 (and-l (eqb lack 0) (empty cs) p), empty-nil cs (and-r (eqb lack 0) (empty cs) p), empty-nil us (and-r (eqb lack 0 && empty cs) (empty us) h))
+
+-- what `fits` says of a further glyph, and of one that opens a cluster
+pub record Further (bare : Bool) (n : ℕ) (us : List ℕ) (cs : List Cluster) (g : Glyph) (gs : List Glyph) : Type 0 where
+  pub small : glyphFits g ≡ true
+  pub name : named (g .index) ≡ true
+  pub rest : fits bare n us cs gs ≡ true
+
+pub fits-further : (bare : Bool) (n : ℕ) (us : List ℕ) (cs : List Cluster) (g : Glyph) (gs : List Glyph) → fits bare (suc n) us cs (g ∷ gs) ≡ true
+    → Further bare n us cs g gs
+unfolding fits
+fits-further bare n us cs g gs h =
+    let p : (glyphFits g && named (g .index)) ≡ true = and-l (glyphFits g && named (g .index)) (fits bare n us cs gs) h in
+    record {
+      small = and-l (glyphFits g) (named (g .index)) p;
+      name = and-r (glyphFits g) (named (g .index)) p;
+      rest = and-r (glyphFits g && named (g .index)) (fits bare n us cs gs) h;
+    }
+
+pub record Opening (bare : Bool) (us : List ℕ) (c : Cluster) (cs : List Cluster) (g : Glyph) (gs : List Glyph) : Type 0 where
+  pub small : glyphFits g ≡ true
+  pub may : mayOpen bare us c g ≡ true
+  pub rest : fits bare (c .glyphs - 1) (drop (c .units) us) cs gs ≡ true
+
+pub fits-opening : (bare : Bool) (us : List ℕ) (c : Cluster) (cs : List Cluster) (g : Glyph) (gs : List Glyph) → fits bare zero us (c ∷ cs) (g ∷ gs) ≡ true
+    → Opening bare us c cs g gs
+unfolding fits
+fits-opening bare us c cs g gs h =
+    let p : (glyphFits g && mayOpen bare us c g) ≡ true = and-l (glyphFits g && mayOpen bare us c g) (fits bare (c .glyphs - 1) (drop (c .units) us) cs gs) h in
+    record {
+      small = and-l (glyphFits g) (mayOpen bare us c g) p;
+      may = and-r (glyphFits g) (mayOpen bare us c g) p;
+      rest = and-r (glyphFits g && mayOpen bare us c g) (fits bare (c .glyphs - 1) (drop (c .units) us) cs gs) h;
+    }
+
+pub record Bare (c : Cluster) (g : Glyph) : Type 0 where
+  pub none : c .units ≡ 0
+  pub one : c .glyphs ≡ 1
+  pub name : named (g .index) ≡ true
+
+pub may-bare : (us : List ℕ) (c : Cluster) (g : Glyph) → mayOpen true us c g ≡ true → Bare c g
+may-bare us c g h =
+    let p : (eqb (c .units) 0 && eqb (c .glyphs) 1) ≡ true = and-l (eqb (c .units) 0 && eqb (c .glyphs) 1) (named (g .index)) h in
+    record {
+      none = eqb-true (c .units) 0 (and-l (eqb (c .units) 0) (eqb (c .glyphs) 1) p);
+      one = eqb-true (c .glyphs) 1 (and-r (eqb (c .units) 0) (eqb (c .glyphs) 1) p);
+      name = and-r (eqb (c .units) 0 && eqb (c .glyphs) 1) (named (g .index)) h;
+    }
+
+pub record Opens (us : List ℕ) (c : Cluster) (g : Glyph) : Type 0 where
+  pub some-units : 1 ≤ c .units
+  pub some-glyphs : 1 ≤ c .glyphs
+  pub inside : c .units ≤ length us
+  pub whole-pairs : whole (c .units) us ≡ true
+  pub name : maps (c .units) (c .glyphs) ≡ true → named (g .index) ≡ true
+
+pub may-opens : (us : List ℕ) (c : Cluster) (g : Glyph) → mayOpen false us c g ≡ true → Opens us c g
+may-opens us c g h =
+    let a = leb 1 (c .units) in
+    let b = leb 1 (c .glyphs) in
+    let l = leb (c .units) (length us) in
+    let w = whole (c .units) us in
+    let n = named (g .index) || (eqb (c .units) 1 && eqb (c .glyphs) 1) in
+    let h1 : (a && b && l && w) ≡ true = and-l (a && b && l && w) n h in
+    let h2 : (a && b && l) ≡ true = and-l (a && b && l) w h1 in
+    let h3 : (a && b) ≡ true = and-l (a && b) l h2 in
+    record {
+      some-units = leb-true 1 (c .units) (and-l a b h3);
+      some-glyphs = leb-true 1 (c .glyphs) (and-r a b h3);
+      inside = leb-true (c .units) (length us) (and-r (a && b) l h2);
+      whole-pairs = and-r (a && b && l) w h1;
+      name = or-name (named (g .index)) (c .units) (c .glyphs) (and-r (a && b && l && w) n h);
+    }
+  where
+    or-name : (t : Bool) (a b : ℕ) → (t || (eqb a 1 && eqb b 1)) ≡ true → maps a b ≡ true → t ≡ true
+    or-name true a b h k = refl
+    or-name false a b h k =
+        let u : a ≡ 1 = eqb-true a 1 (and-l (eqb a 1) (eqb b 1) h) in
+        let v : b ≡ 1 = eqb-true b 1 (and-r (eqb a 1) (eqb b 1) h) in
+        clash (maps a b) k (rw (u, v))
+
+pub whole-drop : (a : ℕ) (us : List ℕ) → whole a us ≡ true → whole 0 (drop a us) ≡ true
+whole-drop a us h = rw (getD-drop a us 0 0, add-zero a) h
+
+-- the walk over the written entries gives the clusters and the glyphs
+pub walk-back : (gs : List Glyph) (bare : Bool) (cs : List Cluster) (k at : ℕ) (us : List ℕ) (lack opener : ℕ) → whole 0 us ≡ true → fits bare lack us cs gs ≡ true
+    → walk bare (state k at us lack opener) (written lack cs gs) ≡ ok (parts cs gs)
+unfolding written
+walk-back [] bare cs k at us lack opener w h =
+    let f : (lack ≡ 0) × (cs ≡ []) × (us ≡ []) = fits-nil bare lack us cs h in
+    rw (written-nil lack cs, f .0, f .1, f .2) (unfold walk tail in refl)
+walk-back (g ∷ gs) bare cs k at us (suc n) opener w h =
+    let f : Further bare n us cs g gs = fits-further bare n us cs g gs h in
+    let s : step bare (state k at us (suc n) opener) (entryBytes 1 1 g) ≡ ok (back 1 1 g) = step-further bare k at us n opener g (f .small) (f .name) w in
+    let d : suc n - 1 ≡ n = omega arith in
+    let r : walk bare (next bare (state k at us (suc n) opener) (back 1 1 g)) (written n cs gs) ≡ ok (parts cs gs) =
+    rw (eqb·suc-zero n, d) (walk-back gs bare cs (suc k) (at + 0) us n opener w (f .rest)) in
+    walk-step bare (state k at us (suc n) opener) (entryBytes 1 1 g) (written n cs gs) (back 1 1 g) (parts cs gs) s r ∙ rw (eqb·suc-zero n)
+walk-back (g ∷ gs) bare [] k at us zero opener w h = clash (fits bare zero us [] (g ∷ gs)) h (unfold fits in refl)
+walk-back (g ∷ gs) true (c ∷ cs) k at us zero opener w h =
+    let f : Opening true us c cs g gs = fits-opening true us c cs g gs h in
+    let o : Bare c g = may-bare us c g (f .may) in
+    let r : walk true (next true (state k at us 0 opener) (back 0 1 g)) (written (1 - 1) cs gs) ≡ ok (parts cs gs) =
+    walk-back gs true cs (suc k) (at + 0) us 0 k w (rw (o .none, o .one) at (f .rest)) in
+    rw (o .none, o .one)
+    (walk-step true (state k at us 0 opener) (entryBytes 0 1 g) (written (1 - 1) cs gs) (back 0 1 g) (parts cs gs) (step-bare k at us opener g (f .small) (o .name) w) r)
+walk-back (g ∷ gs) false (c ∷ cs) k at us zero opener w h =
+    let f : Opening false us c cs g gs = fits-opening false us c cs g gs h in
+    let o : Opens us c g = may-opens us c g (f .may) in
+    let s : step false (state k at us 0 opener) (entryBytes (c .units) (c .glyphs) g) ≡ ok (opened (c .units) (c .glyphs) g) =
+    step-open k at us opener (c .units) (c .glyphs) g (f .small) (o .name) (o .some-units) (o .some-glyphs) (o .inside) (o .whole-pairs) in
+    walk-step false (state k at us 0 opener) (entryBytes (c .units) (c .glyphs) g) (written (c .glyphs - 1) cs gs) (opened (c .units) (c .glyphs) g) (parts cs gs) s
+    (walk-back gs false cs (suc k) (at + c .units) (drop (c .units) us) (c .glyphs - 1) k (whole-drop (c .units) us (o .whole-pairs)) (f .rest))
+
+-- ── trailing entries of the font may be left out ──
+
+-- what is known of an entry that passed
+pub record Stepped (bare : Bool) (st : State) (s : List ℕ) (e : Entry) : Type 0 where
+  pub is : entry (st .k) s ≡ ok e
+  pub ten : (leb 1 (e .units) && leb 1 (e .glyphs)) ≡ true
+  pub eleven : allowed bare st e ≡ true
+  pub twelve : leb (takes bare st e) (length (st .rest)) ≡ true
+  pub thirteen : whole (takes bare st e) (st .rest) ≡ true
+
+pub ok-path : {A : Type 0} (a b : A) → ok a ≡ ok b → a ≡ b
+ok-path a b h = cc
+
+pub step-ok : (bare : Bool) (st : State) (s : List ℕ) (e : Entry) → step bare st s ≡ ok e → Stepped bare st s e
+unfolding step placed
+step-ok bare st s e h =
+    let (x, a, b) = bind-ok (entry (st .k) s) (placed bare st) e h in
+    let (t10, b10) = need-ok (leb 1 (x .units) && leb 1 (x .glyphs)) 10 (st .k) _ e b in
+    let (t11, b11) = need-ok (allowed bare st x) 11 (st .k) _ e b10 in
+    let (t12, b12) = need-ok (leb (takes bare st x) (length (st .rest))) 12 (st .k) _ e b11 in
+    let (t13, b13) = need-ok (whole (takes bare st x) (st .rest)) 13 (st .at + takes bare st x) _ e b12 in
+    let q : x ≡ e = ok-path x e b13 in
+    subst (λ (y : Entry). Stepped bare st s y) q (record { is = a; ten = t10; eleven = t11; twelve = t12; thirteen = t13 })
+
+abbrev pub fontEntry : Entry
+fontEntry = record { mapped = false; units = 1; glyphs = 1; glyph = fontGlyph }
+
+pub entry-empty : (k : ℕ) → entry k [] ≡ ok fontEntry
+unfolding entry entryOf wellFormed split isIndexPart indexDigits mapUnits mapGlyphs isAdvance isOffset fieldFits indexOf advanceOf offsetOf allDigits valueFrom
+entry-empty k = refl
+
+-- an empty entry is the font's, outside a cluster, in a text that has units, at a unit that ends no half
+record Unwritten (bare : Bool) (st : State) (e : Entry) : Type 0 where
+  is : e ≡ fontEntry
+  open-none : opens st ≡ true
+  has-units : bare ≡ false
+  one : 1 ≤ length (st .rest)
+  whole-one : whole 1 (st .rest) ≡ true
+
+step-empty : (bare : Bool) (st : State) (e : Entry) → step bare st [] ≡ ok e → Unwritten bare st e
+step-empty bare st e h =
+    let x : Stepped bare st [] e = step-ok bare st [] e h in
+    let q : e ≡ fontEntry = ok-path e fontEntry (sym (x .is) ∙ entry-empty (st .k)) in
+    let t : (opens st && not bare) ≡ true = or-left (opens st && not bare) (rw q at (x .eleven)) in
+    let o : opens st ≡ true = and-l (opens st) (not bare) t in
+    let b : bare ≡ false = not-true bare (and-r (opens st) (not bare) t) in
+    record {
+      is = q;
+      open-none = o;
+      has-units = b;
+      one = leb-true 1 (length (st .rest)) (rw (q, o, b) at (x .twelve));
+      whole-one = rw (q, o, b) at (x .thirteen);
+    }
+  where
+    or-left : (a : Bool) → (a || false) ≡ true → a ≡ true
+    or-left true h = refl
+    or-left false h = h
+
+pub record Walked (bare : Bool) (st : State) (s : List ℕ) (ss : List (List ℕ)) (p : Parts) : Type 0 where
+  pub first : Entry
+  pub others : Parts
+  pub stepped : step bare st s ≡ ok first
+  pub walked : walk bare (next bare st first) ss ≡ ok others
+  pub is : before (opens st) (cluster (takes bare st first) (first .glyphs)) (first .glyph) others ≡ p
+
+pub walk-ok : (bare : Bool) (st : State) (s : List ℕ) (ss : List (List ℕ)) (p : Parts) → walk bare st (s ∷ ss) ≡ ok p → Walked bare st s ss p
+unfolding walk
+walk-ok bare st s ss p h =
+    let (e, a, b) = bind-ok (step bare st s) _ p h in
+    let (q, c, d) = bind-ok (walk bare (next bare st e) ss) _ p b in
+    record { first = e; others = q; stepped = a; walked = c; is = ok-path _ p d }
+
+walk-nil : (bare : Bool) (st : State) → opens st ≡ true → walk bare st [] ≡ tail (st .at) (st .rest)
+unfolding walk
+walk-nil bare st h = rw h
+
+tail-cons : (at u : ℕ) (us : List ℕ) (p : Parts) → whole 0 us ≡ true → tail (suc at) us ≡ ok p → tail at (u ∷ us) ≡ ok (before true (cluster 1 1) fontGlyph p)
+unfolding tail
+tail-cons at u us p h k = rw (h, k)
+
+unwritten : (bare : Bool) (k at : ℕ) (rest : List ℕ) (lack opener : ℕ) (e : Entry) (p : Parts) → step bare (state k at rest lack opener) [] ≡ ok e
+    → walk bare (next bare (state k at rest lack opener) e) [] ≡ ok p
+    → walk bare (state k at rest lack opener) [] ≡ ok (before (eqb lack 0) (cluster (takes bare (state k at rest lack opener) e) (e .glyphs)) (e .glyph) p)
+unwritten bare k at [] lack opener e p h w =
+    let x : Unwritten bare (state k at [] lack opener) e = step-empty bare (state k at [] lack opener) e h in
+    absurd (not-suc-le-zero (x .one))
+unwritten bare k at (u ∷ us) lack opener e p h w =
+    let st = state k at (u ∷ us) lack opener in
+    let x : Unwritten bare st e = step-empty bare st e h in
+    let v : walk false (state (suc k) (at + 1) us 0 k) [] ≡ ok p = rw (x .is, x .has-units, x .open-none) at w in
+    let t : tail (suc at) us ≡ ok p = rw (walk-nil false (state (suc k) (at + 1) us 0 k) refl, add-one at) at v in
+    walk-nil bare st (x .open-none) ∙ tail-cons at u us p (x .whole-one) t ∙ rw (x .is, x .has-units, x .open-none)
+
+pub walk-trim : (es : List (List ℕ)) (bare : Bool) (st : State) (p : Parts) → walk bare st es ≡ ok p → walk bare st (trim es) ≡ ok p
+walk-trim [] bare st p h = rw trim-nil h
+walk-trim (s ∷ ss) bare st p h =
+    let x : Walked bare st s ss p = walk-ok bare st s ss p h in
+    let r : walk bare (next bare st (x .first)) (trim ss) ≡ ok (x .others) = walk-trim ss bare (next bare st (x .first)) (x .others) (x .walked) in
+    cases (empty s && empty (trim ss))
+    (λ t. let es : s ≡ [] = empty-nil s (and-l (empty s) (empty (trim ss)) t) in
+    let et : trim ss ≡ [] = empty-nil (trim ss) (and-r (empty s) (empty (trim ss)) t) in
+    rw (trim-gone s ss t)
+    (unwritten bare (st .k) (st .at) (st .rest) (st .lack) (st .opener) (x .first) (x .others) (subst (λ (y : List ℕ). step bare st y ≡ ok (x .first)) es (x .stepped)) (rw et at r) ∙ ap ok (x .is)))
+    (λ t. rw (trim-kept s ss t) (walk-step bare st s (trim ss) (x .first) (x .others) (x .stepped) r ∙ ap ok (x .is)))
+
+-- ── split into entries again ──
+
+pub entries-joined : (l : List (List ℕ)) → allFree 59 l ≡ true → entries (join 59 (trim l)) ≡ trim l
+unfolding entries
+entries-joined l h = go (trim l) refl
+  where
+    go : (t : List (List ℕ)) → trim l ≡ t → entries (join 59 (trim l)) ≡ trim l
+    go [] e = rw (e, join-nil 59)
+    go (x ∷ xs) e =
+        let f : allFree 59 (x ∷ xs) ≡ true = rw e at (free-trim 59 l h) in
+        rw (e, joined-full 59 l x xs e, join-cons 59 x xs, split-join 59 xs x (and-l (free 59 x) (allFree 59 xs) f) (and-r (free 59 x) (allFree 59 xs) f))
+
+-- ── the written entries: no `;` in them, and few bytes ──
+
+pub written-semi : (gs : List Glyph) (bare : Bool) (cs : List Cluster) (us : List ℕ) (lack : ℕ) → fits bare lack us cs gs ≡ true → allFree 59 (written lack cs gs) ≡ true
+unfolding written
+written-semi [] bare cs us lack h = refl
+written-semi (g ∷ gs) bare cs us (suc n) h =
+    let f : Further bare n us cs g gs = fits-further bare n us cs g gs h in
+    rw (entry-semi 1 1 g (f .small) (λ t. f .name)) (written-semi gs bare cs us n (f .rest))
+written-semi (g ∷ gs) bare [] us zero h = refl
+written-semi (g ∷ gs) true (c ∷ cs) us zero h =
+    let f : Opening true us c cs g gs = fits-opening true us c cs g gs h in
+    let o : Bare c g = may-bare us c g (f .may) in
+    rw (entry-semi (c .units) (c .glyphs) g (f .small) (λ t. o .name)) (written-semi gs true cs (drop (c .units) us) (c .glyphs - 1) (f .rest))
+written-semi (g ∷ gs) false (c ∷ cs) us zero h =
+    let f : Opening false us c cs g gs = fits-opening false us c cs g gs h in
+    let o : Opens us c g = may-opens us c g (f .may) in
+    rw (entry-semi (c .units) (c .glyphs) g (f .small) (o .name)) (written-semi gs false cs (drop (c .units) us) (c .glyphs - 1) (f .rest))
+
+-- an open cluster's glyphs are there
+pub fits-lack : (gs : List Glyph) (bare : Bool) (cs : List Cluster) (us : List ℕ) (lack : ℕ) → fits bare lack us cs gs ≡ true → lack ≤ length gs
+fits-lack [] bare cs us lack h = let z : lack ≡ 0 = fits-nil bare lack us cs h .0 in omega arith
+fits-lack (g ∷ gs) bare cs us zero h = omega arith
+fits-lack (g ∷ gs) bare cs us (suc n) h = let r : n ≤ length gs = fits-lack gs bare cs us n (fits-further bare n us cs g gs h .rest) in omega arith
+
+pub written-total : (gs : List Glyph) (bare : Bool) (cs : List Cluster) (us : List ℕ) (lack : ℕ) → length us < 100000 → length gs < 100000 → fits bare lack us cs gs ≡ true
+    → total (written lack cs gs) ≤ 58 * length gs
+unfolding written
+written-total [] bare cs us lack hu hg h = omega arith
+written-total (g ∷ gs) bare cs us (suc n) hu hg h =
+    let f : Further bare n us cs g gs = fits-further bare n us cs g gs h in
+    let r : total (written n cs gs) ≤ 58 * length gs = written-total gs bare cs us n hu (omega arith) (f .rest) in
+    let e : length (entryBytes 1 1 g) ≤ 57 = entry-short 1 1 g (f .small) (λ t. f .name) (omega arith) (omega arith) in
+    omega arith
+written-total (g ∷ gs) bare [] us zero hu hg h = omega arith
+written-total (g ∷ gs) true (c ∷ cs) us zero hu hg h =
+    let f : Opening true us c cs g gs = fits-opening true us c cs g gs h in
+    let o : Bare c g = may-bare us c g (f .may) in
+    let r : total (written (c .glyphs - 1) cs gs) ≤ 58 * length gs =
+    written-total gs true cs (drop (c .units) us) (c .glyphs - 1) (rw length-drop (omega arith)) (omega arith) (f .rest) in
+    let e : length (entryBytes (c .units) (c .glyphs) g) ≤ 57 =
+    entry-short (c .units) (c .glyphs) g (f .small) (λ t. o .name) (omega (arith, o .none)) (omega (arith, o .one)) in
+    omega arith
+written-total (g ∷ gs) false (c ∷ cs) us zero hu hg h =
+    let f : Opening false us c cs g gs = fits-opening false us c cs g gs h in
+    let o : Opens us c g = may-opens us c g (f .may) in
+    let l : c .glyphs - 1 ≤ length gs = fits-lack gs false cs (drop (c .units) us) (c .glyphs - 1) (f .rest) in
+    let r : total (written (c .glyphs - 1) cs gs) ≤ 58 * length gs =
+    written-total gs false cs (drop (c .units) us) (c .glyphs - 1) (rw length-drop (omega arith)) (omega arith) (f .rest) in
+    let e : length (entryBytes (c .units) (c .glyphs) g) ≤ 57 =
+    entry-short (c .units) (c .glyphs) g (f .small) (o .name) (omega (arith, o .inside)) (omega (arith, o .some-glyphs)) in
+    omega arith
+
+-- the indices of a run that fits
+pub record Indices (bare : Bool) (us : List ℕ) (cs : List Cluster) (gs : List Glyph) : Type 0 where
+  pub back-again : walk bare (start us) (entries (indicesOf cs gs)) ≡ ok (parts cs gs)
+  pub short : length (indicesOf cs gs) ≤ 262144
+
+pub indices-back : (bare : Bool) (us : List ℕ) (cs : List Cluster) (gs : List Glyph) → whole 0 us ≡ true → length us ≤ 4096 → length gs ≤ 4096 → fits bare 0 us cs gs ≡ true
+    → Indices bare us cs gs
+unfolding indicesOf
+indices-back bare us cs gs w hu hg h =
+    record {
+      back-again =
+          rw (entries-joined (written 0 cs gs) (written-semi gs bare cs us 0 h))
+          (walk-trim (written 0 cs gs) bare (start us) (parts cs gs) (walk-back gs bare cs 0 0 us 0 0 w h));
+      short =
+          let t : total (written 0 cs gs) ≤ 58 * length gs = written-total gs bare cs us 0 (omega arith) (omega arith) h in
+          let j : length (join 59 (trim (written 0 cs gs))) ≤ total (trim (written 0 cs gs)) = join-total 59 (trim (written 0 cs gs)) in
+          let s : total (trim (written 0 cs gs)) ≤ total (written 0 cs gs) = total-trim (written 0 cs gs) in
+          omega arith;
+    }
+
+-- in a text of no units the indices are some bytes
+pub indices-full : (us : List ℕ) (cs : List Cluster) (gs : List Glyph) → empty gs ≡ false → fits true 0 us cs gs ≡ true → empty (indicesOf cs gs) ≡ false
+unfolding indicesOf written
+indices-full us cs [] e h = clash true refl e
+indices-full us [] (g ∷ gs) e h = clash (fits true zero us [] (g ∷ gs)) h (unfold fits in refl)
+indices-full us (c ∷ cs) (g ∷ gs) e h =
+    let f : Opening true us c cs g gs = fits-opening true us c cs g gs h in
+    let o : Bare c g = may-bare us c g (f .may) in
+    joined-first 59 (entryBytes (c .units) (c .glyphs) g) (written (c .glyphs - 1) cs gs) (entry-full (c .units) (c .glyphs) g (o .name))

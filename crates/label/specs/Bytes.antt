@@ -1,0 +1,81 @@
+-- Parts of byte lists: split at a byte, cut at the first byte of a kind, digits and their value; and the way back: join, trailing empty parts dropped,
+-- digits of a number.
+-- Assumes nothing.
+use Prim.Native.Nat.{ℕ, zero, suc, _+_, _*_, _-_, _/_, _%_}
+use mathlib.Core.Bool.{Bool, true, false, cond, not, _&&_, _||_}
+use mathlib.Core.List.{List, [], _∷_, _++_}
+use lib.Dec.{leb, ltb, eqb}
+use lib.ListN.{length, getD, drop}
+
+-- no element
+abbrev pub empty : {A : Type 0} → List A → Bool
+empty [] = true
+empty (x ∷ xs) = false
+
+-- a byte more at the front of the first part
+abbrev pub onFirst : ℕ → List (List ℕ) → List (List ℕ)
+onFirst b [] = (b ∷ []) ∷ []
+onFirst b (x ∷ xs) = (b ∷ x) ∷ xs
+
+-- the parts between the bytes c: n of them make n + 1 parts
+unfoldable pub split : ℕ → List ℕ → List (List ℕ)
+split c [] = [] ∷ []
+split c (b ∷ bs) = let r = split c bs in cond (eqb b c) ([] ∷ r) (onFirst b r)
+
+-- the bytes before the first that passes the test, whether there is one, and the bytes after it
+pub record Cut : Type 0 where
+  pub before : List ℕ
+  pub found : Bool
+  pub after : List ℕ
+
+abbrev pub more : ℕ → Cut → Cut
+more b c = record { before = b ∷ c .before; found = c .found; after = c .after }
+
+unfoldable pub cut : (ℕ → Bool) → List ℕ → Cut
+cut t [] = record { before = []; found = false; after = [] }
+cut t (b ∷ bs) = let r = cut t bs in cond (t b) (record { before = []; found = true; after = bs }) (more b r)
+
+-- `0` to `9`
+abbrev pub isDigit : ℕ → Bool
+isDigit b = leb 48 b && leb b 57
+
+-- zero or more digits
+unfoldable pub allDigits : List ℕ → Bool
+allDigits [] = true
+allDigits (b ∷ bs) = isDigit b && allDigits bs
+
+-- one or more digits
+abbrev pub digits : List ℕ → Bool
+digits s = not (empty s) && allDigits s
+
+-- the whole number that the digits behind n go on with
+unfoldable pub valueFrom : ℕ → List ℕ → ℕ
+valueFrom n [] = n
+valueFrom n (b ∷ bs) = valueFrom (n * 10 + (b - 48)) bs
+
+-- digits "read as one whole number"
+abbrev pub value : List ℕ → ℕ
+value s = valueFrom 0 s
+
+-- the parts with the byte c before each
+unfoldable pub joinRest : ℕ → List (List ℕ) → List ℕ
+joinRest c [] = []
+joinRest c (x ∷ xs) = c ∷ (x ++ joinRest c xs)
+
+-- the parts with the byte c between them
+unfoldable pub join : ℕ → List (List ℕ) → List ℕ
+join c [] = []
+join c (x ∷ xs) = x ++ joinRest c xs
+
+-- without the empty parts at the end
+unfoldable pub trim : List (List ℕ) → List (List ℕ)
+trim [] = []
+trim (x ∷ xs) = let r = trim xs in cond (empty x && empty r) [] (x ∷ r)
+
+-- the digits of a number, "no leading zeros"; `fuel` is above the number
+unfoldable pub decimalFrom : ℕ → ℕ → List ℕ
+decimalFrom zero n = []
+decimalFrom (suc fuel) n = let r = decimalFrom fuel (n / 10) ++ ((48 + n % 10) ∷ []) in cond (ltb n 10) ((48 + n) ∷ []) r
+
+unfoldable pub decimal : ℕ → List ℕ
+decimal n = decimalFrom (suc n) n

@@ -1,0 +1,125 @@
+-- The calls with their lent buffers: 16 to 18, 20, 21 and 18 of the list of records; what each buffer holds afterwards; and for every answer enum the
+-- paper's number, place and values of each of its cases.
+-- Assumes nothing.
+use Prim.Native.Nat.{ℕ, _+_, _*_, _/_}
+use mathlib.Core.Bool.{Bool, true, false, cond}
+use mathlib.Core.List.{List, [], _∷_, _++_}
+use lib.Dec.{leb, eqb}
+use lib.IntN.{ℤ}
+use lib.ListN.{length, drop}
+use Rattle.label.specs.Outcome.{Outcome, ok, no, need, _>>=_, _>>_}
+use Rattle.label.specs.Run.{Run, read}
+use Rattle.label.specs.Sound.{flatClusters, flatGlyphs, sound, glyphsOf}
+use Rattle.label.specs.Write.{Label, write}
+use Rattle.label.specs.declared.Glyph.{Glyph}
+use Rattle.label.specs.declared.Refusal.{Refusal}
+use Rattle.label.specs.declared.Counts.{Counts}
+use Rattle.label.specs.declared.Reading.{Reading}
+use Rattle.label.specs.declared.Reading.the-variants as R
+use Rattle.label.specs.declared.Lengths.{Lengths}
+use Rattle.label.specs.declared.Writing.{Writing}
+use Rattle.label.specs.declared.Writing.the-variants as W
+use Rattle.label.specs.declared.Stretch.{Stretch}
+use Rattle.label.specs.declared.Pick.{Pick}
+use Rattle.label.specs.declared.Pick.the-variants as P
+use Rattle.label.specs.declared.Listing.{Listing}
+use Rattle.label.specs.declared.Listing.the-variants as L
+
+-- ── answers ──
+
+abbrev pub refusal : ℕ → ℕ → Refusal
+refusal n p = record { number = n; place = p }
+
+-- "If an answer is an enum, a definition gives this paper's number and values for every case of the enum"
+abbrev pub readingOutcome : Reading → Outcome Counts
+readingOutcome (R.Read c) = ok c
+readingOutcome (R.Refused x) = no (x .number) (x .place)
+
+abbrev pub writingOutcome : Writing → Outcome Lengths
+writingOutcome (W.Written n) = ok n
+writingOutcome (W.Refused x) = no (x .number) (x .place)
+
+abbrev pub pickOutcome : Pick → Outcome Stretch
+pickOutcome (P.Picked s) = ok s
+pickOutcome (P.Refused x) = no (x .number) (x .place)
+
+abbrev pub listingOutcome : Listing → Outcome ℕ
+listingOutcome (L.Listed n) = ok n
+listingOutcome (L.Refused x) = no (x .number) (x .place)
+
+-- ── buffers ──
+
+-- a buffer that was filled from its start: "Places behind the run stay"
+abbrev pub filled : {A : Type 0} → List A → List A → List A
+filled vs old = vs ++ drop (length vs) old
+
+-- a buffer after a call that fills it with what the value gives; "every refusal changes no lent place"
+abbrev pub after : {A B : Type 0} → (A → List B) → Outcome A → List B → List B
+after f (ok a) old = filled (f a) old
+after f (no n p) old = old
+
+-- ── the reader ──
+
+-- with buffers of so many places: "one place a unit; two a cluster; four a glyph"; "unit, cluster, glyph buffer too short" (16, 17, 18)
+unfoldable pub readInto : ℕ → ℕ → ℕ → List ℕ → List ℕ → Outcome Run
+readInto units clusters glyphs text indices = do
+  r ← read text indices
+  need (leb (length (r .units)) units) 16 (length (r .units))
+  need (leb (2 * length (r .clusters)) clusters) 17 (length (r .clusters))
+  need (leb (4 * length (r .glyphs)) glyphs) 18 (length (r .glyphs))
+  ok r
+
+-- what the reader returns of a run: how many units, clusters and glyphs it has
+abbrev pub counts : Run → Counts
+counts r = record { units = length (r .units); clusters = length (r .clusters); glyphs = length (r .glyphs) }
+
+abbrev pub counted : Outcome Run → Outcome Counts
+counted (ok r) = ok (counts r)
+counted (no n p) = no n p
+
+-- the three buffers after a reading
+abbrev pub unitsAfter : Outcome Run → List ℕ → List ℕ
+unitsAfter o old = after (λ (r : Run). r .units) o old
+
+abbrev pub clustersAfter : Outcome Run → List ℤ → List ℤ
+clustersAfter o old = after (λ (r : Run). flatClusters (r .clusters)) o old
+
+abbrev pub glyphsAfter : Outcome Run → List ℤ → List ℤ
+glyphsAfter o old = after (λ (r : Run). flatGlyphs (r .glyphs)) o old
+
+-- ── the writer ──
+
+-- with outputs of so many bytes: "text, indices output too short" (20, 21)
+unfoldable pub writeInto : ℕ → ℕ → List ℕ → List ℤ → List ℤ → Outcome Label
+writeInto text indices us cs gs = do
+  l ← write us cs gs
+  need (leb (length (l .text)) text) 20 (length (l .text))
+  need (leb (length (l .indices)) indices) 21 (length (l .indices))
+  ok l
+
+abbrev pub lengths : Outcome Label → Outcome Lengths
+lengths (ok l) = ok (record { text = length (l .text); indices = length (l .indices) })
+lengths (no n p) = no n p
+
+-- "Bytes behind either output stay."
+abbrev pub textAfter : Outcome Label → List ℕ → List ℕ
+textAfter o old = after (λ (l : Label). l .text) o old
+
+abbrev pub indicesAfter : Outcome Label → List ℕ → List ℕ
+indicesAfter o old = after (λ (l : Label). l .indices) o old
+
+-- ── the list of glyph records ──
+
+-- "filled by one thin call from a sound run (else 19; 18 where the list is too short; records behind stay)"
+unfoldable pub listInto : ℕ → List ℕ → List ℤ → List ℤ → Outcome (List Glyph)
+listInto room us cs gs = do
+  need (sound us cs gs) 19 0
+  need (leb (length (glyphsOf gs)) room) 18 (length (glyphsOf gs))
+  ok (glyphsOf gs)
+
+abbrev pub listedCount : Outcome (List Glyph) → Outcome ℕ
+listedCount (ok gs) = ok (length gs)
+listedCount (no n p) = no n p
+
+abbrev pub recordsAfter : Outcome (List Glyph) → List Glyph → List Glyph
+recordsAfter o old = after (λ (gs : List Glyph). gs) o old

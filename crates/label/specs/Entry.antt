@@ -1,0 +1,171 @@
+-- "The entries": when an entry is well formed (7), its index (8), its numbers (9), and what it says.
+-- Assumes nothing.
+use Prim.Native.Nat.{ℕ, zero, suc, _+_, _*_, _-_, _/_, _%_, _^_}
+use mathlib.Core.Bool.{Bool, true, false, cond, not, _&&_, _||_}
+use mathlib.Core.List.{List, [], _∷_, _++_}
+use lib.Dec.{leb, ltb, eqb}
+use lib.IntN.{ℤ, pos, negsuc, negℤ}
+use lib.ListN.{length, getD, drop}
+use Rattle.label.specs.Limits.{maxIndex, maxDigits, maxExponentDigits, maxThousandths}
+use Rattle.label.specs.Outcome.{Outcome, ok, no, need, _>>=_, _>>_}
+use Rattle.label.specs.Bytes.{empty, split, Cut, cut, digits, allDigits, value}
+use Rattle.label.specs.declared.Index.{Index}
+use Rattle.label.specs.declared.Index.the-variants.{Named, Font}
+use Rattle.label.specs.declared.Advance.{Advance}
+use Rattle.label.specs.declared.Advance.the-variants.{Given, Own}
+use Rattle.label.specs.declared.Glyph.{Glyph}
+
+-- ── numbers ──
+
+abbrev pub minus : List ℕ → Bool
+minus s = eqb (getD s 0 0) 45
+
+abbrev pub plus : List ℕ → Bool
+plus s = eqb (getD s 0 0) 43
+
+-- "an optional sign": without one at the front
+unfoldable pub unsigned : List ℕ → List ℕ
+unsigned s = cond (minus s || plus s) (drop 1 s) s
+
+-- "`e` or `E`"
+abbrev pub isE : ℕ → Bool
+isE b = eqb b 101 || eqb b 69
+
+abbrev pub isPoint : ℕ → Bool
+isPoint b = eqb b 46
+
+-- before and behind the `e`
+abbrev pub atExponent : List ℕ → Cut
+atExponent s = cut isE s
+
+-- before and behind the point
+abbrev pub atPoint : List ℕ → Cut
+atPoint s = cut isPoint (atExponent s .before)
+
+-- "digits, or digits `.` digits, or `.` digits"
+unfoldable pub isDecimals : List ℕ → Bool
+isDecimals s = cond (cut isPoint s .found) (allDigits (cut isPoint s .before) && digits (cut isPoint s .after)) (digits s)
+
+-- "A number is [such digits]; then optionally `e` or `E`, an optional sign, digits"
+unfoldable pub isNumber : List ℕ → Bool
+isNumber s = isDecimals (atExponent s .before) && cond (atExponent s .found) (digits (unsigned (atExponent s .after))) true
+
+-- "the digits before any exponent" (m)
+unfoldable pub mantissaDigits : List ℕ → List ℕ
+mantissaDigits s = atPoint s .before ++ atPoint s .after
+
+-- "those behind the point" (f counts them)
+unfoldable pub fractionDigits : List ℕ → List ℕ
+fractionDigits s = atPoint s .after
+
+-- the exponent's digits (e, with the sign before them)
+unfoldable pub exponentDigits : List ℕ → List ℕ
+exponentDigits s = unsigned (atExponent s .after)
+
+-- "rounded to the nearest whole number, a half going away from zero; then the sign": a / b before its sign, so a half goes up
+unfoldable pub nearest : ℕ → ℕ → ℕ
+nearest a b = (2 * a + b) / (2 * b)
+
+-- "the value is m × 10^(e − f) × 1000, rounded": `down` where e is negative
+unfoldable pub scaled : ℕ → ℕ → Bool → ℕ → ℕ
+scaled m f down e = cond down (nearest (m * 10 ^ 3) (10 ^ (f + e))) (nearest (m * 10 ^ (e + 3)) (10 ^ f))
+
+-- "Values are whole thousandths of the standard's unit": the value of an unsigned number
+unfoldable pub thousandths : List ℕ → ℕ
+thousandths s = scaled (value (mantissaDigits s)) (length (fractionDigits s)) (minus (atExponent s .after)) (value (exponentDigits s))
+
+-- 9 does not hold: not "above 18 digits before the exponent, above 2 in it, or size above 1,000,000,000 thousandths"
+unfoldable pub numberFits : List ℕ → Bool
+numberFits s = leb (length (mantissaDigits s)) maxDigits && leb (length (exponentDigits s)) maxExponentDigits && leb (thousandths s) maxThousandths
+
+-- ── the parts of an entry ──
+
+-- index part (0), advance (1), u offset (2), v offset (3), "each behind a comma"; a part that is not there is empty
+abbrev pub part : ℕ → List ℕ → List ℕ
+part n s = getD (split 44 s) n []
+
+-- "an optional map"
+abbrev pub hasMap : List ℕ → Bool
+hasMap p = eqb (getD p 0 0) 40
+
+-- inside and behind the parentheses
+abbrev pub atParenthesis : List ℕ → Cut
+atParenthesis p = cut (λ b. eqb b 41) (drop 1 p)
+
+-- a and b, before and behind the colon
+abbrev pub atColon : List ℕ → Cut
+atColon p = cut (λ b. eqb b 58) (atParenthesis p .before)
+
+-- "an optional map, then one or more digits. A map is `(a)` or `(a:b)`, a and b one or more digits. A map without an index isn't well formed."
+-- The part is optional, so nothing is well formed too.
+unfoldable pub isIndexPart : List ℕ → Bool
+isIndexPart p =
+    cond (hasMap p)
+    (atParenthesis p .found && digits (atParenthesis p .after) && digits (atColon p .before) && cond (atColon p .found) (digits (atColon p .after)) true)
+    (allDigits p)
+
+unfoldable pub indexDigits : List ℕ → List ℕ
+indexDigits p = cond (hasMap p) (atParenthesis p .after) p
+
+-- a and b; "`(a)` means b = 1"; 1 and 1 without a map
+unfoldable pub mapUnits : List ℕ → ℕ
+mapUnits p = cond (hasMap p) (value (atColon p .before)) 1
+
+unfoldable pub mapGlyphs : List ℕ → ℕ
+mapGlyphs p = cond (hasMap p && atColon p .found) (value (atColon p .after)) 1
+
+-- "Each may be empty"; "An advance may have `+` before it and never `-`"
+unfoldable pub isAdvance : List ℕ → Bool
+isAdvance s = empty s || (not (minus s) && isNumber (unsigned s))
+
+-- "an offset may have either"
+unfoldable pub isOffset : List ℕ → Bool
+isOffset s = empty s || isNumber (unsigned s)
+
+-- 7 does not hold: "an optional index part, then up to three fields, each behind a comma"
+unfoldable pub wellFormed : List ℕ → Bool
+wellFormed s = leb (length (split 44 s)) 4 && isIndexPart (part 0 s) && isAdvance (part 1 s) && isOffset (part 2 s) && isOffset (part 3 s)
+
+-- 9 does not hold of a field
+unfoldable pub fieldFits : List ℕ → Bool
+fieldFits s = empty s || numberFits (unsigned s)
+
+-- "The index is either named by the label or chosen by the font"
+unfoldable pub indexOf : List ℕ → Index
+indexOf p = cond (empty (indexDigits p)) Font (Named (value (indexDigits p)))
+
+-- "the advance is either given or the font's own"
+unfoldable pub advanceOf : List ℕ → Advance
+advanceOf s = cond (empty s) Own (Given (thousandths (unsigned s)))
+
+-- "an offset not given is 0"; "then the sign"
+unfoldable pub offsetOf : List ℕ → ℤ
+offsetOf s = cond (empty s) (pos 0) (cond (minus s) (negℤ (pos (thousandths (unsigned s)))) (pos (thousandths (unsigned s))))
+
+-- what an entry says: its map's two counts, and "its index choice, its advance choice and both offsets"
+pub record Entry : Type 0 where
+  pub mapped : Bool
+  pub units : ℕ
+  pub glyphs : ℕ
+  pub glyph : Glyph
+
+unfoldable pub entryOf : List ℕ → Entry
+entryOf s =
+    record {
+      mapped = hasMap (part 0 s);
+      units = mapUnits (part 0 s);
+      glyphs = mapGlyphs (part 0 s);
+      glyph = record { index = indexOf (part 0 s); advance = advanceOf (part 1 s); u = offsetOf (part 2 s); v = offsetOf (part 3 s) };
+    }
+
+-- 7, 8, 9 of entry number k
+unfoldable pub entry : ℕ → List ℕ → Outcome Entry
+entry k s = do
+  need (wellFormed s) 7 k
+  need (leb (value (indexDigits (part 0 s))) maxIndex) 8 k
+  need (fieldFits (part 1 s) && fieldFits (part 2 s) && fieldFits (part 3 s)) 9 k
+  ok (entryOf s)
+
+-- "Zero bytes of indices are no entries. Otherwise entries are split at each `;`, so n semicolons make n + 1 entries, numbered from 0."
+unfoldable pub entries : List ℕ → List (List ℕ)
+entries s = cond (empty s) [] (split 59 s)

@@ -1,0 +1,15 @@
+pub mod Limits
+pub mod Outcome
+pub mod Bytes
+pub mod Text
+pub mod Entry
+pub mod Run
+pub mod Sound
+pub mod Write
+pub mod Pick
+pub mod Fault
+pub mod Calls
+pub mod Wire
+pub mod Relabel
+pub mod Labels
+pub mod Demands

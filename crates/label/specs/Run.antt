@@ -1,0 +1,135 @@
+-- "Clusters": the run, and the reading with its checks 1 to 15 in order.
+-- Assumes nothing.
+use Prim.Native.Nat.{ℕ, zero, suc, _+_, _*_, _-_, _/_, _%_, _^_}
+use mathlib.Core.Bool.{Bool, true, false, cond, not, _&&_, _||_}
+use mathlib.Core.List.{List, [], _∷_, _++_}
+use lib.Dec.{leb, ltb, eqb}
+use lib.IntN.{ℤ, pos}
+use lib.ListN.{length, getD, drop}
+use Rattle.label.specs.Limits.{maxTextBytes, maxIndicesBytes, maxUnits, maxGlyphs}
+use Rattle.label.specs.Outcome.{Outcome, ok, no, need, _>>=_, _>>_}
+use Rattle.label.specs.Bytes.{empty}
+use Rattle.label.specs.Text.{decode, isLow, braced, marked, unmarked}
+use Rattle.label.specs.Entry.{Entry, entry, entries}
+use Rattle.label.specs.declared.Index.{Index}
+use Rattle.label.specs.declared.Index.the-variants.{Named, Font}
+use Rattle.label.specs.declared.Advance.{Advance}
+use Rattle.label.specs.declared.Advance.the-variants.{Given, Own}
+use Rattle.label.specs.declared.Glyph.{Glyph}
+use Rattle.label.specs.declared.Cluster.{Cluster}
+
+-- "A run is the units, clusters and glyph records, in order." Two runs are equal when they are ≡: same units, clusters and records in the same order.
+pub record Run : Type 0 where
+  pub units : List ℕ
+  pub clusters : List Cluster
+  pub glyphs : List Glyph
+
+-- the clusters and the glyphs of a stretch of entries
+pub record Parts : Type 0 where
+  pub clusters : List Cluster
+  pub glyphs : List Glyph
+
+abbrev pub named : Index → Bool
+named (Named n) = true
+named Font = false
+
+-- wholly the font's
+abbrev pub fontGlyph : Glyph
+fontGlyph = record { index = Font; advance = Own; u = pos 0; v = pos 0 }
+
+-- "A cluster has a count of units and a count of glyphs."
+abbrev pub cluster : ℕ → ℕ → Cluster
+cluster a b = record { units = a; glyphs = b }
+
+-- a glyph before the others, and before it a cluster where it opens one
+abbrev pub before : Bool → Cluster → Glyph → Parts → Parts
+before true c g p = record { clusters = c ∷ p .clusters; glyphs = g ∷ p .glyphs }
+before false c g p = record { clusters = p .clusters; glyphs = g ∷ p .glyphs }
+
+-- "A cluster may not end between the halves of a pair": the unit behind its a units is no low half
+abbrev pub whole : ℕ → List ℕ → Bool
+whole a us = not (isLow (getD us a 0))
+
+-- "When entries end before the text, each unit left is a 1:1 cluster, all chosen by the font: this is the unwritten tail."
+-- "A cluster may not end between the halves of a pair, the tail included."
+unfoldable pub tail : ℕ → List ℕ → Outcome Parts
+tail at [] = ok (record { clusters = []; glyphs = [] })
+tail at (u ∷ us) = do
+  need (whole 0 us) 13 (suc at)
+  p ← tail (suc at) us
+  ok (before true (cluster 1 1) fontGlyph p)
+
+-- Where the walk over the entries stands: the number of the next entry, the units used and those not used yet, the glyphs that the open cluster
+-- still lacks, and the entry that opened it. `bare`: the text has no units.
+pub record State : Type 0 where
+  pub k : ℕ
+  pub at : ℕ
+  pub rest : List ℕ
+  pub lack : ℕ
+  pub opener : ℕ
+
+abbrev pub start : List ℕ → State
+start us = record { k = 0; at = 0; rest = us; lack = 0; opener = 0 }
+
+-- no cluster is open, so the entry opens one: "An entry with map `(a:b)` opens a cluster of a units and b glyphs"; "An entry without a map, outside such
+-- a cluster, is a cluster 1:1"
+abbrev pub opens : State → Bool
+opens st = eqb (st .lack) 0
+
+-- how many units the entry takes: those of the cluster that it opens; "In a text of no units [it] is a cluster of 0 units and 1 glyph"
+abbrev pub takes : Bool → State → Entry → ℕ
+takes bare st e = cond (opens st && not bare) (e .units) 0
+
+-- "the next b − 1 entries are its further glyphs and must each name an index and carry no map"; "In a text of no units each entry must name an index
+-- and carry no map"
+abbrev pub allowed : Bool → State → Entry → Bool
+allowed bare st e = (opens st && not bare) || (not (e .mapped) && named (e .glyph .index))
+
+-- "Each cluster holds the units and the glyphs next after those of the clusters before it, as many as its two counts say."
+abbrev pub next : Bool → State → Entry → State
+next bare st e =
+    record {
+      k = suc (st .k);
+      at = st .at + takes bare st e;
+      rest = drop (takes bare st e) (st .rest);
+      lack = cond (opens st) (e .glyphs - 1) (st .lack - 1);
+      opener = cond (opens st) (st .k) (st .opener);
+    }
+
+-- an entry's checks 10 to 13, where the walk stands
+unfoldable pub placed : Bool → State → Entry → Outcome Entry
+placed bare st e = do
+  need (leb 1 (e .units) && leb 1 (e .glyphs)) 10 (st .k)
+  need (allowed bare st e) 11 (st .k)
+  need (leb (takes bare st e) (length (st .rest))) 12 (st .k)
+  need (whole (takes bare st e) (st .rest)) 13 (st .at + takes bare st e)
+  ok e
+
+-- one entry's checks, "entry by entry 7 to 13 in number order"
+unfoldable pub step : Bool → State → List ℕ → Outcome Entry
+step bare st s = do
+  e ← entry (st .k) s
+  placed bare st e
+
+-- the entries, "then 14, then 13 for the tail"
+unfoldable pub walk : Bool → State → List (List ℕ) → Outcome Parts
+walk bare st [] = do
+  need (opens st) 14 (st .opener)
+  tail (st .at) (st .rest)
+walk bare st (s ∷ ss) = do
+  e ← step bare st s
+  p ← walk bare (next bare st e) ss
+  ok (before (opens st) (cluster (takes bare st e) (e .glyphs)) (e .glyph) p)
+
+-- "Text size and indices size; then the text from its left (2 and 3, whichever comes first), 4, 5, 6; then entry by entry 7 to 13 in number order;
+-- then 14, then 13 for the tail, 15"
+unfoldable pub read : List ℕ → List ℕ → Outcome Run
+read text indices = do
+  need (leb (length text) maxTextBytes && leb (length indices) maxIndicesBytes) 1 0
+  all ← decode 0 0 text
+  need (not (braced all) || marked all) 4 0
+  need (leb (length (unmarked all)) maxUnits) 5 0
+  need (not (empty (unmarked all) && empty indices)) 6 0
+  p ← walk (empty (unmarked all)) (start (unmarked all)) (entries indices)
+  need (leb (length (p .glyphs)) maxGlyphs) 15 0
+  ok (record { units = unmarked all; clusters = p .clusters; glyphs = p .glyphs })

@@ -1,0 +1,149 @@
+-- A run as the numbers of the three buffers ("A run is handed in as exactly its places"), and when numbers from any hand are a sound run.
+-- Assumes nothing.
+use Prim.Native.Nat.{ℕ, zero, suc, _+_, _-_}
+use mathlib.Core.Path.{_≡_}
+use mathlib.Core.Bool.{Bool, true, false, cond, not, _&&_, _||_}
+use mathlib.Core.List.{List, [], _∷_, _++_}
+use lib.Dec.{leb, ltb, eqb}
+use lib.IntN.{ℤ, pos, negsuc}
+use lib.ListN.{length, getD, drop}
+use Rattle.label.specs.Limits.{maxUnits, maxGlyphs, maxIndex, maxThousandths}
+use Rattle.label.specs.Outcome.{Outcome, ok, no}
+use Rattle.label.specs.Bytes.{empty}
+use Rattle.label.specs.Text.{isHigh, isLow, xmlChar}
+use Rattle.label.specs.Run.{Run, named, whole, cluster, read}
+use Rattle.label.specs.declared.Index.{Index}
+use Rattle.label.specs.declared.Index.the-variants.{Named, Font}
+use Rattle.label.specs.declared.Advance.{Advance}
+use Rattle.label.specs.declared.Advance.the-variants.{Given, Own}
+use Rattle.label.specs.declared.Glyph.{Glyph}
+use Rattle.label.specs.declared.Cluster.{Cluster}
+
+-- ── a run's numbers ──
+
+-- "index or −1 for the font, advance or −1"
+abbrev pub indexNumber : Index → ℤ
+indexNumber (Named n) = pos n
+indexNumber Font = negsuc 0
+
+abbrev pub advanceNumber : Advance → ℤ
+advanceNumber (Given n) = pos n
+advanceNumber Own = negsuc 0
+
+-- "two a cluster (units, glyphs)"
+unfoldable pub flatClusters : List Cluster → List ℤ
+flatClusters [] = []
+flatClusters (c ∷ cs) = pos (c .units) ∷ pos (c .glyphs) ∷ flatClusters cs
+
+-- "four a glyph (index or −1 for the font, advance or −1, u, v)"
+unfoldable pub flatGlyphs : List Glyph → List ℤ
+flatGlyphs [] = []
+flatGlyphs (g ∷ gs) = indexNumber (g .index) ∷ advanceNumber (g .advance) ∷ g .u ∷ g .v ∷ flatGlyphs gs
+
+-- "some label that this paper accepts reads as it"
+pub record Readable (units : List ℕ) (clusters glyphs : List ℤ) : Type 0 where
+  pub run : Run
+  pub text : List ℕ
+  pub indices : List ℕ
+  pub reads : read text indices ≡ ok run
+  pub units-are : run .units ≡ units
+  pub clusters-are : flatClusters (run .clusters) ≡ clusters
+  pub glyphs-are : flatGlyphs (run .glyphs) ≡ glyphs
+
+-- ── the same as a computed test ──
+
+-- a number that is not below 0; the same, with −1 allowed
+abbrev pub natural : ℤ → Bool
+natural (pos n) = true
+natural (negsuc n) = false
+
+abbrev pub choice : ℤ → Bool
+choice (pos n) = true
+choice (negsuc n) = eqb n 0
+
+-- "the lengths are whole clusters and glyphs"
+unfoldable pub wholeClusters : List ℤ → Bool
+wholeClusters [] = true
+wholeClusters (a ∷ []) = false
+wholeClusters (a ∷ b ∷ zs) = natural a && natural b && wholeClusters zs
+
+unfoldable pub wholeGlyphs : List ℤ → Bool
+wholeGlyphs [] = true
+wholeGlyphs (i ∷ []) = false
+wholeGlyphs (i ∷ a ∷ []) = false
+wholeGlyphs (i ∷ a ∷ u ∷ []) = false
+wholeGlyphs (i ∷ a ∷ u ∷ v ∷ zs) = choice i && choice a && wholeGlyphs zs
+
+-- the clusters and the glyphs whose numbers these are
+abbrev pub nat : ℤ → ℕ
+nat (pos n) = n
+nat (negsuc n) = 0
+
+abbrev pub numberIndex : ℤ → Index
+numberIndex (pos n) = Named n
+numberIndex (negsuc n) = Font
+
+abbrev pub numberAdvance : ℤ → Advance
+numberAdvance (pos n) = Given n
+numberAdvance (negsuc n) = Own
+
+unfoldable pub clustersOf : List ℤ → List Cluster
+clustersOf [] = []
+clustersOf (a ∷ []) = []
+clustersOf (a ∷ b ∷ zs) = cluster (nat a) (nat b) ∷ clustersOf zs
+
+unfoldable pub glyphsOf : List ℤ → List Glyph
+glyphsOf [] = []
+glyphsOf (i ∷ []) = []
+glyphsOf (i ∷ a ∷ []) = []
+glyphsOf (i ∷ a ∷ u ∷ []) = []
+glyphsOf (i ∷ a ∷ u ∷ v ∷ zs) = record { index = numberIndex i; advance = numberAdvance a; u = u; v = v } ∷ glyphsOf zs
+
+-- "units are well-formed XML characters": low halves exactly behind high ones; `half`: the unit before is a high half
+unfoldable pub properUnits : Bool → List ℕ → Bool
+properUnits half [] = not half
+properUnits true (u ∷ us) = isLow u && properUnits false us
+properUnits false (u ∷ us) = (isHigh u || (leb u 65535 && xmlChar u)) && properUnits (isHigh u) us
+
+abbrev pub size : ℤ → ℕ
+size (pos n) = n
+size (negsuc n) = suc n
+
+-- "limits hold" of a glyph: 8 and 9 do not
+abbrev pub indexFits : Index → Bool
+indexFits (Named n) = leb n maxIndex
+indexFits Font = true
+
+abbrev pub advanceFits : Advance → Bool
+advanceFits (Given n) = leb n maxThousandths
+advanceFits Own = true
+
+abbrev pub glyphFits : Glyph → Bool
+glyphFits g = indexFits (g .index) && advanceFits (g .advance) && leb (size (g .u)) maxThousandths && leb (size (g .v)) maxThousandths
+
+-- a cluster with its first glyph may stand before these units: 10 to 13 do not hold of it; `bare`: the run has no units
+abbrev pub mayOpen : Bool → List ℕ → Cluster → Glyph → Bool
+mayOpen true us c g = eqb (c .units) 0 && eqb (c .glyphs) 1 && named (g .index)
+mayOpen false us c g =
+    leb 1 (c .units) && leb 1 (c .glyphs) && leb (c .units) (length us) && whole (c .units) us
+    && (named (g .index) || (eqb (c .units) 1 && eqb (c .glyphs) 1))
+
+-- "counts add up": the clusters use up the units and the glyphs; `lack` glyphs of the open cluster are still to come
+unfoldable pub fits : Bool → ℕ → List ℕ → List Cluster → List Glyph → Bool
+fits bare lack us cs [] = eqb lack 0 && empty cs && empty us
+fits bare (suc n) us cs (g ∷ gs) = glyphFits g && named (g .index) && fits bare n us cs gs
+fits bare zero us [] (g ∷ gs) = false
+fits bare zero us (c ∷ cs) (g ∷ gs) = glyphFits g && mayOpen bare us c g && fits bare (c .glyphs - 1) (drop (c .units) us) cs gs
+
+-- "units are well-formed XML characters, counts add up, limits hold, it is not empty"
+unfoldable pub soundRun : Run → Bool
+soundRun r =
+    properUnits false (r .units) && leb (length (r .units)) maxUnits && leb (length (r .glyphs)) maxGlyphs
+    && not (empty (r .units) && empty (r .glyphs)) && fits (empty (r .units)) 0 (r .units) (r .clusters) (r .glyphs)
+
+abbrev pub runOf : List ℕ → List ℤ → List ℤ → Run
+runOf us cs gs = record { units = us; clusters = clustersOf cs; glyphs = glyphsOf gs }
+
+-- "It is sound when it obeys every rule above"
+unfoldable pub sound : List ℕ → List ℤ → List ℤ → Bool
+sound us cs gs = wholeClusters cs && wholeGlyphs gs && soundRun (runOf us cs gs)

@@ -1,0 +1,113 @@
+-- "The normal writing" of a run.
+-- Assumes nothing.
+use Prim.Native.Nat.{ℕ, zero, suc, _+_, _*_, _-_, _/_, _%_, _^_}
+use mathlib.Core.Bool.{Bool, true, false, cond, not, _&&_, _||_}
+use mathlib.Core.List.{List, [], _∷_, _++_}
+use lib.Dec.{leb, ltb, eqb}
+use lib.IntN.{ℤ, pos, negsuc}
+use lib.ListN.{length, getD, drop}
+use Rattle.label.specs.Outcome.{Outcome, ok, no, need, _>>=_, _>>_}
+use Rattle.label.specs.Bytes.{empty, join, trim, decimal}
+use Rattle.label.specs.Text.{isLow, isHigh, braced}
+use Rattle.label.specs.Run.{Run}
+use Rattle.label.specs.Sound.{sound, runOf}
+use Rattle.label.specs.declared.Index.{Index}
+use Rattle.label.specs.declared.Index.the-variants.{Named, Font}
+use Rattle.label.specs.declared.Advance.{Advance}
+use Rattle.label.specs.declared.Advance.the-variants.{Given, Own}
+use Rattle.label.specs.declared.Glyph.{Glyph}
+use Rattle.label.specs.declared.Cluster.{Cluster}
+
+-- ── text ──
+
+-- a character in UTF-8
+unfoldable pub utf8 : ℕ → List ℕ
+utf8 c =
+    cond (leb c 127) (c ∷ [])
+    (cond (leb c 2047) ((192 + c / 64) ∷ (128 + c % 64) ∷ [])
+    (cond (leb c 65535) ((224 + c / 4096) ∷ (128 + c / 64 % 64) ∷ (128 + c % 64) ∷ [])
+    ((240 + c / 262144) ∷ (128 + c / 4096 % 64) ∷ (128 + c / 64 % 64) ∷ (128 + c % 64) ∷ [])))
+
+-- the character of a pair
+abbrev pub paired : ℕ → ℕ → ℕ
+paired h l = 65536 + (h - 55296) * 1024 + (l - 56320)
+
+-- the bytes of a unit and the one behind it: those of a pair stand at its high half
+unfoldable pub unitBytes : ℕ → ℕ → List ℕ
+unitBytes u v = cond (isLow u) [] (cond (isHigh u) (utf8 (paired u v)) (utf8 u))
+
+-- "the units in UTF-8"
+unfoldable pub unitsBytes : List ℕ → List ℕ
+unitsBytes [] = []
+unitsBytes (u ∷ us) = unitBytes u (getD us 0 0) ++ unitsBytes us
+
+-- "Text: the units in UTF-8, with `{}` before them exactly when the first is `{`"
+unfoldable pub textOf : List ℕ → List ℕ
+textOf us = cond (braced us) (123 ∷ 125 ∷ unitsBytes us) (unitsBytes us)
+
+-- ── numbers ──
+
+-- the digits of f thousandths behind the point, 0 < f < 1000, "no trailing zeros behind it"
+unfoldable pub fraction : ℕ → List ℕ
+fraction f =
+    cond (eqb (f % 100) 0) ((48 + f / 100) ∷ [])
+    (cond (eqb (f % 10) 0) ((48 + f / 100) ∷ (48 + f / 10 % 10) ∷ [])
+    ((48 + f / 100) ∷ (48 + f / 10 % 10) ∷ (48 + f % 10) ∷ []))
+
+-- "a value has a point only before digits, no trailing zeros behind it and no lone zero before it, and 0 is `0`"
+unfoldable pub valueBytes : ℕ → List ℕ
+valueBytes n =
+    cond (eqb (n % 1000) 0) (decimal (n / 1000))
+    (cond (eqb (n / 1000) 0) [] (decimal (n / 1000)) ++ (46 ∷ fraction (n % 1000)))
+
+-- an advance that is not given is empty
+unfoldable pub advanceBytes : Advance → List ℕ
+advanceBytes Own = []
+advanceBytes (Given n) = valueBytes n
+
+-- "a negative one begins with `-`"; "Offsets of 0 are empty"
+unfoldable pub offsetBytes : ℤ → List ℕ
+offsetBytes (pos n) = cond (eqb n 0) [] (valueBytes n)
+offsetBytes (negsuc n) = 45 ∷ valueBytes (suc n)
+
+-- ── entries ──
+
+-- "`(a:b)` only when not 1:1 nor 0:1, `:b` only when b is not 1"
+unfoldable pub mapBytes : ℕ → ℕ → List ℕ
+mapBytes a b = cond (leb a 1 && eqb b 1) [] (40 ∷ (decimal a ++ cond (eqb b 1) [] (58 ∷ decimal b) ++ (41 ∷ [])))
+
+unfoldable pub indexBytes : Index → List ℕ
+indexBytes Font = []
+indexBytes (Named n) = decimal n
+
+-- the entry of a glyph that opens a cluster a:b; a further glyph is written as one that opens 1:1; "trailing empty fields drop with their commas"
+unfoldable pub entryBytes : ℕ → ℕ → Glyph → List ℕ
+entryBytes a b g =
+    join 44
+    (trim ((mapBytes a b ++ indexBytes (g .index)) ∷ advanceBytes (g .advance) ∷ offsetBytes (g .u) ∷ offsetBytes (g .v) ∷ []))
+
+-- "the clusters' glyphs in order": their entries; `lack` glyphs of the open cluster are still to come
+unfoldable pub written : ℕ → List Cluster → List Glyph → List (List ℕ)
+written lack cs [] = []
+written (suc n) cs (g ∷ gs) = entryBytes 1 1 g ∷ written n cs gs
+written zero [] (g ∷ gs) = []
+written zero (c ∷ cs) (g ∷ gs) = entryBytes (c .units) (c .glyphs) g ∷ written (c .glyphs - 1) cs gs
+
+-- "joined by `;`"; "Trailing 1:1 entries that are wholly the font's drop": those are the entries without bytes (law `empty-is-font`)
+unfoldable pub indicesOf : List Cluster → List Glyph → List ℕ
+indicesOf cs gs = join 59 (trim (written 0 cs gs))
+
+-- "A label is a text with its indices."
+pub record Label : Type 0 where
+  pub text : List ℕ
+  pub indices : List ℕ
+
+-- the normal writing of a run
+abbrev pub normal : Run → Label
+normal r = record { text = textOf (r .units); indices = indicesOf (r .clusters) (r .glyphs) }
+
+-- the writing of a run handed in as its numbers: "run handed in is not sound" (19)
+unfoldable pub write : List ℕ → List ℤ → List ℤ → Outcome Label
+write us cs gs = do
+  need (sound us cs gs) 19 0
+  ok (normal (runOf us cs gs))
