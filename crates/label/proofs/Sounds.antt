@@ -12,9 +12,10 @@ use lib.IntN.{ℤ, pos, negsuc, negℤ}
 use lib.ListN.{length, getD, drop, length-append}
 use Rattle.label.specs.Outcome.{Outcome, ok, no, need, _>>=_, _>>_}
 use Rattle.label.specs.Bytes.{empty, allDigits, digits, value, split, onFirst}
-use Rattle.label.specs.Text.{within, lead, starts, scalar, xmlChar, isHigh, isLow, unitsOf, decode, braced, marked, unmarked}
+use Rattle.label.specs.Text.{within, lead, starts, scalar, xmlChar, isHigh, isLow, unitsOf, decode, braced, marked, unmarked, textUnits}
 use Rattle.label.specs.Entry.{minus, unsigned, thousandths, mantissaDigits, exponentDigits, numberFits, part, hasMap, atParenthesis, atColon, isIndexPart, indexDigits, mapUnits, mapGlyphs, isAdvance, isOffset, wellFormed, fieldFits, indexOf, advanceOf, offsetOf, Entry, entryOf, entry, entries}
-use Rattle.label.specs.Run.{Run, Parts, named, fontGlyph, cluster, before, whole, tail, State, start, opens, takes, allowed, next, step, walk, read}
+use Rattle.label.specs.Run.{Run, Parts, named, fontGlyph, cluster, before, whole, tail, State, start, opens, takes, allowed, next, step, walk, read, runFrom}
+use Rattle.label.specs.Limits.{maxTextBytes, maxIndicesBytes, maxUnits, maxGlyphs}
 use Rattle.label.specs.Write.{textOf, indicesOf}
 use Rattle.label.specs.Sound.{properUnits, size, indexFits, advanceFits, glyphFits, mayOpen, fits, soundRun}
 use Rattle.label.specs.declared.Index.{Index}
@@ -282,27 +283,47 @@ proper-unmarked us h = cases (marked us) (λ t. rw t (proper-drop us t h)) (λ t
 
 -- ── the reading ──
 
-pub record WasRead (text indices : List ℕ) (r : Run) : Type 0 where
+-- what is known of the units of a text
+pub record TextIs (text us : List ℕ) : Type 0 where
   pub all : List ℕ
   pub decoded : decode 0 0 text ≡ ok all
-  pub fifth : leb (length (unmarked all)) 4096 ≡ true
-  pub sixth : not (empty (unmarked all) && empty indices) ≡ true
+  pub fourth : (not (braced all) || marked all) ≡ true
+  pub fifth : leb (length us) maxUnits ≡ true
+  pub is : unmarked all ≡ us
+
+pub text-ok : (text us : List ℕ) → textUnits text ≡ ok us → TextIs text us
+unfolding textUnits
+text-ok text us h =
+    let (all, d, b) = bind-ok (decode 0 0 text) _ us h in
+    let (t4, b4) = need-ok (not (braced all) || marked all) 4 0 _ us b in
+    let (t5, b5) = need-ok (leb (length (unmarked all)) maxUnits) 5 0 _ us b4 in
+    let e : unmarked all ≡ us = ok-path (unmarked all) us b5 in
+    record { all = all; decoded = d; fourth = t4; fifth = rw e at t5; is = e }
+
+pub text-proper : (text us : List ℕ) → textUnits text ≡ ok us → properUnits false us ≡ true
+text-proper text us h =
+    let x : TextIs text us = text-ok text us h in
+    subst (λ (vs : List ℕ). properUnits false vs ≡ true) (x .is) (proper-unmarked (x .all) (decode-proper text 0 0 (x .all) (x .decoded)))
+
+-- what is known of an accepted label
+pub record WasRead (text indices : List ℕ) (r : Run) : Type 0 where
+  pub us : List ℕ
+  pub text-is : textUnits text ≡ ok us
+  pub sixth : not (empty us && empty indices) ≡ true
   pub made : Parts
-  pub walked : walk (empty (unmarked all)) (start (unmarked all)) (entries indices) ≡ ok made
-  pub fifteenth : leb (length (made .glyphs)) 4096 ≡ true
-  pub is : _≡_ {A = Run} (record { units = unmarked all; clusters = made .clusters; glyphs = made .glyphs }) r
+  pub walked : walk (empty us) (start us) (entries indices) ≡ ok made
+  pub fifteenth : leb (length (made .glyphs)) maxGlyphs ≡ true
+  pub is : _≡_ {A = Run} (record { units = us; clusters = made .clusters; glyphs = made .glyphs }) r
 
 pub read-ok : (text indices : List ℕ) (r : Run) → read text indices ≡ ok r → WasRead text indices r
-unfolding read
+unfolding read runFrom
 read-ok text indices r h =
-    let (t1, b1) = need-ok (leb (length text) 16384 && leb (length indices) 262144) 1 0 _ r h in
-    let (all, d, b2) = bind-ok (decode 0 0 text) _ r b1 in
-    let (t4, b4) = need-ok (not (braced all) || marked all) 4 0 _ r b2 in
-    let (t5, b5) = need-ok (leb (length (unmarked all)) 4096) 5 0 _ r b4 in
-    let (t6, b6) = need-ok (not (empty (unmarked all) && empty indices)) 6 0 _ r b5 in
-    let (p, w, b7) = bind-ok (walk (empty (unmarked all)) (start (unmarked all)) (entries indices)) _ r b6 in
-    let (t15, b15) = need-ok (leb (length (p .glyphs)) 4096) 15 0 _ r b7 in
-    record { all = all; decoded = d; fifth = t5; sixth = t6; made = p; walked = w; fifteenth = t15; is = ok-path _ r b15 }
+    let (t1, b1) = need-ok (leb (length text) maxTextBytes && leb (length indices) maxIndicesBytes) 1 0 _ r h in
+    let (us, d, b2) = bind-ok (textUnits text) _ r b1 in
+    let (t6, b6) = need-ok (not (empty us && empty indices)) 6 0 _ r b2 in
+    let (p, w, b7) = bind-ok (walk (empty us) (start us) (entries indices)) _ r b6 in
+    let (t15, b15) = need-ok (leb (length (p .glyphs)) maxGlyphs) 15 0 _ r b7 in
+    record { us = us; text-is = d; sixth = t6; made = p; walked = w; fifteenth = t15; is = ok-path _ r b15 }
 
 -- a text of no units has glyphs
 walk-some : (bare : Bool) (st : State) (ss : List (List ℕ)) (p : Parts) → empty ss ≡ false → walk bare st ss ≡ ok p → empty (p .glyphs) ≡ false
@@ -335,8 +356,8 @@ nand false b h k = clash false k refl
 pub read-sound : (text indices : List ℕ) (r : Run) → read text indices ≡ ok r → soundRun r ≡ true
 read-sound text indices r h =
     let x : WasRead text indices r = read-ok text indices r h in
-    let us = unmarked (x .all) in
-    let p : properUnits false us ≡ true = proper-unmarked (x .all) (decode-proper text 0 0 (x .all) (x .decoded)) in
+    let us = x .us in
+    let p : properUnits false us ≡ true = text-proper text us (x .text-is) in
     let f : fits (empty us) 0 us (x .made .clusters) (x .made .glyphs) ≡ true =
     walk-fits (entries indices) (empty us) 0 0 us 0 0 (x .made) (λ e. empty-nil us e) (x .walked) in
     let n : not (empty us && empty (x .made .glyphs)) ≡ true =
@@ -344,7 +365,7 @@ read-sound text indices r h =
     (λ e. let i : empty indices ≡ false = nand (empty us) (empty indices) (x .sixth) e in
     rw (walk-some (empty us) (start us) (entries indices) (x .made) (entries-some indices i) (x .walked)) (and-not (empty us)))
     (λ e. rw e) in
-    subst (λ (q : Run). soundRun q ≡ true) (x .is) (all-sound us (x .made .clusters) (x .made .glyphs) p (x .fifth) (x .fifteenth) n f)
+    subst (λ (q : Run). soundRun q ≡ true) (x .is) (all-sound us (x .made .clusters) (x .made .glyphs) p (text-ok text us (x .text-is) .fifth) (x .fifteenth) n f)
   where
     and-not : (a : Bool) → not (a && false) ≡ true
     and-not true = refl
@@ -383,7 +404,7 @@ sound-parts r h =
     }
 
 pub read-back : (r : Run) → soundRun r ≡ true → read (textOf (r .units)) (indicesOf (r .clusters) (r .glyphs)) ≡ ok r
-unfolding read
+unfolding read textUnits runFrom
 read-back r h =
     let s : SoundRun r = sound-parts r h in
     let t : TextBack (r .units) = text-back (r .units) (s .proper) in

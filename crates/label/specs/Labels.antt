@@ -8,9 +8,9 @@ use lib.IntN.{ℤ, pos, negsuc}
 use lib.ListN.{length, getD}
 use Rattle.label.specs.Outcome.{Outcome, ok, no}
 use Rattle.label.specs.Bytes.{split, cut, allDigits, valueFrom, joinRest, join, trim, decimalFrom, decimal}
-use Rattle.label.specs.Text.{lead, trail, starts, scalar, xmlChar, unitsOf, decode}
+use Rattle.label.specs.Text.{lead, trail, starts, scalar, xmlChar, unitsOf, decode, textUnits}
 use Rattle.label.specs.Entry.{unsigned, isDecimals, isNumber, mantissaDigits, fractionDigits, exponentDigits, nearest, scaled, thousandths, numberFits, isIndexPart, indexDigits, mapUnits, mapGlyphs, isAdvance, isOffset, wellFormed, fieldFits, indexOf, advanceOf, offsetOf, entryOf, entry, entries}
-use Rattle.label.specs.Run.{Run, tail, placed, step, walk, read}
+use Rattle.label.specs.Run.{Run, tail, placed, step, walk, runFrom, read}
 use Rattle.label.specs.Write.{utf8, unitBytes, unitsBytes, textOf, fraction, valueBytes, advanceBytes, offsetBytes, mapBytes, indexBytes, entryBytes, written, indicesOf}
 use Rattle.label.specs.Sound.{flatClusters, flatGlyphs}
 use Rattle.label.specs.Relabel.{relabel, relabelRead}
@@ -82,10 +82,10 @@ rows =
 
 -- each row's label is answered as the row says
 pub labels : map (λ (r : Row). said (read (r .text) (r .indices))) rows ≡ map (λ (r : Row). r .answer) rows
-unfolding rows flatClusters flatGlyphs split cut allDigits valueFrom joinRest join trim decimalFrom decimal lead trail starts scalar xmlChar unitsOf decode unsigned isDecimals isNumber mantissaDigits fractionDigits exponentDigits nearest scaled thousandths numberFits isIndexPart indexDigits mapUnits mapGlyphs isAdvance isOffset wellFormed fieldFits indexOf advanceOf offsetOf entryOf entry entries tail placed step walk read utf8 unitBytes unitsBytes textOf fraction valueBytes advanceBytes offsetBytes mapBytes indexBytes entryBytes written indicesOf
+unfolding rows flatClusters flatGlyphs split cut allDigits valueFrom joinRest join trim decimalFrom decimal lead trail starts scalar xmlChar unitsOf decode textUnits unsigned isDecimals isNumber mantissaDigits fractionDigits exponentDigits nearest scaled thousandths numberFits isIndexPart indexDigits mapUnits mapGlyphs isAdvance isOffset wellFormed fieldFits indexOf advanceOf offsetOf entryOf entry entries tail placed step walk runFrom read utf8 unitBytes unitsBytes textOf fraction valueBytes advanceBytes offsetBytes mapBytes indexBytes entryBytes written indicesOf
 labels = refl
 
 -- the paper's example of `relabel`
 pub relabelled : relabel (123 ∷ 125 ∷ 102 ∷ 108 ∷ 111 ∷ 119 ∷ 10 ∷ 40 ∷ 50 ∷ 58 ∷ 49 ∷ 41 ∷ 49 ∷ 57 ∷ 50 ∷ 59 ∷ 48 ∷ 55 ∷ 44 ∷ 43 ∷ 53 ∷ 53 ∷ 46 ∷ 53 ∷ 48 ∷ 44 ∷ 44 ∷ 48 ∷ 10 ∷ []) ≡ (111 ∷ 107 ∷ 32 ∷ 52 ∷ 32 ∷ 51 ∷ 32 ∷ 51 ∷ 10 ∷ 102 ∷ 108 ∷ 111 ∷ 119 ∷ 10 ∷ 40 ∷ 50 ∷ 41 ∷ 49 ∷ 57 ∷ 50 ∷ 59 ∷ 55 ∷ 44 ∷ 53 ∷ 53 ∷ 46 ∷ 53 ∷ 10 ∷ [])
-unfolding relabel relabelRead flatClusters flatGlyphs split cut allDigits valueFrom joinRest join trim decimalFrom decimal lead trail starts scalar xmlChar unitsOf decode unsigned isDecimals isNumber mantissaDigits fractionDigits exponentDigits nearest scaled thousandths numberFits isIndexPart indexDigits mapUnits mapGlyphs isAdvance isOffset wellFormed fieldFits indexOf advanceOf offsetOf entryOf entry entries tail placed step walk read utf8 unitBytes unitsBytes textOf fraction valueBytes advanceBytes offsetBytes mapBytes indexBytes entryBytes written indicesOf
+unfolding relabel relabelRead flatClusters flatGlyphs split cut allDigits valueFrom joinRest join trim decimalFrom decimal lead trail starts scalar xmlChar unitsOf decode textUnits unsigned isDecimals isNumber mantissaDigits fractionDigits exponentDigits nearest scaled thousandths numberFits isIndexPart indexDigits mapUnits mapGlyphs isAdvance isOffset wellFormed fieldFits indexOf advanceOf offsetOf entryOf entry entries tail placed step walk runFrom read utf8 unitBytes unitsBytes textOf fraction valueBytes advanceBytes offsetBytes mapBytes indexBytes entryBytes written indicesOf
 relabelled = refl

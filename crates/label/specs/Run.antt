@@ -6,10 +6,10 @@ use mathlib.Core.List.{List, [], _∷_, _++_}
 use lib.Dec.{leb, ltb, eqb}
 use lib.IntN.{ℤ, pos}
 use lib.ListN.{length, getD, drop}
-use Rattle.label.specs.Limits.{maxTextBytes, maxIndicesBytes, maxUnits, maxGlyphs}
+use Rattle.label.specs.Limits.{maxTextBytes, maxIndicesBytes, maxGlyphs}
 use Rattle.label.specs.Outcome.{Outcome, ok, no, need, _>>=_, _>>_}
 use Rattle.label.specs.Bytes.{empty}
-use Rattle.label.specs.Text.{decode, isLow, braced, marked, unmarked}
+use Rattle.label.specs.Text.{isLow, textUnits}
 use Rattle.label.specs.Entry.{Entry, entry, entries}
 use Rattle.label.specs.declared.Index.{Index}
 use Rattle.label.specs.declared.Index.the-variants.{Named, Font}
@@ -121,15 +121,17 @@ walk bare st (s ∷ ss) = do
   p ← walk bare (next bare st e) ss
   ok (before (opens st) (cluster (takes bare st e) (e .glyphs)) (e .glyph) p)
 
--- "Text size and indices size; then the text from its left (2 and 3, whichever comes first), 4, 5, 6; then entry by entry 7 to 13 in number order;
--- then 14, then 13 for the tail, 15"
+-- the run of these units and indices: "6; then entry by entry 7 to 13 in number order; then 14, then 13 for the tail, 15"
+unfoldable pub runFrom : List ℕ → List ℕ → Outcome Run
+runFrom us indices = do
+  need (not (empty us && empty indices)) 6 0
+  p ← walk (empty us) (start us) (entries indices)
+  need (leb (length (p .glyphs)) maxGlyphs) 15 0
+  ok (record { units = us; clusters = p .clusters; glyphs = p .glyphs })
+
+-- "Text size and indices size; then the text from its left": "This paper accepts [a label] when none of 1 to 15 holds, and it then reads as the run"
 unfoldable pub read : List ℕ → List ℕ → Outcome Run
 read text indices = do
   need (leb (length text) maxTextBytes && leb (length indices) maxIndicesBytes) 1 0
-  all ← decode 0 0 text
-  need (not (braced all) || marked all) 4 0
-  need (leb (length (unmarked all)) maxUnits) 5 0
-  need (not (empty (unmarked all) && empty indices)) 6 0
-  p ← walk (empty (unmarked all)) (start (unmarked all)) (entries indices)
-  need (leb (length (p .glyphs)) maxGlyphs) 15 0
-  ok (record { units = unmarked all; clusters = p .clusters; glyphs = p .glyphs })
+  us ← textUnits text
+  runFrom us indices

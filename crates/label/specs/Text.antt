@@ -5,6 +5,7 @@ use mathlib.Core.Bool.{Bool, true, false, cond, not, _&&_, _||_}
 use mathlib.Core.List.{List, [], _∷_, _++_}
 use lib.Dec.{leb, ltb, eqb}
 use lib.ListN.{length, getD, drop}
+use Rattle.label.specs.Limits.{maxUnits}
 use Rattle.label.specs.declared.Row.{Row}
 use Rattle.label.specs.Outcome.{Outcome, ok, no, need, _>>=_, _>>_}
 
@@ -96,3 +97,11 @@ marked us = braced us && eqb (getD us 1 0) 125
 -- "If it begins with the two bytes `{}`, they are dropped, once": `{` and `}` are one byte and one unit each
 abbrev pub unmarked : List ℕ → List ℕ
 unmarked us = cond (marked us) (drop 2 us) us
+
+-- the units of a text, "2 and 3, whichever comes first, 4, 5": "Any other text that begins with `{` is refused"
+unfoldable pub textUnits : List ℕ → Outcome (List ℕ)
+textUnits text = do
+  all ← decode 0 0 text
+  need (not (braced all) || marked all) 4 0
+  need (leb (length (unmarked all)) maxUnits) 5 0
+  ok (unmarked all)

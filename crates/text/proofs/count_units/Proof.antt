@@ -1,0 +1,124 @@
+use Rattle.text.specs.Chars.{charAt}
+use Rattle.text.specs.declared.Char.the-variants.{Good, Ill, Outside}
+use Prim.Native.Nat.{ℕ, _≤_, _<_, _-_, _+_, _*_}
+use native.Mathlib.Omega.{arith}
+use mathlib.Core.Path.{_≡_, sym, _∙_}
+use borrow.Author.Needs.{needs}
+use lib.ListN.{length}
+use Rattle.text.proofs.Chars.{Reached, reached-start, reached-inside, reached-one, reached-two, reached-ill, reached-outside, reached-end}
+use Rattle.text.proofs.count_units.Statement.{statement}
+use Rattle.text.proofs.count_units.Tie as tie
+use Rattle.text.proofs.count_units.Reads as reads
+use Rattle.text.proofs.count_units.Lts as lts
+use Rattle.text.proofs.char_at.Reads as char-at-reads
+
+abbrev Inv-loop : tie.InvT-loop
+Inv-loop s i₀ n₀ i n = (i ≤ length s) × (n ≤ 2 * i) × Reached s i n
+
+abbrev μ-loop : tie.MeasureT-loop
+μ-loop s i₀ n₀ i n = length s - i
+
+-- src/lib.rt:226:5
+loop-holds : tie.Need-loop-holds Inv-loop μ-loop
+loop-holds c = (search needs, search needs, reached-start (c .before .args .s .now))
+
+-- src/lib.rt:227:15
+char-at-requires : tie.Need-char-at-requires Inv-loop μ-loop
+char-at-requires c κs = search needs
+
+-- src/lib.rt:228:26
+enum-known-code : tie.Need-enum-known-code Inv-loop μ-loop
+enum-known-code c = search needs
+
+-- src/lib.rt:230:21
+add-n : tie.Need-add-n Inv-loop μ-loop
+add-n c = search needs
+
+-- src/lib.rt:232:21
+add-n-2 : tie.Need-add-n-2 Inv-loop μ-loop
+add-n-2 c = search needs
+
+-- src/lib.rt:226:5
+loop-less : tie.Need-loop-less Inv-loop μ-loop
+loop-less c =
+    let l = c .before .before .before .before .before .before .loop in
+    let s = c .before .before .before .before .before .before .before .before .args .s .now in
+    let g : charAt s (l .i) ≡ Good (c .before .before .code .given .0 .0) (c .before .before .code .given .0 .1 .0) = sym (c .before .before .before .before .char-at .ensures) ∙ c .before .before .code .given .1 in
+    let d = reached-inside s (l .i) (c .before .before .code .given .0 .0) (c .before .before .code .given .0 .1 .0) (search needs) g in
+    omega (arith, d)
+
+-- src/lib.rt:226:5
+loop-again : tie.Need-loop-again Inv-loop μ-loop
+loop-again c =
+    let l = c .before .before .before .before .before .before .loop in
+    let s = c .before .before .before .before .before .before .before .before .args .s .now in
+    let g : charAt s (l .i) ≡ Good (c .before .before .code .given .0 .0) (c .before .before .code .given .0 .1 .0) = sym (c .before .before .before .before .char-at .ensures) ∙ c .before .before .code .given .1 in
+    let d = reached-inside s (l .i) (c .before .before .code .given .0 .0) (c .before .before .code .given .0 .1 .0) (search needs) g in
+    (d .1, omega (arith, d), reached-one s (l .i) (l .n) (c .before .before .code .given .0 .0) (c .before .before .code .given .0 .1 .0) (search needs) (l .inv .2) g (c .if1 .taken))
+
+-- src/lib.rt:226:5
+loop-less-2 : tie.Need-loop-less-2 Inv-loop μ-loop
+loop-less-2 c =
+    let l = c .before .before .before .before .before .before .loop in
+    let s = c .before .before .before .before .before .before .before .before .args .s .now in
+    let g : charAt s (l .i) ≡ Good (c .before .before .code .given .0 .0) (c .before .before .code .given .0 .1 .0) = sym (c .before .before .before .before .char-at .ensures) ∙ c .before .before .code .given .1 in
+    let d = reached-inside s (l .i) (c .before .before .code .given .0 .0) (c .before .before .code .given .0 .1 .0) (search needs) g in
+    omega (arith, d)
+
+-- src/lib.rt:226:5
+loop-again-2 : tie.Need-loop-again-2 Inv-loop μ-loop
+loop-again-2 c =
+    let l = c .before .before .before .before .before .before .loop in
+    let s = c .before .before .before .before .before .before .before .before .args .s .now in
+    let g : charAt s (l .i) ≡ Good (c .before .before .code .given .0 .0) (c .before .before .code .given .0 .1 .0) = sym (c .before .before .before .before .char-at .ensures) ∙ c .before .before .code .given .1 in
+    let d = reached-inside s (l .i) (c .before .before .code .given .0 .0) (c .before .before .code .given .0 .1 .0) (search needs) g in
+    (d .1, omega (arith, d), reached-two s (l .i) (l .n) (c .before .before .code .given .0 .0) (c .before .before .code .given .0 .1 .0) (search needs) (l .inv .2) g (c .if1 .left))
+
+-- src/lib.rt:237:17
+enum-told : tie.Need-enum-told Inv-loop μ-loop
+enum-told c = search needs
+
+-- src/lib.rt:237:17
+returns : tie.Need-returns Inv-loop μ-loop
+returns c =
+    let l = c .before .before .before .before .loop in
+    let s = c .before .before .before .before .before .before .args .s .now in
+    let g : charAt s (l .i) ≡ Ill = sym (c .before .before .char-at .ensures) ∙ c .enum-told .given .1 in
+    reached-ill s (l .i) (l .n) (search needs) (l .inv .2) g
+
+-- src/lib.rt:240:17
+enum-told-2 : tie.Need-enum-told-2 Inv-loop μ-loop
+enum-told-2 c = search needs
+
+-- src/lib.rt:240:17
+returns-2 : tie.Need-returns-2 Inv-loop μ-loop
+returns-2 c =
+    let l = c .before .before .before .before .loop in
+    let s = c .before .before .before .before .before .before .args .s .now in
+    let g : charAt s (l .i) ≡ Outside = sym (c .before .before .char-at .ensures) ∙ c .enum-told2 .given .1 in
+    reached-outside s (l .i) (l .n) (search needs) (l .inv .2) g
+
+-- src/lib.rt:220:1
+returns-3 : tie.Need-returns-3 Inv-loop μ-loop
+returns-3 c = let l = c .before .loop in reached-end (c .before .before .before .args .s .now) (l .i) (l .n) (c .loop-test .left) (l .inv .2)
+
+pub count-units-spec : {M : Type 1} → statement M
+count-units-spec =
+    tie.close
+    (tie.spec
+    Inv-loop
+    μ-loop
+    loop-holds
+    char-at-requires
+    enum-known-code
+    add-n
+    add-n-2
+    loop-less
+    loop-again
+    loop-less-2
+    loop-again-2
+    enum-told
+    returns
+    enum-told-2
+    returns-2
+    returns-3)

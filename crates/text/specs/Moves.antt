@@ -1,0 +1,26 @@
+-- The units from a byte place of a text on, and what a move past some of them comes to: 12 and 13 without a unit buffer.
+-- Assumes nothing.
+use Prim.Native.Nat.{ℕ}
+use mathlib.Core.Path.{_≡_}
+use mathlib.Core.Bool.{Bool, true, false}
+use mathlib.Core.List.{List, []}
+use lib.Dec.{leb}
+use lib.ListN.{length, drop}
+use Rattle.label.specs.Outcome.{Outcome, ok, no}
+use Rattle.label.specs.Text.{decode}
+use Rattle.label.specs.Run.{whole}
+use Rattle.text.specs.declared.Moved.{Moved}
+use Rattle.text.specs.declared.Moved.the-variants.{To, Past, Half}
+
+abbrev pub unitsOr : Outcome (List ℕ) → List ℕ
+unitsOr (ok us) = us
+unitsOr (no n p) = []
+
+unfoldable pub unitsFrom : List ℕ → ℕ → List ℕ
+unitsFrom s at = unitsOr (decode 0 at (drop at s))
+
+abbrev pub Moves : List ℕ → ℕ → ℕ → Moved → Type 0
+Moves s at a Past = leb a (length (unitsFrom s at)) ≡ false
+Moves s at a Half = (leb a (length (unitsFrom s at)) ≡ true) × (whole a (unitsFrom s at) ≡ false)
+Moves s at a (To j) =
+    (leb a (length (unitsFrom s at)) ≡ true) × (whole a (unitsFrom s at) ≡ true) × (decode 0 j (drop j s) ≡ ok (drop a (unitsFrom s at)))

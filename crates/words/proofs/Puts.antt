@@ -1,0 +1,87 @@
+-- Bytes stored from a place on: one store, one behind another, none; and the laws of a loop that stores. Assumes nothing.
+use mathlib.Core.Path.{_≡_, refl, sym, ap, _∙_, subst}
+use mathlib.Core.Bool.{Bool, true, false, cond, not, _&&_, _||_}
+use mathlib.Core.List.{List, [], _∷_, _++_, append-nil}
+use Prim.Native.Nat.{ℕ, zero, suc, _+_, _-_, _*_, _/_, _%_, _^_, _<_, _≤_}
+use native.Mathlib.Nat.{add-zero}
+use native.Mathlib.Numerals.{add-one}
+use native.Mathlib.Omega.{arith}
+use borrow.Author.Tests.{le-leb, lt-leb, lt-ltb, le-ltb, eq-eqb, ne-eqb, leb-true, eqb-true, ltb-true, ltb-false}
+use lib.Dec.{leb, ltb, eqb}
+use lib.ListN.{length, getD, take, drop, set, length-append}
+use lib.Seq.{sets, sets-eq, length-sets, set-out}
+use Rattle.words.specs.Puts.{puts, Put}
+
+puts-append : (l : List ℕ) (i : ℕ) (x y : List ℕ) → puts (puts l i x) (i + length x) y ≡ puts l i (x ++ y)
+unfolding puts
+puts-append l i [] y = rw (add-zero i)
+puts-append l i (a ∷ x) y =
+    let e : i + suc (length x) ≡ suc i + length x = omega arith in
+    rw e (puts-append (set l i a) (suc i) x y)
+
+pub puts-length : (l : List ℕ) (i : ℕ) (w : List ℕ) → length (puts l i w) ≡ length l
+unfolding puts
+puts-length l i w = length-sets l i w
+
+pub none : {l : List ℕ} {at : ℕ} → Put l at [] at l
+unfolding puts
+none {l} {at} = record { behind = sym (add-zero at); is = refl }
+
+-- one store behind another
+pub then : {l m n x y : List ℕ} {at p q : ℕ} → Put l at x p m → Put m p y q n → Put l at (x ++ y) q n
+then {l} {m} {n} {x} {y} {at} {p} {q} f g =
+    record {
+      behind = let a = f .behind in let b = g .behind in simp length-append (omega arith);
+      is = g .is ∙ rw (f .behind, f .is) (puts-append l at x y)
+    }
+
+-- the same bytes by another name
+pub put-as : {l n x y : List ℕ} {at q : ℕ} → x ≡ y → Put l at x q n → Put l at y q n
+put-as {l} {n} {x} {y} {at} {q} e f = subst (λ (w : List ℕ). Put l at w q n) e f
+
+pub put-digit : {l n : List ℕ} {at q d e : ℕ} → d ≡ e → Put l at (d ∷ []) q n → Put l at (e ∷ []) q n
+put-digit e f = put-as (ap (λ (x : ℕ). x ∷ []) e) f
+
+pub put-one : (l : List ℕ) (at b : ℕ) → Put l at (b ∷ []) (at + 1) (set l at b)
+unfolding puts
+put-one l at b = record { behind = refl; is = refl }
+
+pub put-past : (l : List ℕ) (at b : ℕ) → length l ≤ at → Put l at (b ∷ []) (at + 1) l
+unfolding puts
+put-past l at b h = record { behind = refl; is = sym (set-out l at b h) }
+
+-- with room for all of it
+pub put-room : {l n w : List ℕ} {r : ℕ} → Put l 0 w r n → length w ≤ length l → n ≡ w ++ drop (length w) l
+unfolding puts
+put-room {l} {n} {w} {r} f h = f .is ∙ sets-eq w l 0 (omega arith) ∙ ap (λ (k : ℕ). w ++ drop k l) (zero-plus (length w))
+  where
+    zero-plus : (k : ℕ) → 0 + k ≡ k
+    zero-plus k = omega arith
+
+pub put-count : {l n w : List ℕ} {r : ℕ} → Put l 0 w r n → r ≡ length w
+put-count f = let e = f .behind in omega arith
+
+-- ── a loop: what is left to store gives the whole ──
+
+pub record Left (old whole now : List ℕ) (from at : ℕ) (rest : List ℕ) : Type 0 where
+  pub count : at + length rest ≡ from + length whole
+  pub gives : puts now at rest ≡ puts old from whole
+  pub same : length now ≡ length old
+
+pub left-start : {l w : List ℕ} {at : ℕ} → Left l w l at at w
+left-start = record { count = refl; gives = refl; same = refl }
+
+pub left-next : {old whole l n x r : List ℕ} {from at p : ℕ} → Left old whole l from at (x ++ r) → Put l at x p n → Left old whole n from p r
+left-next {old} {whole} {l} {n} {x} {r} {from} {at} {p} f g =
+    record {
+      count = let a = g .behind in omega (arith, f .count, length-append x r);
+      gives = rw (g .behind, g .is) (puts-append l at x r ∙ f .gives);
+      same = ap length (g .is) ∙ puts-length l at x ∙ f .same
+    }
+
+pub left-end : {old whole l : List ℕ} {from at : ℕ} → Left old whole l from at [] → Put old from whole at l
+unfolding puts
+left-end {old} {whole} {l} {from} {at} f = record { behind = omega (arith, f .count); is = f .gives }
+
+pub left-as : {old whole l x y : List ℕ} {from at : ℕ} → x ≡ y → Left old whole l from at x → Left old whole l from at y
+left-as {old} {whole} {l} {x} {y} {from} {at} e f = subst (λ (w : List ℕ). Left old whole l from at w) e f

@@ -1,0 +1,63 @@
+-- The signed tests of the code, as the definitions' tests: by cases. Assumes nothing.
+use mathlib.Core.Path.{_≡_, refl, sym, ap, _∙_}
+use mathlib.Core.Bool.{Bool, true, false, not}
+use Prim.Native.Nat.{ℕ, zero, suc, _<_}
+use lib.Dec.{leb, eqb}
+use native.Mathlib.Omega.{arith}
+use borrow.Author.Tests.{le-leb, lt-leb, ne-eqb}
+use lib.IntN.{ℤ, pos, negsuc, natAbs}
+use lib.Signed.{mag, leZ}
+use mir.Syntax.{w32}
+use mir.Val.{ofZ, toZ}
+use Rattle.words.proofs.Signed.{back}
+use Rattle.label.specs.Run.{named}
+use Rattle.label.specs.Sound.{natural, choice, nat, size, indexFits, advanceFits, numberIndex, numberAdvance}
+
+natural-by : (z : ℤ) → leZ (pos 0) z ≡ natural z
+natural-by (pos n) = le-leb 0 n (omega arith)
+natural-by (negsuc n) = refl
+
+choice-by : (z : ℤ) → leZ (negsuc 0) z ≡ choice z
+choice-by (pos n) = refl
+choice-by (negsuc zero) = refl
+choice-by (negsuc (suc n)) = lt-leb (suc n) 0 (omega arith) ∙ sym (ne-eqb (suc n) 0 (λ e. omega arith))
+
+index-by : (z : ℤ) → leZ z (pos 65535) ≡ indexFits (numberIndex z)
+index-by (pos n) = refl
+index-by (negsuc n) = refl
+
+advance-by : (z : ℤ) → leZ z (pos 1000000000) ≡ advanceFits (numberAdvance z)
+advance-by (pos n) = refl
+advance-by (negsuc n) = refl
+
+size-by : (z : ℤ) → natAbs z ≡ size z
+size-by (pos n) = refl
+size-by (negsuc n) = refl
+
+module _ (z : ℤ) (h : mag z < 2147483648) where
+  pub natural-is : leZ (pos 0) (toZ w32 (ofZ w32 z)) ≡ natural z
+  natural-is = rw (back z h) (natural-by z)
+
+  pub choice-is : leZ (negsuc 0) (toZ w32 (ofZ w32 z)) ≡ choice z
+  choice-is = rw (back z h) (choice-by z)
+
+  pub index-is : leZ (toZ w32 (ofZ w32 z)) (pos 65535) ≡ indexFits (numberIndex z)
+  index-is = rw (back z h) (index-by z)
+
+  pub advance-is : leZ (toZ w32 (ofZ w32 z)) (pos 1000000000) ≡ advanceFits (numberAdvance z)
+  advance-is = rw (back z h) (advance-by z)
+
+  pub size-is : natAbs (toZ w32 (ofZ w32 z)) ≡ size z
+  size-is = rw (back z h) (size-by z)
+
+pub nat-natural : (z : ℤ) → natural z ≡ true → size z ≡ nat z
+nat-natural (pos n) e = refl
+nat-natural (negsuc n) e = let z : _≡_ {A = Bool} true false = cc in cc
+
+pub nat-negative : (z : ℤ) → natural z ≡ false → 0 ≡ nat z
+nat-negative (pos n) e = let z : _≡_ {A = Bool} true false = cc in cc
+nat-negative (negsuc n) e = refl
+
+pub named-is : (z : ℤ) → natural z ≡ named (numberIndex z)
+named-is (pos n) = refl
+named-is (negsuc n) = refl

@@ -1,0 +1,171 @@
+// The leaves that nothing else proves again: truth values, the bits of signed numbers, numbers of a run at a place, little-endian bytes, and bytes
+// stored as far as there is room.
+ghost use mathlib.Core.Path.{_≡_};
+ghost use mathlib.Core.Bool.{_&&_, _||_};
+ghost use mathlib.Core.List.{[], _∷_};
+ghost use Prim.Native.Nat.{_+_, _-_, _*_, _<_, _≤_};
+ghost use lib.IntN.{ℤ, pos, negsuc, natAbs};
+ghost use lib.ListN.{length, getD};
+ghost use mir.Syntax.{w32};
+ghost use mir.Val.{ofZ, toZ};
+ghost use Rattle.label.specs.Sound.{natural, choice, nat, size};
+ghost use Rattle.words.specs.Places.{place};
+ghost use Rattle.words.specs.Words.{putWord, wordAt, putInt, intAt};
+ghost use Rattle.words.specs.Puts.{Put};
+
+// ── truth values ──
+
+pub fn both(a: bool, b: bool) -> bool
+    ensures { λ r. ⌜ r ≡ (a && b) ⌝ }
+{
+    if a { b } else { false }
+}
+
+pub fn either(a: bool, b: bool) -> bool
+    ensures { λ r. ⌜ r ≡ (a || b) ⌝ }
+{
+    if a { true } else { b }
+}
+
+// ── unsigned numbers ──
+
+pub fn widened(n: u32) -> usize
+    ensures { λ r. ⌜ (r ≡ n) × (r < 4294967296) ⌝ }
+{
+    n as usize
+}
+
+pub fn less_one(n: usize) -> usize
+    ensures { λ r. ⌜ r ≡ n - 1 ⌝ }
+{
+    if n == 0 { 0 } else { n - 1 }
+}
+
+// ── signed numbers, by their bits ──
+
+// The 32 bits of v, as a number: two's complement. The low 31 by a mask, which is never negative, and the sign's.
+pub fn bits(v: i32) -> u32
+    ensures { λ r. ⌜ r ≡ ofZ w32 v ⌝ }
+{
+    let low = (v & 0x7fff_ffff) as u32;
+    if v < 0 { low + 0x8000_0000 } else { low }
+}
+
+// The number whose bits are n.
+pub fn of_bits(n: u32) -> i32
+    ensures { λ r. ⌜ r ≡ toZ w32 n ⌝ }
+{
+    if n < 0x8000_0000 {
+        n as i32
+    } else {
+        (n - 0x8000_0000) as i32 | -0x8000_0000
+    }
+}
+
+// The size of v, by its bits: plain arithmetic.
+pub fn size(v: i32) -> u32
+    ensures { λ r. ⌜ r ≡ natAbs v ⌝ }
+{
+    let n = bits(v);
+    if n < 0x8000_0000 {
+        n
+    } else {
+        0xffff_ffff - n + 1
+    }
+}
+
+// ── a number of a run at a place: the only functions that look at its sign ──
+
+pub fn natural_at(s: &[i32], k: usize) -> bool
+    requires { ⌜ k < length (now s) ⌝ }
+    ensures { λ r. ⌜ r ≡ natural (place (now (s .entry)) k) ⌝ }
+{
+    let v = s[k];
+    0 <= v
+}
+
+pub fn choice_at(s: &[i32], k: usize) -> bool
+    requires { ⌜ k < length (now s) ⌝ }
+    ensures { λ r. ⌜ r ≡ choice (place (now (s .entry)) k) ⌝ }
+{
+    let v = s[k];
+    -1 <= v
+}
+
+pub fn size_at(s: &[i32], k: usize) -> u32
+    requires { ⌜ k < length (now s) ⌝ }
+    ensures { λ r. ⌜ r ≡ size (place (now (s .entry)) k) ⌝ }
+{
+    let v = s[k];
+    size(v)
+}
+
+// 0 for a negative one
+pub fn nat_at(s: &[i32], k: usize) -> u32
+    requires { ⌜ k < length (now s) ⌝ }
+    ensures { λ r. ⌜ r ≡ nat (place (now (s .entry)) k) ⌝ }
+{
+    if natural_at(s, k) {
+        size_at(s, k)
+    } else {
+        0
+    }
+}
+
+// ── bytes, low byte first ──
+
+pub fn wide(b: u8) -> u32
+    ensures { λ r. ⌜ (r ≡ b) × (r < 256) ⌝ }
+{
+    b as u32
+}
+
+pub fn put_u32(buf: &mut [u8], at: usize, n: u32)
+    requires { ⌜ at + 3 < length (now buf) ⌝ }
+    ensures { λ _. ⌜ now (buf .exit) ≡ putWord (now (buf .entry)) at n ⌝ }
+{
+    buf[at] = (n & 0xff) as u8;
+    buf[at + 1] = (n >> 8 & 0xff) as u8;
+    buf[at + 2] = (n >> 16 & 0xff) as u8;
+    buf[at + 3] = (n >> 24 & 0xff) as u8;
+}
+
+pub fn get_u32(buf: &[u8], at: usize) -> u32
+    requires { ⌜ at + 3 < length (now buf) ⌝ }
+    ensures { λ r. ⌜ r ≡ wordAt (now (buf .entry)) at ⌝ }
+{
+    let b0 = wide(buf[at]);
+    let b1 = wide(buf[at + 1]);
+    let b2 = wide(buf[at + 2]);
+    let b3 = wide(buf[at + 3]);
+    b0 + b1 * 256 + b2 * 65536 + b3 * 16777216
+}
+
+pub fn put_i32(buf: &mut [u8], at: usize, v: i32)
+    requires { ⌜ at + 3 < length (now buf) ⌝ }
+    ensures { λ _. ⌜ now (buf .exit) ≡ putInt (now (buf .entry)) at v ⌝ }
+{
+    put_u32(buf, at, bits(v));
+}
+
+pub fn get_i32(buf: &[u8], at: usize) -> i32
+    requires { ⌜ at + 3 < length (now buf) ⌝ }
+    ensures { λ r. ⌜ r ≡ intAt (now (buf .entry)) at ⌝ }
+{
+    of_bits(get_u32(buf, at))
+}
+
+// ── bytes, stored as far as there is room ──
+
+// Stores a byte where there is such a place, and returns the place behind it: where `out` ends, storing only counts.
+pub fn put_byte(out: &mut [u8], at: usize, b: u8) -> usize
+    requires { ⌜ at < 1152921504606846976 ⌝ }
+    ensures { λ r. ⌜ Put (now (out .entry)) at (b ∷ []) r (now (out .exit)) ⌝ }
+    ensures bounds { λ r. ⌜ r ≡ at + 1 ⌝ }
+{
+    if out.len() <= at {
+        return at + 1;
+    }
+    out[at] = b;
+    at + 1
+}

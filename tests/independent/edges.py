@@ -1,0 +1,215 @@
+"""Fixed cases: every refusal, every limit from both sides, and pools that generate.py draws from."""
+
+import labels
+from labels import FONT
+
+GRIN, THAI = '\U0001F600', '\u0e33'
+MAX, MIN, SIZE_MAX = 2 ** 31 - 1, -2 ** 31, 2 ** 64 - 1
+
+# First and last character of each row of Table 3-7 and of each range of XML's Char, and some others.
+EDGE_CHARACTERS = [chr(c) for c in (
+    0x9, 0xA, 0xD, 0x20, 0x7B, 0x7D, 0x7F, 0x80, 0x9F, 0x7FF, 0x800, 0xFFF, 0x1000, 0xCFFF, 0xD000, 0xD7FF, 0xE000,
+    0xFDD0, 0xFEFF, 0xFFFD, 0x10000, 0x1FFFE, 0x3FFFF, 0x40000, 0xFFFFF, 0x100000, 0x10FFFF)]
+NOT_XML = [chr(c) for c in (0x0, 0x1, 0x8, 0xB, 0xC, 0xE, 0x1F, 0xFFFE, 0xFFFF)]
+ILL_FORMED = [bytes.fromhex(h) for h in '''
+    80 BF C0 C080 C1BF C2 C27F C2C0 DF DFC0 E0 E09F80 E08080 E0A0 E0A07F E0C080 E180 E18041 E17F80 ED EDA080 EDAFBF
+    EDB080 EDBFBF EDA080EDB080 EF EFBF EFBFC0 F0 F08080 F08FBFBF F090 F09080 F0908041 F09F98 F1808041 F3BFBF F4
+    F4908080 F48FBF F48FBFC0 F5808080 F7BFBFBF F8 F888808080 FC FE FF'''.split()]
+
+GOOD_ENTRIES = [b'', b''] + '''
+    5 6 7 , ,, ,,, ,40 ,0 ,,0 ,,.5 ,,,-1 5, 5,0 5,,, 5,,,16 5,,-1 0 65535 065535 00000000000000000000005
+    5,.5,+.5,-.5 07,+55.50,,0 5,1e6 5,1000000.0004 5,.0005 5,.0004 5,,-0 5,,-.0004 5,,-.0005 5,0e99 5,.000e+99
+    5,1E-99 5,1e01 5,000000000000000001 (1)5 (1:1)5 (01:001)5 (2)5 (2:1)192 (002)5,1 (3)9 (1:2)5 (1:2)124 (2:2)5
+    (2:3)34 (1:3)5 (3:2)7,1,2,3'''.encode().split()
+NOT_WELL_FORMED = [b' ', b' 5', b'5 ', b'5,1 ', b'5, 1', b'(1 )5', b'\t', b'\r', b'5\r', b'\0', b'5\0', b'5\x80'] + '''
+    x 5,-1 5,-0 5,-.0 5,,,, ,,,, 5,1. 5,. 5,1..5 5,1.5.5 5,e5 5,.e5 5,1e 5,1e+ 5,1e- 5,1e+-1 5,1e1.5 5,1e1e1 5,++1
+    5,+ 5,,+ 5,,- 5,,--1 5,,+-1 5,,-+1 5,0x1 5,1f 5,inf 5,,nan 5,1_0 +5 -5 5.0 5e0 ( ) () ()5 (1 (1) (1:2) (1)x (1),5
+    (1:)5 (:1)5 (:)5 (1:1:1)5 (1.0)5 (+1)5 (-1)5 (1,1)5 ((1))5 (1)(1)5 5(1) 1:2 5:1 {} 70000,x 5,1e001x'''.encode().split()
+LARGE_COUNTS = [n.encode() for n in (
+    '4097', '65537', '4294967295', '4294967296', '4294967297', '4294967298', '18446744073709551615', '18446744073709551616',
+    '18446744073709551617', '18446744073709551618', '340282366920938463463374607431768211457', '9' * 20, '9' * 50)]
+BAD_ENTRIES = NOT_WELL_FORMED + '''
+    65536 065536 70000 99999999999999999999 4294967296 4294967301 18446744073709551621 (0)70000 (9)65536 70000,1e9
+    5,1e9 5,1e001 5,1e+000 5,0e100 5,0000000000000000001 5,.0000000000000000001 5,1.000000000000000000 5,1e99 (0)5,1e9
+    5,1000000.0005 5,,1000000.001 5,,-1000000.0005 5,,,1e7 5,1,1,-1E+07
+    (0)5 (00)5 (0:1)5 (1:0)5 (0:0)5 (1:000)5 (2:0)5 (9)5'''.encode().split() \
+    + [pattern % count for count in LARGE_COUNTS for pattern in (b'(%s)5', b'(1:%s)5')]
+
+ODD_NUMBERS = (-2, -1, 0, 1, 2, 3, 4, 65535, 65536, 999999999, 10 ** 9, 10 ** 9 + 1, -10 ** 9, -10 ** 9 - 1,
+               MAX, MAX - 1, MIN, MIN + 1)
+ODD_UNITS = (0, 1, 9, 10, 13, 0x1F, 0x20, 0x7B, 0xD7FF, 0xD800, 0xDBFF, 0xDC00, 0xDFFF, 0xE000, 0xFFFD, 0xFFFE, 0xFFFF)
+
+# ---- Labels ------------------------------------------------------------------------------------------
+
+def slips():
+    """The labels of "Where readers of this standard slip"."""
+    for text, indices in (
+            # "Counting characters in place of units."
+            (GRIN, '(1)9 (2)9'), (GRIN + 'A', '(2)9;5 (2)9;5;6 (2)9'), (GRIN * 2, '(2)9 (3)9 (4)9 (2)9;(2)9'),
+            ('A' + GRIN, '5 ;(2)9'), (THAI * 3, '5;6;7 5;6;7;8'),
+            # "Taking a trailing `;` for nothing."
+            ('A', '5; ; (1:2)5; (1:2)5;6;'), ('AB', '5; ; 5;6; (1:2)5;6;'), ('ABC', '5;;'), ('', '5; ;'),
+            # "Reading an absent advance as 0."
+            ('A', '5 5, 5,0 5,,0 5,,1 5,0,1 ,0 ,'),
+            # "Dropping `{}` again in `{}{}`."
+            ('{}{}', '5;6 5 ;6'), ('{}{}{}', '; 5;6;7;8'), ('{}{', '5'), ('{}', '5'), ('{}A', '5'), ('{', '5'), ('{A', '5'),
+            ('A{}', '5;6;7'), ('{}{}A', '5;;6'),
+            # "Writing half of a run before a late refusal."
+            ('ABCD', '5;6;7;x 5;6;7;65536 5;6;(1:2)7;8;9;10 5;6;7;(1:2)8 5;6;7;8,1e9 5;6;7;(0)8 5;6;7;(2)8 5;(1:3)6;7;'),
+            ('ABC' + GRIN, '5;6;7;8 5'),
+            # "Dropping a font entry in the middle."
+            ('ABC', '5;;6 ;;6 ;5 ;;,0 5;,;6'), ('ABCD', '5;;;6 5;;6; (1:2)5;6;;7')):
+        yield text.encode(), b''
+        for one in indices.split():
+            yield text.encode(), one.encode()
+
+def size_edges():
+    """1, with what would be refused later."""
+    for size in (16383, 16384, 16385, 20000):
+        for text in (b'A' * size, (b'{}' + b'A' * size)[:size], b'{' + b'A' * (size - 1), b'A' * (size - 1) + b'\xff', b'\1' * size):
+            yield text, b'5'
+    for size in (262143, 262144, 262145):
+        many = (b'5;' * size)[:size]
+        for text in (b'', b'{}', b'\xff', b'\0', b'{A', b'AB', GRIN.encode()):
+            yield text, many
+        for first, filler, last in ((b'', b'0', b'5'), (b'', b'9', b''), (b'', b';', b''), (b'5,', b'0', b''), (b'5,1e', b'0', b''),
+                                    (b'(', b'9', b')5'), (b'(1:', b'9', b')5'), (b'(', b'0', b'1)5'), (b'5,.', b'1', b''), (b'', b'(', b''),
+                                    (b'', b',', b'')):
+            yield b'A', first + filler * (size - len(first + last)) + last
+        yield b'', many[:-1] + b'x'
+
+def text_edges():
+    """2, 3 and 4, and each border of Table 3-7 and of XML's Char."""
+    for bad in ILL_FORMED + [c.encode() for c in NOT_XML]:
+        for before in (b'', b'A', b'{}', b'{', GRIN.encode(), THAI.encode()):
+            for after in (b'', b'A', b'\x80', b'\xff', b'\0'):
+                yield before + bad + after, b'5'
+    for row in labels.TABLE_3_7:
+        lowest = [low for low, high in row]
+        for at, (low, high) in enumerate(row):
+            for byte in (low - 1, low, low + 1, high - 1, high, high + 1, 0, 0x7F, 0x80, 0xBF, 0xC0, 0xFF):
+                piece = bytes(lowest[:at] + [byte & 0xFF] + lowest[at + 1:])
+                for text in (piece, b'A' + piece + b'B', b'{}' + piece, piece[:-1], piece[:-1] + b'A'):
+                    yield text, b'(2)5'
+    for c in list(range(0x30)) + list(map(ord, EDGE_CHARACTERS)):
+        yield chr(c).encode(), b''
+        yield ('A' + chr(c)).encode(), b';(2)5'
+    yield b'{' + b'A' * 5000, b''
+
+def count_edges():
+    """5, 6 and 15, and 13 among many units."""
+    for count in (4095, 4096, 4097):
+        fives = b';'.join([b'5'] * count)
+        for text in (b'A' * count, b'{}' + b'A' * count, '\u0800'.encode() * count, b'A' * (count - 2) + GRIN.encode()):
+            for indices in (b'', b'5', b'(%d)5' % count, b'(%d)5' % (count - 1), b'(2:2)5;6', b'(1:2)5;6', b'(1:3)5;6;7', b'(2)5',
+                            b'(%d:2)5;6' % (count - 2), b';' * (count - 2), b';' * (count - 1), b';' * count, fives, fives + b';5',
+                            b'(2:%d)5' % count):
+                yield text, indices
+        yield GRIN.encode() * (count // 2), b';'.join([b'(2)5'] * (count // 2))
+        yield GRIN.encode() * (count // 2), b''
+        for more in (b'', b';x', b';', b';(0)5', b';65536', b';5,1e9', b';6'):
+            yield b'', fives + more
+            yield b'{}', fives + more
+        for text in (b'A', b'AB', b'ABC'):
+            for entries in (count - 1, count, count + 1):
+                yield text, b'(1:%d)5' % count + b';6' * (entries - 1)
+                yield text, b'5;(1:%d)5' % (count - 1) + b';6' * (entries - 2)
+        yield b'AB', b'(1:%d)5' % count + b';6' * (count - 1) + b';x'
+        yield b'A' * 10, b'(1:%d)5' % (count - 9) + b';6' * (count - 10)        # `count` glyphs with the tail
+    yield b'A' * 4096, b';'.join([b'5'] * 5000)
+    yield b'', b';'.join([b'5'] * 5000 + [b'x'])
+    for text in (b'', b'{}'):
+        yield text, b''
+        for indices in b'; , 5 5;6 5; ;5 (1)5 (0)5 (1:2)5;6 ,5 5,1,2,3;6 65536 x 5;(1:1)5 5;6;7,,-1'.split():
+            yield text, indices
+
+def entry_edges():
+    """7 to 14: each good and bad entry in several surroundings, counts of any size, pairs."""
+    for entry in BAD_ENTRIES + GOOD_ENTRIES:
+        for text, before, after in (
+                ('A', '', ''), ('ABCDE', '5;', ''), ('ABCDE', '', ';5'), ('AB', '(1:2)5;', ''), ('ABC', '(1:3)5;', ';6'), ('', '', ''),
+                ('', '5;', ';6'), (GRIN, '', ''), ('A' + GRIN, '5;', ''), (GRIN + 'A', '(2)9;', ''), ('A', '5;', ''), ('AB', '(2:2)5,1;', ';x')):
+            yield text.encode(), before.encode() + entry + after.encode()
+    for number in range(65520, 65550):
+        yield b'A', b'%d' % number
+        yield b'A', b'(1)%025d' % number
+    for n in [b'0', b'00', b'1', b'2', b'3', b'4', b'5', b'4096', b'0' * 50 + b'1'] + LARGE_COUNTS:
+        for text in ('A', 'ABC', 'AB' + GRIN, GRIN + 'A'):
+            for indices in b'(N)5 (N:1)5 (1:N)5 (N:N)5 (1:N)5;6 (2:N)5;6 5;(N)6 5;(1:N)6;7;8 (2:N)6;7;x'.split():
+                yield text.encode(), indices.replace(b'N', n)
+    for text in (GRIN, 'A' + GRIN, GRIN + 'B', GRIN * 2, 'AB' + GRIN, '{}' + GRIN, '{}{' + GRIN):
+        yield text.encode(), b''
+        for indices in b'''5 ; (2)5 (3)5 (4)5 (1:2)5 (1:2)5;x (1:2)5;6 (2:2)5;6 (2:2)5 5;(1:3)6;7 5;(2)6 ;; 5;6 (2)5;(1:2)6
+                           (2)5;(2:2)6 (1)5;x'''.split():
+            yield text.encode(), indices
+
+def number_edges():
+    """9: digit counts, exponents and sizes from both sides of the limits, in each field."""
+    numbers = []
+    for e in range(-99, 100):
+        numbers += [f'{digits}e{e}' for digits in ('1', '5', '0', '.5', '9' * 18, '0' * 17 + '1', '.' + '0' * 17 + '1', '4' + '9' * 17,
+                                                   '123456789.123456789')]
+        for m in ('1', '5', '4', '15', '999999999', '1000000000', '1000000001', '4999999999', '9999999994', '9999999995', '10000000004',
+                  '10000000005', '100000000000000000'):
+            if abs(len(m) + e - 7) <= 8:
+                numbers.append(f'{m}E{e:+03d}')
+    for k in range(20):
+        z = '0' * k
+        numbers += [z + digits for digits in '''1 1000000 1000000.0004 1000000.0005 1000000.00049999999 1000000.00050000000 999999.9995
+                                                .0005 .0004 1e06'''.split()]
+        numbers += [f'1{z}', f'1.{z}5', f'.{z}5', f'.{z}5e20', f'1e{z}6', f'1{z}e{6 - k}', f'1{z}5e{5 - k}', f'.{z}1e{7 + k}',
+                    f'.{z}10000000004e{7 + k}', f'.{z}10000000005e{7 + k}']
+    nine = '9' * 9
+    numbers += f'''{nine * 2} {nine * 2}9 .{nine * 2} .{nine * 2}9 {nine}.{nine} {nine}.{nine}9 1e-99 1e-100 1e99 1e100 0e99 0e100 0e099
+                   .000e+99 1e+06 1e+006'''.split()
+    for number in numbers:
+        yield b'A', b'5,' + number.encode()
+    for number in numbers[::7] + '1000000 1000000.0004 1000000.0005 .0004 .0005 0 1e6 1000000.0005000000'.split():
+        for before in '5,+ 5,- 5,, 5,,+ 5,,- 5,,, 5,,,- 5,0,0,+ , ,,-'.split():
+            yield b'A', (before + number).encode()
+
+def label_edges():
+    for part in (slips, text_edges, entry_edges, number_edges, count_edges, size_edges):
+        yield from part()
+
+# ---- Runs --------------------------------------------------------------------------------------------
+
+def longest_writing():
+    """The sound run with the longest normal indices: 4,096 units and glyphs, all fields full, most bytes in maps."""
+    return [0x800] * 4096, [2, 1] * 1364 + [1, 2] * 1365 + [3, 2], [65535, 999999999, -999999999, -999999999] * 4096
+
+def run_edges():
+    """Each rule of soundness kept and broken."""
+    a, named, font = [0x41], [5, 10, 0, 0], list(labels.WHOLLY_FONT)
+    yield from (([], [], []), (a, [1, 1], named), (a, [1, 1], font), ([], [0, 1], named), ([], [0, 1, 0, 1], named * 2))
+    yield from ((a * k, [1, 1] * k, (named + font * (k - 1))[:4 * k]) for k in range(1, 5))
+    yield from (([], [1, 1], named), (a, [], named), (a, [1, 1], []), (a, [1], named), (a, [1, 1], named[:3]), (a, [1, 1], named * 2),
+                (a * 2, [1, 1], named), (a, [1, 1, 1], named), (a, [1, 1, 0, 1], named * 2), (a, [0, 1, 1, 1], named * 2),
+                (a, [1, 1, 1, 0], named), (a, [1, 2, 0, -1], named), (a, [2, 1, -1, 0], named), ([], [0, 1], font), ([], [0, 2], named * 2),
+                ([], [1, 1, -1, 0], named), ([], [0, 1], named[:3]), ([], [0, 0], []), ([], [0, 0, 0, 1], named), (a, [1, 0], []),
+                (a, [MAX, 1, MAX, 1, 3, 1], named * 3), (a, [1, MAX, 1, MAX, 1, 3], named), (a, [MIN, 1, MIN, 1, 1, 1], named * 3))
+    for clusters, glyphs in (([2, 1], 1), ([1, 2, 1, 1], 3), ([1, 1, 1, 2], 3), ([2, 2], 2), ([2, 3], 3), ([1, 1, 1, 1], 2)):
+        yield a * 2, clusters, named * glyphs
+        for k in range(glyphs):
+            for other in (font, [FONT, 0, 0, 0], [FONT, FONT, 0, -1], [0, FONT, 0, 0]):
+                yield a * 2, clusters, named * k + other + named * (glyphs - k - 1)
+    for units in ([0xD83D, 0xDE00], [0xDE00, 0xD83D], [0xD83D], [0xDE00], [0xD83D, 0x41], [0x41, 0xDE00], [0xD83D, 0xD83D, 0xDE00],
+                  [0xD83F, 0xDFFE], [0x41, 0xD83D, 0xDE00], [0xD83D, 0xDE00, 0x42], [0xD83D, 0xDE00, 0xDE00], [0xD83D, 0xDE00] * 2):
+        for clusters in ([len(units), 1], [1, 1] * len(units), [1, 1, len(units) - 1, 1], [len(units) - 1, 1, 1, 1], [2, 1] * (len(units) // 2)):
+            yield units, clusters, named * (len(clusters) // 2)
+    for unit in [*range(0x30), *ODD_UNITS]:
+        yield [unit], [1, 1], named
+        yield [0x41, unit, 0x42], [3, 1], named
+    for at in range(4):
+        for number in ODD_NUMBERS:
+            yield a, [1, 1], named[:at] + [number] + named[at + 1:]
+            yield a * 2, [2, 2], named + named[:at] + [number] + named[at + 1:]
+    for count in (4095, 4096, 4097):
+        yield [], [0, 1] * count, named * count
+        yield a * count, [1, 1] * count, font * count
+        yield a * count, [count, 1], named
+        yield a, [1, count], named * count
+        yield a * count, [1, 2, 2, 1] + [1, 1] * (count - 3), named * count
+        yield a * count, [1, 2] + [1, 1] * (count - 1), named * (count + 1)
+        yield [0xD83D, 0xDE00] * (count // 2), [2, 1] * (count // 2), named * (count // 2)
+    yield longest_writing()
