@@ -90,13 +90,250 @@ def sound_run(rng, characters=None):
         for _ in range(b):
             glyphs += glyph(rng, (a, b) != (1, 1))
         used, spare = used + a, spare + a - b
-    tail = rng.randrange(len(clusters) // 2 + 1) if rng.random() < .4 else 0
-    at = len(glyphs)
-    while tail and clusters[2 * tail - 2:2 * tail] == [1, 1]:        # glyphs of the last 1:1 clusters, wholly the font's
-        at, tail = at - 4, tail - 1
-        if clusters[-2:] != [1, 1] or at < 0:
-            break
-        if labels.grouped(clusters, 2)[-(len(glyphs) - at) // 4:] != [(1, 1)] * ((len(glyphs) - at) // 4):
-            break
-        glyphs[at:at + 4] = labels.WHOLLY_FONT
+    if rng.random() < .4:                                           # the last 1:1 clusters wholly the font's
+        for k in range(1, rng.randint(1, len(clusters) // 2) + 1):
+            if clusters[len(clusters) - 2 * k:][:2] != [1, 1]:
+                break
+            at = len(glyphs) - 4 * k
+            glyphs[at:at + 4] = labels.WHOLLY_FONT
     return units, clusters, glyphs
+
+def clamp(number):
+    return max(MIN, min(MAX, number))
+
+def nearly_run(rng):
+    """A sound run with a number or two changed, dropped, added or moved."""
+    run = sound_run(rng)
+    for _ in range(1 if rng.random() < .8 else 2):
+        which = rng.choice((0, 1, 1, 2))
+        numbers, size = run[which], (1, 2, 4)[which] if rng.random() < .5 else 1
+        at = rng.randrange(len(numbers) + 1)
+        at -= at % size
+        odd = rng.choice(ODD_UNITS if which == 0 else ODD_NUMBERS)
+        r = rng.random()
+        if r < .4:
+            numbers[at:at + 1] = [odd]
+        elif r < .5 and numbers:
+            at = rng.randrange(len(numbers))
+            numbers[at] = clamp(numbers[at] + rng.choice((-1, 1))) if which else numbers[at] ^ 1
+        elif r < .65:
+            del numbers[at:at + size]
+        elif r < .8:
+            more = [[], [[0, 1], [1, 1], [1, 0]], [list(labels.WHOLLY_FONT)]][which]
+            numbers[at:at] = rng.choice([numbers[at:at + size], [odd] * size] + more)
+        elif r < .87 and run[2]:
+            at = rng.randrange(len(run[2]))
+            run[2][at - at % 4] = FONT
+        elif r < .95 and len(run[1]) >= 4:                          # counts moved, or adding up modulo 2^31 or 2^32
+            i, j = rng.sample(range(rng.randrange(2), len(run[1]), 2), 2)
+            shift = rng.choice((1, -1, 2, MAX, MIN))
+            run[1][i], run[1][j] = clamp(run[1][i] + shift), clamp(run[1][j] - shift)
+            if shift in (MAX, MIN):
+                run[1][0:0] = [MAX, 1] if i % 2 == 0 else [1, MAX]
+        elif numbers:
+            i, j = rng.randrange(len(numbers)), rng.randrange(len(numbers))
+            numbers[i], numbers[j] = numbers[j], numbers[i]
+    return run
+
+def random_run(rng):
+    """Small clusters without a plan, with about as many units and glyphs as they say."""
+    clusters = [n for _ in range(rng.randint(0, 4)) for n in rng.choice(((1, 1), (1, 1), (2, 1), (1, 2), (2, 2), (0, 1), (1, 0), (3, 1)))]
+    if rng.random() < .1:
+        clusters.append(rng.choice(ODD_NUMBERS))
+    units, glyphs = (min(max(0, sum(clusters[side::2])), 8) if rng.random() < .9 else rng.randint(0, 5) for side in (0, 1))
+    record = lambda: [rng.choice((5, 5, 5, FONT)), rng.choice((FONT, 0, 7)), 0, rng.choice((0, -5))]
+    return ([rng.choice((0x41, 0x42, 0x7B, 0xD83D, 0xDE00)) if rng.random() < .5 else 0x43 for _ in range(units)], clusters,
+            [n for _ in range(glyphs) for n in record()])
+
+def large_run(rng):
+    """About as many units or glyphs as the limits allow, or one more."""
+    count, record, kind = rng.choice((4095, 4096, 4097)), glyph(rng, True), rng.randrange(5)
+    if kind == 0:
+        return [], [0, 1] * count, record * count
+    if kind == 1:
+        return [0x41] * count, [1, 1] * count, record * count
+    if kind == 2:
+        return [0x41] * count, [count, 1], record
+    if kind == 3:
+        return [0x7B], [1, count], record * count
+    return sound_run(rng, rng.randint(1000, 4096))
+
+# ---- Labels ------------------------------------------------------------------------------------------
+
+def spelled_label(rng, run):
+    """A label that reads as the sound run, in any writing."""
+    units, clusters, glyphs = run
+    text = ''.join(map(chr, labels.characters_of(units)))
+    if text.startswith('{') or rng.random() < .1:
+        text = '{}' + text
+    entries = []
+    for a, b in labels.grouped(clusters, 2):
+        for k in range(b):
+            index, advance, u, v = glyphs[4 * len(entries):4 * len(entries) + 4]
+            head = '' if index == FONT else zeros(rng) + str(index)
+            if k == 0 and a and head and ((a, b) != (1, 1) or rng.random() < .2):
+                second = '' if b == 1 and rng.random() < .5 else f':{zeros(rng)}{b}'
+                head = f'({zeros(rng)}{a}{second}){head}'
+            fields = [head, '' if advance == FONT else rng.choice(('', '', '+')) + spelling(rng, advance)]
+            for offset in (u, v):
+                sign = '-' if offset < 0 else rng.choice(('', '', '+') if offset else ('', '+', '-'))
+                fields.append('' if offset == 0 and rng.random() < .7 else sign + spelling(rng, abs(offset)))
+            while len(fields) > 1 and fields[-1] == '' and rng.random() < .8:
+                fields.pop()
+            entries.append(','.join(fields))
+    while entries and clusters[-2:] == [1, 1] and not entries[-1].strip(',') and rng.random() < .6:
+        entries, clusters = entries[:-1], clusters[:-2]
+    return text.encode(), ';'.join(entries).encode()
+
+def valid_label(rng):
+    return spelled_label(rng, sound_run(rng))
+
+def damaged(rng, data, alphabet):
+    """One byte put in, left out or changed, the end cut off, or a stretch doubled."""
+    at, byte, r = rng.randrange(len(data) + 1), bytes((rng.choice(alphabet),)), rng.random()
+    if r < .3:
+        return data[:at] + byte + data[at:]
+    if r < .55:
+        return data[:at] + data[at + 1:]
+    if r < .8:
+        return data[:at] + byte + data[at + 1:]
+    return data[:at] if r < .9 else data[:at + rng.randint(1, 4)] + data[at:]
+
+def damaged_label(rng):
+    """A valid label with a small mutation or two."""
+    text, indices = valid_label(rng)
+    for _ in range(1 if rng.random() < .8 else 2):
+        if rng.random() < .3:
+            text = damaged(rng, text, rng.choice((b'\x80\xbf\xc2\xe0\xed\xef\xf0\xf4\xff', b'{}A\0\x1f', range(256))))
+        else:
+            indices = damaged(rng, indices, b'0123456789;;,,..::(())+-eE5 {}\0\r\tx\x80' if rng.random() < .95 else range(256))
+    return text, indices
+
+def clean_text(rng):
+    if rng.random() < .25:
+        return 'AB' * rng.randint(0, 3)
+    return rng.choice(('', '', '', '{}', '{}{')) + ''.join(
+        rng.choice(('A', 'B', 'A', 'B', GRIN, THAI, '}', '\u0baa\u0bcb', '\r')) for _ in range(rng.randint(0, 5)))
+
+def mixed_label(rng):
+    """Texts and entries drawn from pools of good and bad ones: the order of the checks."""
+    text = clean_text(rng).encode()
+    if rng.random() < .1:
+        at = rng.randrange(len(text) + 1)
+        text = text[:at] + rng.choice((rng.choice(ILL_FORMED), rng.choice(NOT_XML).encode(), b'{', b'{a')) + text[at:]
+    bad = rng.choice((0, 0, .1, .4))
+    entries = [rng.choice(BAD_ENTRIES if rng.random() < bad else GOOD_ENTRIES) for _ in range(int(rng.expovariate(.4)))]
+    return text, b';'.join(entries)
+
+def number_label(rng):
+    """One entry with a number of any shape, or one at and around a border of rounding or of size."""
+    if rng.random() < .5:
+        extra = rng.randint(0, 9)
+        half = 10 ** extra // 2
+        size = rng.choice((Limits.THOUSANDTHS, Limits.THOUSANDTHS, 0, 1, rng.randint(0, Limits.THOUSANDTHS))) * 10 ** extra
+        number = decimal(rng, max(0, size + rng.choice((-1, 0, 1, half - 1, half, half + 1, -half, -half - 1))), -3 - extra)
+    else:
+        digits = ''.join(rng.choice('00123456789') for _ in range(rng.choice((1, 2, 3, 8, 17, 18, 19, 20))))
+        point = rng.choice((None, None, 0, rng.randint(0, len(digits))))
+        number = digits if point is None else digits[:point] + '.' + digits[point:]
+        if rng.random() < .7:
+            number += rng.choice('eE') + rng.choice(('', '+', '-')) + str(rng.randint(0, 99)).rjust(rng.choice((1, 1, 1, 2, 3)), '0')
+    return b'A', ('5,' + ',' * rng.randint(0, 2) + rng.choice(('', '', '+', '-')) + number).encode()
+
+def utf8_label(rng):
+    """Texts whose bytes lie at and around the borders of Table 3-7."""
+    text = b''.join(character(rng).encode() for _ in range(rng.randint(0, 3)))
+    for _ in range(rng.randint(1, 3)):
+        row = rng.choice(labels.TABLE_3_7)
+        piece = bytearray(rng.choice((low, high, rng.randint(low, high))) for low, high in row)
+        if rng.random() < .4:
+            at = rng.randrange(len(row))
+            piece[at] = rng.choice((row[at][0] - 1 & 0xFF, row[at][1] + 1 & 0xFF, rng.randrange(256)))
+        text += piece[:rng.randint(0, len(piece))] if rng.random() < .2 else piece
+    if rng.random() < .2:
+        text += rng.choice(NOT_XML).encode()
+    return (text if rng.random() < .9 else b'{}' + text), rng.choice((b'', b'', b'5', b'(2)9', b'(3)9'))
+
+def large_label(rng):
+    """About as many bytes, units, entries or glyphs as the limits allow, or one more."""
+    kind, count = rng.randrange(8), rng.choice((4095, 4096, 4097))
+    if kind == 0:
+        return ((rng.choice(('', '{}')) + character(rng) * count).encode(),
+                rng.choice((b'', b'5', b'(%d)5' % count, b'(2)5;;(1:2)6;7')))
+    if kind == 1:
+        return rng.choice((b'', b'{}', b'A', b'A' * count)), b';'.join([rng.choice(GOOD_ENTRIES)] * count)
+    if kind == 2:
+        return rng.choice((b'A', b'AB')), b'(1:%d)5' % count + b';6' * (count + rng.randint(-2, 1))
+    if kind == 3:
+        return (rng.choice((b'A', b'{', THAI.encode(), b'\xff')) * 16385)[:Limits.TEXT_BYTES + rng.randrange(2)], b'5'
+    if kind == 4:
+        size = Limits.INDICES_BYTES + rng.randrange(2)
+        return (rng.choice((b'', b'A', b'\xff')),
+                rng.choice((b'0' * (size - 1) + b'5', b';' * size, (b'5;' * size)[:size], b'5,.' + b'0' * (size - 3))))
+    if kind == 5:
+        return rng.choice((b'', b'A' * 4096)), b';'.join([b'5'] * rng.randint(4000, 9000) + [rng.choice(BAD_ENTRIES)])
+    run = large_run(rng) if kind == 6 else None
+    return spelled_label(rng, run if run and labels.sound(*run) else sound_run(rng, rng.randint(50, 600)))
+
+# ---- Picks, faults, buffer sizes ---------------------------------------------------------------------
+
+def pick_case(rng):
+    """(run, first, end): borders of clusters, both sides of the end, empty and reversed."""
+    run, side = sound_run(rng) if rng.random() < .85 else nearly_run(rng), rng.randrange(2)
+    count, borders = (len(run[0]), len(run[2]) // 4)[side], [0]
+    for number in run[1][side::2]:
+        borders.append(max(0, borders[-1] + number))
+    first, end = sorted((rng.choice(borders), rng.choice(borders)))
+    r = rng.random()
+    if r < .4:
+        first, end = first + rng.choice((-1, 0, 1)), end + rng.choice((-1, 0, 1))
+    elif r < .6:
+        first, end = rng.randint(0, count), rng.randint(0, count + 1)
+    elif r < .7:
+        first, end = 0, count
+    elif r < .8:
+        ends = (0, 1, count - 1, count, count + 1, 2 ** 31, 2 ** 32 - 1, 2 ** 32, 2 ** 32 + 1, 2 ** 63, SIZE_MAX)
+        first, end = rng.choice(ends), rng.choice(ends)
+    return run, max(0, first), max(0, end)
+
+def fault_case(rng):
+    """(text, indices, number, place): every number, places around every edge."""
+    text, indices = rng.choice((valid_label, damaged_label, mixed_label, mixed_label))(rng)
+    answer = labels.read(text, indices)
+    if answer[0] == 'no' and rng.random() < .4:
+        return text, indices, *answer[1:]
+    r, entries = rng.random(), len(labels.split_entries(indices))
+    number = rng.choice((2, 3, 4, 7, 8, 9, 10, 11, 12, 14)) if r < .6 else rng.randint(0, 40)
+    if r > .97:
+        number = rng.choice((2 ** 32 - 1, 2 ** 32 - 2, 258, 263, 65538))
+    place = rng.choice((0, 1, len(text) - 1, len(text), len(text) + 1, entries - 1, entries, entries + 1, len(indices),
+                        rng.randint(0, 20), 2 ** 31, 2 ** 32, 2 ** 32 + 1, SIZE_MAX))
+    return text, indices, number, max(0, place)
+
+def around(rng, needed, step):
+    """A buffer size in bytes: exact, roomy or too short for `needed` bytes in places of `step` bytes."""
+    r = rng.random()
+    if r < .6:
+        return needed
+    if r < .82:
+        return needed + (rng.randint(1, step + 1) if r < .75 else rng.randint(0, 64))
+    return max(0, needed - (1 if r < .9 else step if r < .95 else rng.randint(1, 2 * step) if r < .98 else needed))
+
+# ---- Kinds, with their weights -----------------------------------------------------------------------
+
+LABEL_KINDS = {'valid': (30, valid_label), 'damaged': (25, damaged_label), 'mixed': (30, mixed_label), 'numbers': (8, number_label),
+               'utf8': (7, utf8_label), 'large': (.05, large_label)}
+RUN_KINDS = {'sound': (15, sound_run), 'nearly': (30, nearly_run), 'random': (10, random_run), 'large-runs': (.05, large_run)}
+PICK_KINDS = {'picks': (25, pick_case)}
+FAULT_KINDS = {'faults': (20, fault_case)}
+
+def chooser(rng, kinds):
+    """A function that draws (name of the kind, case) by weight."""
+    names, weights = list(kinds), []
+    for weight, _ in kinds.values():
+        weights.append(weight + (weights[-1] if weights else 0))
+
+    def draw():
+        name = rng.choices(names, cum_weights=weights)[0]
+        return name, kinds[name][1](rng)
+    return draw

@@ -4,19 +4,36 @@ ghost use mathlib.Core.Bool.{true, false};
 ghost use Prim.Native.Nat.{ℕ, _+_, _-_, _*_, _^_, _≤_, _<_};
 ghost use lib.ListN.{length, getD, take, drop};
 ghost use Rattle.label.specs.Outcome.{ok};
-ghost use Rattle.label.specs.Text.{within, lead, trail, starts, scalar, xmlChar, decode};
+ghost use Rattle.label.specs.Text.{within, lead, trail, starts, scalar, xmlChar, isHigh, isLow, decode};
 ghost use Rattle.text.specs.Chars.{charAt, counted};
 ghost use Rattle.text.specs.Moves.{unitsFrom, Moves};
 use label::Row;
+
+// A high half or a low half of a pair.
+pub fn is_high(u: u16) -> bool
+    ensures { λ r. ⌜ r ≡ isHigh u ⌝ }
+{
+    words::both(0xd800 <= u, u <= 0xdbff)
+}
+
+pub fn is_low(u: u16) -> bool
+    ensures { λ r. ⌜ r ≡ isLow u ⌝ }
+{
+    words::both(0xdc00 <= u, u <= 0xdfff)
+}
+
+// A unit, or 0 past the end.
+pub fn unit_or_zero(us: &[u16], i: usize) -> u16
+    ensures { λ r. ⌜ r ≡ getD (now (us .entry)) i 0 ⌝ }
+{
+    if i < us.len() { us[i] } else { 0 }
+}
 
 // lo <= b <= hi
 fn is_within(lo: u8, hi: u8, b: u8) -> bool
     ensures { λ r. ⌜ r ≡ within lo hi b ⌝ }
 {
-    if b < lo {
-        return false;
-    }
-    b <= hi
+    words::both(lo <= b, b <= hi)
 }
 
 fn row(more: usize, lo: u8, hi: u8) -> Row
