@@ -27,25 +27,24 @@ def row(text, indices, answer):
     return json.dumps({'text': text.hex(), 'indices': indices.hex(), 'answer': said})
 
 def rows(seed, count):
-    """Distinct rows; what one refusal leaves over of its share goes to the accepted labels."""
+    """Distinct rows, as many of each outcome as its share."""
     rng = Random(seed)
-    share = {number: -(-2 * count // (3 * len(REACHED))) for number in REACHED}
+    share = {number: max(1, 2 * count // (3 * len(REACHED))) for number in REACHED}
+    share[6] = min(share[6], 2)                             # `` and `{}` are all there are
+    share['ok'] = max(0, count - sum(share.values()))
     fixed = [label for label in edges.label_edges() if sum(map(len, label)) < BYTES]
     rng.shuffle(fixed)
     draw = generate.chooser(rng, {kind: made for kind, made in generate.LABEL_KINDS.items() if kind != 'large'})
-    seen, made, share['ok'] = set(), 0, count
-    for label in itertools.chain(fixed, (draw()[1] for _ in range(200 * count))):
+    seen = set()
+    for label in itertools.chain(fixed, (draw()[1] for _ in itertools.count())):
+        if len(seen) == count:
+            return
         answer = labels.read(*label)
         outcome = answer[1] if answer[0] == 'no' else 'ok'
-        owed = sum(left for number, left in share.items() if number != 'ok')
-        if sum(map(len, label)) >= BYTES or label in seen or share[outcome] == 0 or outcome == 'ok' and owed + made >= count:
-            continue
-        seen.add(label)
-        share[outcome] -= 1
-        made += 1
-        yield row(*label, answer)
-        if made == count:
-            return
+        if sum(map(len, label)) < BYTES and label not in seen and share[outcome]:
+            seen.add(label)
+            share[outcome] -= 1
+            yield row(*label, answer)
 
 if __name__ == '__main__':
     parser = argparse.ArgumentParser()
