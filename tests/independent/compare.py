@@ -6,12 +6,13 @@
 
     --seed N --count N            which random cases, and how many
     --kinds edges,valid,..        only these kinds; `edges` are the fixed cases, all made before the random ones
-                                  (relabel: drawn among them)
+                                  (relabel: the papers' slips, then some of the others)
     --trace                       prints each case before it is tried, to find one that ends the process
 """
 
 import argparse
 import ctypes
+import itertools
 import struct
 import subprocess
 import sys
@@ -36,7 +37,7 @@ class Report:
             print(case, file=sys.stderr, flush=True)
 
     def differ(self, **case):
-        self.differences.append('\n'.join(f'  {name}: {shown(value)}' for name, value in case.items()))
+        self.differences.append('\n'.join(f'  {name}: {shown(value)}' for name, value in case.items() if value not in (None, ())))
 
     def finished(self):
         return len(self.differences) >= 10
@@ -76,10 +77,16 @@ def run_program(path, stdin):
         return (late.stdout or b''), 'no end within 120 s'
     return done.stdout, f'ended by signal {-done.returncode}; {done.stderr!r}' if done.returncode < 0 else None
 
+def random_cases(rng, count, kinds):
+    """(kind, case) of the kinds other than `edges`."""
+    kinds = {kind: made for kind, made in kinds.items() if kind != 'edges'}
+    draw = generate.chooser(rng, kinds)
+    return (draw() for _ in range(count if kinds else 0))
+
 def relabel_mode(path, rng, count, kinds, report):
     draw = generate.chooser(rng, kinds)
-    for _ in range(count):
-        kind, (text, indices) = draw()
+    cases = [('edges', label) for label in edges.slips()] if 'edges' in kinds else []
+    for kind, (text, indices) in itertools.chain(cases, (draw() for _ in range(count))):
         stdin = text + b'\n' + indices + rng.choice((b'\n',) * 9 + (b'', b'\nthird', b'\n\n\n', b'\n5\n6'))
         if rng.random() < .03:
             stdin = rng.choice((b'', b'\n', b'\n\n', text, text + b'\n', stdin.replace(b'\n', b'\r\n')))
@@ -93,14 +100,6 @@ def relabel_mode(path, rng, count, kinds, report):
                 return
 
 def trials_mode(path, rng, count, kinds, report):
-    def cases():
-        if 'edges' in kinds:
-            yield from (('edges', label) for label in edges.label_edges())
-        random_kinds = {kind: made for kind, made in kinds.items() if kind != 'edges'}
-        if random_kinds:
-            draw = generate.chooser(rng, random_kinds)
-            yield from (draw() for _ in range(count))
-
     def compare(batch):
         stdin = b''.join(text + b'\n' + indices + b'\n' for _, text, indices in batch)
         report.announce(batch=stdin)
@@ -109,13 +108,14 @@ def trials_mode(path, rng, count, kinds, report):
             expected = labels.relabel(text + b'\n' + indices + b'\n')
             report.count('trials', answer_of(expected))
             if not got.startswith(expected):
-                return report.differ(kind=kind, text=text, indices=indices, expected=expected, got=got[:len(expected) + 200], trouble=trouble)
+                return report.differ(kind=kind, text=text, indices=indices, expected=expected, got=got[:len(expected) + 40], trouble=trouble)
             got = got[len(expected):]
         if got or trouble:
             report.differ(batch=stdin, behind_the_last_answer=got, trouble=trouble)
 
     batch, size = [], 0
-    for kind, (text, indices) in cases():
+    fixed = [('edges', label) for label in edges.label_edges()] if 'edges' in kinds else []
+    for kind, (text, indices) in itertools.chain(fixed, random_cases(rng, count, kinds)):
         if b'\n' in text or b'\n' in indices:
             continue
         if len(batch) == 200 or size + len(text) + len(indices) > 900_000:
@@ -208,12 +208,13 @@ class Archive:
         slices += [lent[which].room(size) for which, (size, _) in outputs.items()]
         self.report.announce(call=name, **inputs, sizes=[length for _, length in slices], extra=extra)
         result = self.functions[name](*(argument for one in slices for argument in one), *extra)
-        got = tuple(getattr(result, field) for field, _ in result._fields_)
+        fields = [field for field, _ in result._fields_]
+        got = tuple(getattr(result, field) for field in fields)
         after = {which: outputs[which][1] if which in outputs else b'' for which in lent}
         if got != expected or not all(lent[which].holds(after[which]) for which in lent):
             changed = {key: value for which in lent for key, value in lent[which].difference(which, after[which]).items()}
             self.report.differ(call=name, **inputs, sizes={which: size for which, (size, _) in outputs.items()}, extra=extra,
-                               expected=expected, got=got, **changed)
+                               expected=dict(zip(fields, expected)), got=dict(zip(fields, got)), **changed)
 
     def read(self, text, indices, answer, sizes):
         """The reader, with buffers of these sizes in bytes."""
@@ -288,7 +289,11 @@ class Archive:
                 self.pick('glyphs_of', run, first, end)
 
     def case(self, kind, case):
-        if kind in generate.LABEL_KINDS:
+        if kind == 'label edge':
+            self.label_edge(*case)
+        elif kind == 'run edge':
+            self.run_edge(case)
+        elif kind in generate.LABEL_KINDS:
             answer = labels.read(*case)
             self.read_around(*case, answer)
             if answer[0] == 'ok' and self.rng.random() < .2:
@@ -315,15 +320,11 @@ def as_numbers(run):
 
 def archive_mode(path, rng, count, kinds, report):
     archive = Archive(path, rng, report)
+    fixed = []
     if 'edges' in kinds:
-        for text, indices in edges.label_edges():
-            archive.label_edge(text, indices)
-        for run in edges.run_edges():
-            archive.run_edge(run)
-    random_kinds = {kind: made for kind, made in kinds.items() if kind != 'edges'}
-    draw = generate.chooser(rng, random_kinds)
-    for _ in range(count if random_kinds else 0):
-        archive.case(*draw())
+        fixed = itertools.chain((('label edge', label) for label in edges.label_edges()), (('run edge', run) for run in edges.run_edges()))
+    for kind, case in itertools.chain(fixed, random_cases(rng, count, kinds)):
+        archive.case(kind, case)
         if report.finished():
             return
 
