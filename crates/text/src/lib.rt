@@ -7,6 +7,8 @@ ghost use Rattle.label.specs.Outcome.{ok};
 ghost use Rattle.label.specs.Text.{within, lead, trail, starts, scalar, xmlChar, isHigh, isLow, decode};
 ghost use Rattle.text.specs.Chars.{charAt, counted};
 ghost use Rattle.text.specs.Moves.{unitsFrom, Moves};
+ghost use Rattle.text.specs.Units.{unitOk, nextHalf};
+ghost use Rattle.label.specs.Sound.{properUnits};
 use label::Row;
 
 // A high half or a low half of a pair.
@@ -271,4 +273,40 @@ pub fn move_past(s: &[u8], at: usize, count: usize) -> Moved
         }
     }
     Moved::To(b)
+}
+
+// ── the units of a run ──
+
+// A unit may stand behind a high half, or where no high half is before it.
+fn unit_ok(half: bool, u: u16) -> bool
+    ensures { λ r. ⌜ r ≡ unitOk half u ⌝ }
+{
+    if half {
+        is_low(u)
+    } else {
+        words::either(is_high(u), is_xml(u as u32))
+    }
+}
+
+// Whether the unit behind u has to be a low half.
+fn next_half(half: bool, u: u16) -> bool
+    ensures { λ r. ⌜ r ≡ nextHalf half u ⌝ }
+{
+    if half { false } else { is_high(u) }
+}
+
+// The units are well-formed XML characters.
+pub fn proper_units(us: &[u16]) -> bool
+    ensures { λ r. ⌜ r ≡ properUnits false (now (us .entry)) ⌝ }
+{
+    let mut half = false;
+    let mut i = 0;
+    while i < us.len() {
+        if !unit_ok(half, us[i]) {
+            return false;
+        }
+        half = next_half(half, us[i]);
+        i += 1;
+    }
+    !half
 }
