@@ -1,37 +1,27 @@
--- The laws of the soundness tests' loops: what a test says at a place, and how a turn goes on. Assumes nothing.
-use mathlib.Core.Path.{_≡_, refl, sym, ap, _∙_, subst}
-use mathlib.Core.Bool.{Bool, true, false, cond, not, _&&_, _||_}
-use mathlib.Core.List.{List, [], _∷_, _++_}
-use Prim.Native.Nat.{ℕ, zero, suc, _+_, _-_, _*_, _/_, _<_, _≤_}
-use native.Mathlib.Nat.{add-zero}
-use native.Mathlib.Numerals.{add-one}
+-- The laws of the soundness test: the whole test in the order of the code, and what a turn of its loop finds at a place of the three lists.
+-- Assumes nothing.
+use mathlib.Core.Path.{_≡_, refl, sym, ap, _∙_}
+use mathlib.Core.Bool.{Bool, true, false, not, _&&_}
+use mathlib.Core.List.{List, [], _∷_}
+use Prim.Native.Nat.{ℕ, zero, suc, _+_, _-_, _/_, _<_, _≤_}
 use native.Mathlib.Omega.{arith}
-use borrow.Author.Tests.{le-leb, lt-leb, lt-ltb, le-ltb, eq-eqb, ne-eqb, leb-true, ltb-true, ltb-false, eqb-true, eqb-false, not-true, not-false}
+use borrow.Author.Tests.{eq-eqb, ne-eqb, leb-true, ltb-true, ltb-false, eqb-true, eqb-false, not-false}
 use lib.Dec.{leb, ltb, eqb}
 use lib.IntN.{ℤ, pos, negsuc}
-use lib.ListN.{length, getD, drop, length-drop}
-use lib.Seq.{drop-drop, getD-drop, drop-cons}
+use lib.ListN.{length, drop, length-drop}
+use lib.Seq.{drop-drop, getD-drop}
 use Rattle.label.specs.Limits.{maxUnits, maxGlyphs, maxIndex, maxThousandths}
 use Rattle.label.specs.Bytes.{empty}
-use Rattle.label.specs.Text.{isLow, isHigh, xmlChar}
-use Rattle.label.specs.Run.{Run, named, whole, cluster}
+use Rattle.label.specs.Run.{named, whole, cluster}
 use Rattle.label.specs.Sound.{nat, natural, indexFits, advanceFits, numberIndex, numberAdvance, glyphFits, mayOpen, wholeClusters, wholeGlyphs, properUnits, fits, clustersOf, glyphsOf, soundRun, sound}
 use Rattle.label.specs.declared.Glyph.{Glyph}
 use Rattle.label.specs.declared.Cluster.{Cluster}
 use Rattle.label.proofs.Basics.{and-l, and-r, cases}
-use Rattle.sound.specs.Sounds.{glyphAt, clusterAt, unitOk, nextHalf, opensAt}
+use Rattle.sound.specs.Sounds.{glyphAt, clusterAt, opensAt}
 use Rattle.words.specs.Places.{place}
 use Rattle.words.proofs.Signs.{named-is}
+use Rattle.text.proofs.Units.{stops, goes}
 use Rattle.sound.proofs.Parts.{glyphs-at, glyphs-end, clusters-at, clusters-end, glyph-count}
-
--- ── a turn: the whole is what is here, which is a test and what follows; x is the code's flag of the test ──
-
-module _ {w h x : Bool} (t n : Bool) (p : w ≡ h) (q : h ≡ (t && n)) (e : x ≡ t) where
-  pub stops : not x ≡ true → false ≡ w
-  stops k = sym (p ∙ q ∙ ap (λ (b : Bool). b && n) (sym e ∙ not-true x k))
-
-  pub goes : not x ≡ false → w ≡ n
-  goes k = p ∙ q ∙ ap (λ (b : Bool). b && n) (sym e ∙ not-false x k)
 
 pub sub-zero-is : (n i : ℕ) → i ≤ n → eqb i n ≡ eqb (n - i) 0
 sub-zero-is n i h = cases (eqb i n) (λ e. let z = eqb-true i n e in e ∙ sym (eq-eqb (n - i) 0 (omega arith))) (λ e. e ∙ sym (ne-eqb (n - i) 0 (λ d. eqb-false i n e (omega arith))))
@@ -48,27 +38,6 @@ index-fits (negsuc n) = refl
 pub advance-fits : (z : ℤ) → leb (nat z) maxThousandths ≡ advanceFits (numberAdvance z)
 advance-fits (pos n) = refl
 advance-fits (negsuc n) = refl
-
--- ── units ──
-
-proper-cons : (half : Bool) (u : ℕ) (l : List ℕ) → u < 65536 → properUnits half (u ∷ l) ≡ (unitOk half u && properUnits (nextHalf half u) l)
-unfolding properUnits unitOk nextHalf
-proper-cons true u l h = refl
-proper-cons false u l h = rw (le-leb u 65535 (omega arith))
-
-pub proper-at : (half : Bool) (us : List ℕ) (i : ℕ) → i < length us → getD us i 0 < 65536
-    → properUnits half (drop i us) ≡ (unitOk half (getD us i 0) && properUnits (nextHalf half (getD us i 0)) (drop (i + 1) us))
-proper-at half us i h f = rw (add-one, drop-cons us i 0) (proper-cons half (getD us i 0) (drop (suc i) us) f)
-
-pub drop-end : {A : Type 0} (i : ℕ) (l : List A) → length l ≤ i → drop i l ≡ []
-drop-end zero [] h = refl
-drop-end zero (x ∷ l) h = absurd (omega arith)
-drop-end (suc i) [] h = refl
-drop-end (suc i) (x ∷ l) h = drop-end i l (omega arith)
-
-pub proper-end : (half : Bool) (us : List ℕ) (i : ℕ) → length us ≤ i → properUnits half (drop i us) ≡ not half
-unfolding properUnits
-proper-end half us i h = rw (drop-end i us h, properUnits)
 
 -- ── clusters and glyphs ──
 
@@ -121,9 +90,9 @@ module _ (bare : Bool) (us : List ℕ) (cs gs : List ℤ) (lack at i k : ℕ) wh
   unfolding fitsAt fits clusterAt
   fits-opens h l e = rw (glyphs-at gs k h, clusters-at cs i e, l, fits, opens-is, drop-drop)
 
-  pub fits-immodest : 4 ≤ length gs - k → glyphFits g ≡ false → here ≡ false
+  pub fits-unfit : 4 ≤ length gs - k → glyphFits g ≡ false → here ≡ false
   unfolding fitsAt fits
-  fits-immodest h m = by lack (clustersOf (drop i cs)) refl refl
+  fits-unfit h m = by lack (clustersOf (drop i cs)) refl refl
     where
       by : (n : ℕ) (l : List Cluster) → lack ≡ n → clustersOf (drop i cs) ≡ l → here ≡ false
       by (suc n) l e f = rw (glyphs-at gs k h, e, fits, m)
@@ -166,44 +135,43 @@ regroup true false p k l m f = refl
 regroup false b p k l m f = refl
 
 module _ (us : List ℕ) (cs gs : List ℤ) where
-  abbrev pub moderate : Bool
-  moderate = leb (length us) maxUnits && leb (length gs / 4) maxGlyphs && not (eqb (length us) 0 && eqb (length gs / 4) 0)
+  abbrev pub limited : Bool
+  limited = leb (length us) maxUnits && leb (length gs / 4) maxGlyphs && not (eqb (length us) 0 && eqb (length gs / 4) 0)
 
-  abbrev pub filled : Bool
-  filled = fits (empty us) 0 us (clustersOf cs) (glyphsOf gs)
+  abbrev pub fitting : Bool
+  fitting = fits (empty us) 0 us (clustersOf cs) (glyphsOf gs)
 
-  pub sound-is : sound us cs gs ≡ (wholeClusters cs && (wholeGlyphs gs && (properUnits false us && (moderate && filled))))
+  pub sound-is : sound us cs gs ≡ (wholeClusters cs && (wholeGlyphs gs && (properUnits false us && (limited && fitting))))
   unfolding sound soundRun
   sound-is =
-      regroup (wholeClusters cs) (wholeGlyphs gs) (properUnits false us) (leb (length us) maxUnits) (leb (length (glyphsOf gs)) maxGlyphs) (not (empty us && empty (glyphsOf gs))) filled
+      regroup (wholeClusters cs) (wholeGlyphs gs) (properUnits false us) (leb (length us) maxUnits) (leb (length (glyphsOf gs)) maxGlyphs) (not (empty us && empty (glyphsOf gs))) fitting
       ∙ rw (empty-is (glyphsOf gs), glyph-count gs)
-        (ap (λ (b : Bool). wholeClusters cs && (wholeGlyphs gs && (properUnits false us && ((leb (length us) maxUnits && leb (length gs / 4) maxGlyphs && not (b && eqb (length gs / 4) 0)) && filled)))) (empty-is us))
-
+      (ap (λ (b : Bool). wholeClusters cs && (wholeGlyphs gs && (properUnits false us && ((leb (length us) maxUnits && leb (length gs / 4) maxGlyphs && not (b && eqb (length gs / 4) 0)) && fitting)))) (empty-is us))
 
   module _ {a : Bool} (ea : a ≡ wholeClusters cs) where
     pub unsound-1 : not a ≡ true → false ≡ sound us cs gs
     unsound-1 k = stops _ _ refl sound-is ea k
 
     module _ (ka : not a ≡ false) {b : Bool} (eb : b ≡ wholeGlyphs gs) where
-      sound-2 : sound us cs gs ≡ (wholeGlyphs gs && (properUnits false us && (moderate && filled)))
+      sound-2 : sound us cs gs ≡ (wholeGlyphs gs && (properUnits false us && (limited && fitting)))
       sound-2 = goes _ _ refl sound-is ea ka
 
       pub unsound-2 : not b ≡ true → false ≡ sound us cs gs
       unsound-2 k = stops _ _ sound-2 refl eb k
 
       module _ (kb : not b ≡ false) {d : Bool} (ed : d ≡ properUnits false us) where
-        sound-3 : sound us cs gs ≡ (properUnits false us && (moderate && filled))
+        sound-3 : sound us cs gs ≡ (properUnits false us && (limited && fitting))
         sound-3 = goes _ _ sound-2 refl eb kb
 
         pub unsound-3 : not d ≡ true → false ≡ sound us cs gs
         unsound-3 k = stops _ _ sound-3 refl ed k
 
-        module _ (kd : not d ≡ false) {e : Bool} (ee : e ≡ moderate) where
-          sound-4 : sound us cs gs ≡ (moderate && filled)
+        module _ (kd : not d ≡ false) {e : Bool} (ee : e ≡ limited) where
+          sound-4 : sound us cs gs ≡ (limited && fitting)
           sound-4 = goes _ _ sound-3 refl ed kd
 
           pub unsound-4 : not e ≡ true → false ≡ sound us cs gs
           unsound-4 k = stops _ _ sound-4 refl ee k
 
-          pub sound-5 : not e ≡ false → sound us cs gs ≡ filled
+          pub sound-5 : not e ≡ false → sound us cs gs ≡ fitting
           sound-5 k = goes _ _ sound-4 refl ee k

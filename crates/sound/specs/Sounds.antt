@@ -1,12 +1,12 @@
 -- The soundness test as the code takes it: at places of the three lists of numbers.
 -- Assumes nothing.
 use Prim.Native.Nat.{ℕ, _+_, _-_}
-use mathlib.Core.Bool.{Bool, false, cond, not, _&&_, _||_}
+use mathlib.Core.Bool.{Bool, cond, not, _&&_, _||_}
 use mathlib.Core.List.{List}
 use lib.Dec.{leb, eqb}
 use lib.IntN.{ℤ}
 use lib.ListN.{length, getD}
-use Rattle.label.specs.Text.{isLow, isHigh, xmlChar}
+use Rattle.label.specs.Text.{isLow}
 use Rattle.label.specs.Run.{cluster}
 use Rattle.label.specs.Sound.{numberIndex, numberAdvance, nat}
 use Rattle.label.specs.declared.Glyph.{Glyph}
@@ -20,13 +20,6 @@ glyphAt s k = record { index = numberIndex (place s k); advance = numberAdvance 
 -- the cluster whose two numbers begin at place i
 unfoldable pub clusterAt : List ℤ → ℕ → Cluster
 clusterAt s i = cluster (nat (place s i)) (nat (place s (i + 1)))
-
--- a unit may stand here, and whether the next one has to be a low half
-unfoldable pub unitOk : Bool → ℕ → Bool
-unitOk half u = cond half (isLow u) (isHigh u || xmlChar u)
-
-unfoldable pub nextHalf : Bool → ℕ → Bool
-nextHalf half u = cond half false (isHigh u)
 
 -- a cluster of a units and b glyphs may stand from unit `at` on; `bare`: the run has no units, `n`: the cluster's first glyph names an index
 unfoldable pub opensAt : Bool → List ℕ → ℕ → ℕ → ℕ → Bool → Bool

@@ -1,47 +1,13 @@
 // Whether the numbers of three buffers are a sound run: one that some accepted label reads as.
 ghost use mathlib.Core.Path.{_≡_};
-ghost use mathlib.Core.Bool.{false};
 ghost use Prim.Native.Nat.{_+_, _<_, _≤_};
 ghost use lib.Dec.{leb};
 ghost use lib.ListN.{length};
 ghost use Rattle.label.specs.Limits.{maxThousandths};
 ghost use Rattle.label.specs.Bytes.{empty};
-ghost use Rattle.label.specs.Sound.{size, indexFits, advanceFits, glyphFits, numberIndex, numberAdvance, wholeClusters, wholeGlyphs, properUnits, fits, clustersOf, glyphsOf, sound};
+ghost use Rattle.label.specs.Sound.{size, indexFits, advanceFits, glyphFits, numberIndex, numberAdvance, wholeClusters, wholeGlyphs, fits, clustersOf, glyphsOf, sound};
 ghost use Rattle.words.specs.Places.{place};
-ghost use Rattle.sound.specs.Sounds.{glyphAt, opensAt, unitOk, nextHalf};
-
-// ── units ──
-
-fn unit_ok(half: bool, u: u16) -> bool
-    ensures { λ r. ⌜ r ≡ unitOk half u ⌝ }
-{
-    if half {
-        text::is_low(u)
-    } else {
-        words::either(text::is_high(u), text::is_xml(u as u32))
-    }
-}
-
-fn next_half(half: bool, u: u16) -> bool
-    ensures { λ r. ⌜ r ≡ nextHalf half u ⌝ }
-{
-    if half { false } else { text::is_high(u) }
-}
-
-fn proper_units(us: &[u16]) -> bool
-    ensures { λ r. ⌜ r ≡ properUnits false (now (us .entry)) ⌝ }
-{
-    let mut half = false;
-    let mut i = 0;
-    while i < us.len() {
-        if !unit_ok(half, us[i]) {
-            return false;
-        }
-        half = next_half(half, us[i]);
-        i += 1;
-    }
-    !half
-}
+ghost use Rattle.sound.specs.Sounds.{glyphAt, opensAt};
 
 // ── the numbers of a glyph, from place k on ──
 
@@ -122,7 +88,10 @@ fn opens_at(bare: bool, us: &[u16], at: usize, a: usize, b: usize, named: bool) 
     let counts = words::both(1 <= a, 1 <= b);
     let split = text::is_low(text::unit_or_zero(us, at + a));
     let index = words::either(named, words::both(a == 1, b == 1));
-    words::both(words::both(words::both(counts, a <= us.len() - at), !split), index)
+    words::both(
+        words::both(words::both(counts, a <= us.len() - at), !split),
+        index,
+    )
 }
 
 // Whether the clusters use up the units and the glyphs, and each glyph keeps the limits. `lack`: glyphs that the open cluster still lacks.
@@ -173,11 +142,14 @@ pub fn is_sound(units: &[u16], clusters: &[i32], glyphs: &[i32]) -> bool
     if !whole_glyphs(glyphs) {
         return false;
     }
-    if !proper_units(units) {
+    if !text::proper_units(units) {
         return false;
     }
     let count = glyphs.len() / 4;
-    let few = words::both(units.len() <= label::Limits::UNITS, count <= label::Limits::GLYPHS);
+    let few = words::both(
+        units.len() <= label::Limits::UNITS,
+        count <= label::Limits::GLYPHS,
+    );
     let empty = words::both(units.len() == 0, count == 0);
     if !words::both(few, !empty) {
         return false;

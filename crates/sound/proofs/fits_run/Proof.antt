@@ -8,18 +8,10 @@ use lib.IntN.{pos}
 use Rattle.label.specs.Bytes.{empty}
 use Rattle.label.specs.Sound.{nat, fits, clustersOf, glyphsOf}
 use borrow.Author.Tests.{not-true, not-false}
-use Rattle.sound.proofs.Sounds.{stops, goes, fitsAt, empty-is, fits-further, fits-none, fits-opens, fits-immodest, fits-end, opens-within, flagged, opened}
+use Rattle.text.proofs.Units.{stops, goes}
+use Rattle.sound.proofs.Sounds.{fitsAt, empty-is, fits-further, fits-none, fits-opens, fits-unfit, fits-end, opens-within, flagged, opened}
 use Rattle.sound.proofs.fits_run.Statement.{statement}
 use Rattle.sound.proofs.fits_run.Tie as tie
-use Rattle.sound.proofs.fits_run.Reads as reads
-use Rattle.sound.proofs.fits_run.Lts as lts
-use Rattle.sound.proofs.glyph_fits_at.Reads as glyph-fits-at-reads
-use Rattle.sound.proofs.opens_at.Reads as opens-at-reads
-use Rattle.words.proofs.both.Reads as both-reads
-use Rattle.words.proofs.less_one.Reads as less-one-reads
-use Rattle.words.proofs.nat_at.Reads as nat-at-reads
-use Rattle.words.proofs.natural_at.Reads as natural-at-reads
-use Rattle.words.proofs.widened.Reads as widened-reads
 
 abbrev Inv-loop : tie.InvT-loop
 Inv-loop us cs gs bare lack₀ at₀ i₀ k₀ lack at i k =
@@ -28,37 +20,30 @@ Inv-loop us cs gs bare lack₀ at₀ i₀ k₀ lack at i k =
 abbrev μ-loop : tie.MeasureT-loop
 μ-loop us cs gs bare lack₀ at₀ i₀ k₀ lack at i k = length gs - k
 
--- src/lib.rt:137:5
 loop-holds : tie.Need-loop-holds Inv-loop μ-loop
 unfolding fitsAt
 loop-holds c = (search needs, search needs, search needs, rw (empty-is (c .before .args .us .now)))
 
--- src/lib.rt:137:16
 sub-loop : tie.Need-sub-loop Inv-loop μ-loop
 sub-loop c = search needs
 
--- src/lib.rt:138:13
 glyph-fits-at-requires : tie.Need-glyph-fits-at-requires Inv-loop μ-loop
 glyph-fits-at-requires c κs = search needs
 
--- src/lib.rt:139:13
 returns : tie.Need-returns Inv-loop μ-loop
 returns c =
     let us = c .before .before .before .before .before .args .us .now in
     let cs = c .before .before .before .before .before .args .cs .now in
     let gs = c .before .before .before .before .before .args .gs .now in
     let l = c .before .before .before .loop in
-    sym (l .inv .3 ∙ fits-immodest (eqb (length us) 0) us cs gs (l .lack) (l .at) (l .i) (l .k) (c .before .before .loop-test .taken) (sym (c .before .glyph-fits-at .ensures) ∙ not-true _ (c .if1 .taken)))
+    sym (l .inv .3 ∙ fits-unfit (eqb (length us) 0) us cs gs (l .lack) (l .at) (l .i) (l .k) (c .before .before .loop-test .taken) (sym (c .before .glyph-fits-at .ensures) ∙ not-true _ (c .if1 .taken)))
 
--- src/lib.rt:141:13
 natural-at-requires : tie.Need-natural-at-requires Inv-loop μ-loop
 natural-at-requires c κs = search needs
 
--- src/lib.rt:142:9
 add-k : tie.Need-add-k Inv-loop μ-loop
 add-k c = search needs
 
--- src/lib.rt:145:17
 returns-2 : tie.Need-returns-2 Inv-loop μ-loop
 returns-2 c =
     let us = c .before .before .before .before .before .before .before .before .args .us .now in
@@ -70,36 +55,30 @@ returns-2 c =
     (flagged gs (l .k) (c .before .before .before .before .glyph-fits-at .ensures) (c .before .before .before .if1 .left) (c .before .before .natural-at .ensures))
     (c .if3 .taken)
 
--- src/lib.rt:147:13
 sub-lack : tie.Need-sub-lack Inv-loop μ-loop
 sub-lack c = search needs
 
--- src/lib.rt:137:5
 loop-less : tie.Need-loop-less Inv-loop μ-loop
 loop-less c = search needs
 
--- src/lib.rt:137:5
 loop-again : tie.Need-loop-again Inv-loop μ-loop
 loop-again c =
     let us = c .before .before .before .before .before .before .before .before .args .us .now in
     let cs = c .before .before .before .before .before .before .before .before .args .cs .now in
     let gs = c .before .before .before .before .before .before .before .before .args .gs .now in
-    let l = c .before .before .before .before .before .before .loop in
-    (
+    let l = c .before .before .before .before .before .before .loop in (
       omega arith,
       omega arith,
       omega arith,
       goes _ _ (l .inv .3)
-      (fits-further (eqb (length us) 0) us cs gs (l .lack) (l .at) (l .i) (l .k) (c .before .before .before .before .before .loop-test .taken) (c .before .if2 .taken))
-      (flagged gs (l .k) (c .before .before .before .before .glyph-fits-at .ensures) (c .before .before .before .if1 .left) (c .before .before .natural-at .ensures))
-      (c .if3 .left),
+          (fits-further (eqb (length us) 0) us cs gs (l .lack) (l .at) (l .i) (l .k) (c .before .before .before .before .before .loop-test .taken) (c .before .if2 .taken))
+          (flagged gs (l .k) (c .before .before .before .before .glyph-fits-at .ensures) (c .before .before .before .if1 .left) (c .before .before .natural-at .ensures))
+          (c .if3 .left),
     )
 
--- src/lib.rt:150:12
 sub-if4 : tie.Need-sub-if4 Inv-loop μ-loop
 sub-if4 c = search needs
 
--- src/lib.rt:151:13
 returns-3 : tie.Need-returns-3 Inv-loop μ-loop
 returns-3 c =
     let us = c .before .before .before .before .before .before .before .before .args .us .now in
@@ -108,31 +87,24 @@ returns-3 c =
     let l = c .before .before .before .before .before .before .loop in
     sym (l .inv .3 ∙ fits-none (eqb (length us) 0) us cs gs (l .lack) (l .at) (l .i) (l .k) (c .before .before .before .before .before .loop-test .taken) (omega arith) (c .if4 .taken))
 
--- src/lib.rt:153:32
 nat-at-requires : tie.Need-nat-at-requires Inv-loop μ-loop
 nat-at-requires c κs = search needs
 
--- src/lib.rt:153:13
 widened-requires : tie.Need-widened-requires Inv-loop μ-loop
 widened-requires c κs = search needs
 
--- src/lib.rt:154:50
 add-nat-at : tie.Need-add-nat-at Inv-loop μ-loop
 add-nat-at c = search needs
 
--- src/lib.rt:154:32
 nat-at-requires-2 : tie.Need-nat-at-requires-2 Inv-loop μ-loop
 nat-at-requires-2 c κs = search needs
 
--- src/lib.rt:154:13
 widened-requires-2 : tie.Need-widened-requires-2 Inv-loop μ-loop
 widened-requires-2 c κs = search needs
 
--- src/lib.rt:155:13
 opens-at-requires : tie.Need-opens-at-requires Inv-loop μ-loop
 opens-at-requires c κs = search needs
 
--- src/lib.rt:156:13
 returns-4 : tie.Need-returns-4 Inv-loop μ-loop
 returns-4 c =
     let us = c .before .before .before .before .before .before .before .before .before .before .before .before .before .before .args .us .now in
@@ -145,23 +117,18 @@ returns-4 c =
     (opened gs (l .k) (c .before .before .before .before .before .before .before .before .before .before .glyph-fits-at .ensures) (c .before .before .before .before .before .before .before .before .before .if1 .left) (c .before .before .before .before .before .before .before .before .natural-at .ensures) bare us (l .at) _ _ _ _ (c .before .before .before .before .widened .ensures .0 ∙ c .before .before .before .before .before .nat-at .ensures) (c .before .before .widened2 .ensures .0 ∙ c .before .before .before .nat-at2 .ensures) (c .before .opens-at .ensures))
     (c .if5 .taken)
 
--- src/lib.rt:158:9
 add-at : tie.Need-add-at Inv-loop μ-loop
 add-at c = omega arith
 
--- src/lib.rt:159:9
 add-i : tie.Need-add-i Inv-loop μ-loop
 add-i c = search needs
 
--- src/lib.rt:160:9
 less-one-requires : tie.Need-less-one-requires Inv-loop μ-loop
 less-one-requires c κs = search needs
 
--- src/lib.rt:137:5
 loop-less-2 : tie.Need-loop-less-2 Inv-loop μ-loop
 loop-less-2 c = search needs
 
--- src/lib.rt:137:5
 loop-again-2 : tie.Need-loop-again-2 Inv-loop μ-loop
 loop-again-2 c =
     let us = c .before .before .before .before .before .before .before .before .before .before .before .before .before .before .before .args .us .now in
@@ -170,31 +137,26 @@ loop-again-2 c =
     let bare = eqb (length us) 0 in
     let l = c .before .before .before .before .before .before .before .before .before .before .before .before .before .loop in
     let a : c .before .before .before .before .before .widened .result ≡ nat (getD cs (l .i) (pos 0)) = c .before .before .before .before .before .widened .ensures .0 ∙ c .before .before .before .before .before .before .nat-at .ensures in
-    let b : c .before .before .before .widened2 .result ≡ nat (getD cs (l .i + 1) (pos 0)) = c .before .before .before .widened2 .ensures .0 ∙ c .before .before .before .before .nat-at2 .ensures in
-    (
+    let b : c .before .before .before .widened2 .result ≡ nat (getD cs (l .i + 1) (pos 0)) = c .before .before .before .widened2 .ensures .0 ∙ c .before .before .before .before .nat-at2 .ensures in (
       opens-within bare us (l .at) _ _ _ (l .inv .0) (sym (c .before .before .opens-at .ensures) ∙ not-false _ (c .before .if5 .left)),
       omega arith,
       omega arith,
       goes _ _ (l .inv .3)
-      (fits-opens bare us cs gs (l .lack) (l .at) (l .i) (l .k) (c .before .before .before .before .before .before .before .before .before .before .before .before .loop-test .taken) (omega arith) (c .before .before .before .before .before .before .before .if4 .left))
-      (opened gs (l .k) (c .before .before .before .before .before .before .before .before .before .before .before .glyph-fits-at .ensures) (c .before .before .before .before .before .before .before .before .before .before .if1 .left) (c .before .before .before .before .before .before .before .before .before .natural-at .ensures) bare us (l .at) _ _ _ _ a b (c .before .before .opens-at .ensures))
-      (c .before .if5 .left)
-      ∙ rw (c .less-one .ensures, a, b),
+          (fits-opens bare us cs gs (l .lack) (l .at) (l .i) (l .k) (c .before .before .before .before .before .before .before .before .before .before .before .before .loop-test .taken) (omega arith) (c .before .before .before .before .before .before .before .if4 .left))
+          (opened gs (l .k) (c .before .before .before .before .before .before .before .before .before .before .before .glyph-fits-at .ensures) (c .before .before .before .before .before .before .before .before .before .before .if1 .left) (c .before .before .before .before .before .before .before .before .before .natural-at .ensures) bare us (l .at) _ _ _ _ a b (c .before .before .opens-at .ensures))
+          (c .before .if5 .left)
+          ∙ rw (c .less-one .ensures, a, b),
     )
 
--- src/lib.rt:162:16
 sub-none : tie.Need-sub-none Inv-loop μ-loop
 sub-none c = search needs
 
--- src/lib.rt:163:17
 both-requires : tie.Need-both-requires Inv-loop μ-loop
 both-requires c κs = search needs
 
--- src/lib.rt:163:5
 both-requires-2 : tie.Need-both-requires-2 Inv-loop μ-loop
 both-requires-2 c κs = search needs
 
--- src/lib.rt:129:1
 returns-5 : tie.Need-returns-5 Inv-loop μ-loop
 returns-5 c =
     let us = c .before .before .before .before .before .args .us .now in

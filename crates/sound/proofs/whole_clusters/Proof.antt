@@ -4,14 +4,11 @@ use mathlib.Core.Path.{_≡_, refl, sym, _∙_}
 use lib.ListN.{length, drop}
 use Rattle.label.specs.Sound.{wholeClusters}
 use Rattle.sound.proofs.Parts.{whole-clusters-at, whole-clusters-end}
-use Rattle.sound.proofs.Sounds.{stops, goes, and-of, sub-zero-is}
+use Rattle.text.proofs.Units.{stops, goes}
+use Rattle.sound.proofs.Sounds.{and-of, sub-zero-is}
 use native.Mathlib.Omega.{arith}
 use Rattle.sound.proofs.whole_clusters.Statement.{statement}
 use Rattle.sound.proofs.whole_clusters.Tie as tie
-use Rattle.sound.proofs.whole_clusters.Reads as reads
-use Rattle.sound.proofs.whole_clusters.Lts as lts
-use Rattle.words.proofs.both.Reads as both-reads
-use Rattle.words.proofs.natural_at.Reads as natural-at-reads
 
 abbrev Inv-loop : tie.InvT-loop
 Inv-loop s i₀ i = (i ≤ length s) × (wholeClusters s ≡ wholeClusters (drop i s))
@@ -19,51 +16,40 @@ Inv-loop s i₀ i = (i ≤ length s) × (wholeClusters s ≡ wholeClusters (drop
 abbrev μ-loop : tie.MeasureT-loop
 μ-loop s i₀ i = length s - i
 
--- src/lib.rt:86:5
 loop-holds : tie.Need-loop-holds Inv-loop μ-loop
 loop-holds c = (search needs, refl)
 
--- src/lib.rt:86:16
 sub-loop : tie.Need-sub-loop Inv-loop μ-loop
 sub-loop c = search needs
 
--- src/lib.rt:87:13
 natural-at-requires : tie.Need-natural-at-requires Inv-loop μ-loop
 natural-at-requires c κs = search needs
 
--- src/lib.rt:88:38
 add-natural-at : tie.Need-add-natural-at Inv-loop μ-loop
 add-natural-at c = search needs
 
--- src/lib.rt:88:13
 natural-at-requires-2 : tie.Need-natural-at-requires-2 Inv-loop μ-loop
 natural-at-requires-2 c κs = search needs
 
--- src/lib.rt:89:13
 both-requires : tie.Need-both-requires Inv-loop μ-loop
 both-requires c κs = search needs
 
--- src/lib.rt:90:13
 returns : tie.Need-returns Inv-loop μ-loop
 returns c =
     let s = c .before .before .before .before .before .before .args .s .now in
     stops _ _ (c .before .before .before .before .before .loop .inv .1) (whole-clusters-at s (c .before .before .before .before .before .loop .i) (c .before .before .before .before .loop-test .taken)) (and-of (c .before .both .ensures) (c .before .before .before .natural-at .ensures) (c .before .before .natural-at2 .ensures)) (c .if1 .taken)
 
--- src/lib.rt:92:9
 add-i : tie.Need-add-i Inv-loop μ-loop
 add-i c = search needs
 
--- src/lib.rt:86:5
 loop-less : tie.Need-loop-less Inv-loop μ-loop
 loop-less c = search needs
 
--- src/lib.rt:86:5
 loop-again : tie.Need-loop-again Inv-loop μ-loop
 loop-again c =
     let s = c .before .before .before .before .before .before .args .s .now in
     (omega arith, goes _ _ (c .before .before .before .before .before .loop .inv .1) (whole-clusters-at s (c .before .before .before .before .before .loop .i) (c .before .before .before .before .loop-test .taken)) (and-of (c .before .both .ensures) (c .before .before .before .natural-at .ensures) (c .before .before .natural-at2 .ensures)) (c .if1 .left))
 
--- src/lib.rt:82:1
 returns-2 : tie.Need-returns-2 Inv-loop μ-loop
 returns-2 c =
     let s = c .before .before .args .s .now in

@@ -4,14 +4,11 @@ use mathlib.Core.Path.{_≡_, refl, sym, _∙_}
 use lib.ListN.{length, drop}
 use Rattle.label.specs.Sound.{wholeGlyphs}
 use Rattle.sound.proofs.Parts.{whole-glyphs-at, whole-glyphs-end}
-use Rattle.sound.proofs.Sounds.{stops, goes, and-of, sub-zero-is}
+use Rattle.text.proofs.Units.{stops, goes}
+use Rattle.sound.proofs.Sounds.{and-of, sub-zero-is}
 use native.Mathlib.Omega.{arith}
 use Rattle.sound.proofs.whole_glyphs.Statement.{statement}
 use Rattle.sound.proofs.whole_glyphs.Tie as tie
-use Rattle.sound.proofs.whole_glyphs.Reads as reads
-use Rattle.sound.proofs.whole_glyphs.Lts as lts
-use Rattle.words.proofs.both.Reads as both-reads
-use Rattle.words.proofs.choice_at.Reads as choice-at-reads
 
 abbrev Inv-loop : tie.InvT-loop
 Inv-loop s k₀ k = (k ≤ length s) × (wholeGlyphs s ≡ wholeGlyphs (drop k s))
@@ -19,51 +16,40 @@ Inv-loop s k₀ k = (k ≤ length s) × (wholeGlyphs s ≡ wholeGlyphs (drop k s
 abbrev μ-loop : tie.MeasureT-loop
 μ-loop s k₀ k = length s - k
 
--- src/lib.rt:101:5
 loop-holds : tie.Need-loop-holds Inv-loop μ-loop
 loop-holds c = (search needs, refl)
 
--- src/lib.rt:101:16
 sub-loop : tie.Need-sub-loop Inv-loop μ-loop
 sub-loop c = search needs
 
--- src/lib.rt:102:13
 choice-at-requires : tie.Need-choice-at-requires Inv-loop μ-loop
 choice-at-requires c κs = search needs
 
--- src/lib.rt:103:43
 add-choice-at : tie.Need-add-choice-at Inv-loop μ-loop
 add-choice-at c = search needs
 
--- src/lib.rt:103:13
 choice-at-requires-2 : tie.Need-choice-at-requires-2 Inv-loop μ-loop
 choice-at-requires-2 c κs = search needs
 
--- src/lib.rt:104:13
 both-requires : tie.Need-both-requires Inv-loop μ-loop
 both-requires c κs = search needs
 
--- src/lib.rt:105:13
 returns : tie.Need-returns Inv-loop μ-loop
 returns c =
     let s = c .before .before .before .before .before .before .args .s .now in
     stops _ _ (c .before .before .before .before .before .loop .inv .1) (whole-glyphs-at s (c .before .before .before .before .before .loop .k) (c .before .before .before .before .loop-test .taken)) (and-of (c .before .both .ensures) (c .before .before .before .choice-at .ensures) (c .before .before .choice-at2 .ensures)) (c .if1 .taken)
 
--- src/lib.rt:107:9
 add-k : tie.Need-add-k Inv-loop μ-loop
 add-k c = search needs
 
--- src/lib.rt:101:5
 loop-less : tie.Need-loop-less Inv-loop μ-loop
 loop-less c = search needs
 
--- src/lib.rt:101:5
 loop-again : tie.Need-loop-again Inv-loop μ-loop
 loop-again c =
     let s = c .before .before .before .before .before .before .args .s .now in
     (omega arith, goes _ _ (c .before .before .before .before .before .loop .inv .1) (whole-glyphs-at s (c .before .before .before .before .before .loop .k) (c .before .before .before .before .loop-test .taken)) (and-of (c .before .both .ensures) (c .before .before .before .choice-at .ensures) (c .before .before .choice-at2 .ensures)) (c .if1 .left))
 
--- src/lib.rt:97:1
 returns-2 : tie.Need-returns-2 Inv-loop μ-loop
 returns-2 c =
     let s = c .before .before .args .s .now in
