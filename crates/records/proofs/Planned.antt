@@ -1,13 +1,13 @@
 -- Laws of `planOf`: what it is where each test comes out, that what is stored fits the list and is there in the numbers, and what it makes of the list.
 -- Assumes nothing.
 use mathlib.Core.Path.{_≡_, refl, sym}
-use mathlib.Core.Bool.{Bool, true, false}
+use mathlib.Core.Bool.{true, false}
 use Prim.Native.Nat.{ℕ, _*_, _/_, _<_, _≤_, zero-le}
 use native.Mathlib.Omega.{arith}
-use mathlib.Core.List.{List, _++_}
+use mathlib.Core.List.{List}
 use lib.Dec.{leb}
 use lib.IntN.{ℤ}
-use lib.ListN.{length, drop}
+use lib.ListN.{length}
 use borrow.Author.Tests.{le-leb, lt-leb, leb-true}
 use Rattle.label.specs.Outcome.{Outcome, ok, no}
 use Rattle.label.specs.Sound.{sound, glyphsOf}

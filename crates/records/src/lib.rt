@@ -10,7 +10,7 @@ ghost use Prim.Native.Nat.{_<_, _≤_, _+_, _*_};
 ghost use lib.ListN.{length, drop};
 ghost use Rattle.words.specs.Places.{place};
 ghost use Rattle.label.specs.Sound.{numberAdvance};
-ghost use Rattle.label.specs.Calls.{listInto, listingOutcome, listedCount, recordsAfter};
+ghost use Rattle.label.specs.Calls.{refusal, listInto, listingOutcome, listedCount, recordsAfter};
 ghost use Rattle.records.specs.Records.{indexOf, recordOf, records, planOf};
 
 // A number from 0 to the largest index names an index; any other leaves it to the font.
@@ -75,8 +75,9 @@ struct Plan {
     answer: Listing,
 }
 
+// A refusal stores nothing.
 fn refuses(number: usize, place: usize) -> Plan
-    ensures { λ r. ⌜ r ≡ record { count = 0; answer = Listing.Refused (record { number = number; place = place }) } ⌝ }
+    ensures { λ r. ⌜ r ≡ record { count = 0; answer = Listing.Refused (refusal number place) } ⌝ }
 {
     Plan {
         count: 0,
