@@ -38,10 +38,11 @@ recordsFrom s k (suc m) = recordOf s k ∷ recordsFrom s (suc k) m
 abbrev pub records : List ℤ → ℕ → List Glyph
 records s n = recordsFrom s 0 n
 
--- how many records are stored, none where the listing is refused; and the answer
+-- what is done for a listing: how many records are stored, none where it is refused, and the answer
 abbrev pub planned : Outcome (List Glyph) → Plan
 planned (ok gs) = record { count = length gs; answer = Listed (length gs) }
 planned (no n p) = record { count = 0; answer = Refused (refusal n p) }
 
+-- the same for a run's numbers and a list of `room` records
 unfoldable pub planOf : ℕ → List ℕ → List ℤ → List ℤ → Plan
 planOf room us cs gs = planned (listInto room us cs gs)

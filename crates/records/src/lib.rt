@@ -102,7 +102,7 @@ fn decide(units: &[u16], clusters: &[i32], glyphs: &[i32], room: usize) -> Plan
     }
 }
 
-// Lists the glyphs of a sound run in `out`; a refusal changes no record.
+// Lists the glyphs of a run in `out`: 19 where the run is not sound, 18 where `out` is too short. The records behind stay, and a refusal changes none.
 pub fn list_records(units: &[u16], clusters: &[i32], glyphs: &[i32], out: &mut [Glyph]) -> Listing
     ensures result { λ r. ⌜ listingOutcome r ≡ listedCount (listInto (length (now (out .entry))) (now (units .entry)) (now (clusters .entry)) (now (glyphs .entry))) ⌝ }
     ensures records { λ r. ⌜ now (out .exit) ≡ recordsAfter (listInto (length (now (out .entry))) (now (units .entry)) (now (clusters .entry)) (now (glyphs .entry))) (now (out .entry)) ⌝ }
@@ -118,7 +118,7 @@ pub struct Four {
     pub records: [Glyph; 4],
 }
 
-// Lists the glyphs of a sound run in four records that are passed by value and handed back.
+// The same with four records that are passed by value and handed back.
 pub fn list_four(units: &[u16], clusters: &[i32], glyphs: &[i32], records: [Glyph; 4]) -> Four
     ensures result { λ r. ⌜ listingOutcome (r .answer) ≡ listedCount (listInto 4 (now (units .entry)) (now (clusters .entry)) (now (glyphs .entry))) ⌝ }
     ensures records { λ r. ⌜ r .records ≡ recordsAfter (listInto 4 (now (units .entry)) (now (clusters .entry)) (now (glyphs .entry))) records ⌝ }

@@ -1,4 +1,4 @@
--- `records::fill` meets its contract: a walk of its MIR, by hand, with a loop that calls a covered function and stores what it returns.
+-- `records::fill` meets its contract: a walk of its MIR, with a loop that calls a covered function and stores what it returns.
 -- The borrow of `out` is opened once, before the loop, and closed once, after it. In between the row of all its elements stands in the invariant, at the list of which the first k are the records.
 -- A turn lends a copy of `glyphs` to `glyph_at`, beside the token of its lifetime, which comes back, stores the record at place k, and counts on. All that the proof knows of `glyph_at` is that it meets its contract.
 -- Assumes nothing.
@@ -116,15 +116,15 @@ module _ {M : Type 1} (𝓤 : URA M) (H : Heap 𝓤) (A : Atoms 𝓤) (mem : Mem
   abbrev GlyphAt : Contract 𝓤
   GlyphAt = tripleOf 𝓤 H A g.signature (g.spec 𝓤 H A mem run)
 
-module _ {M : Type 1} (𝓤 : URA M) (H : Heap 𝓤) (A : Atoms 𝓤) (W : Given 𝓤 H A) (mem : Memory → SProp 𝓤) (run : Routine → Fun 𝓤) (κ κ′ : Lft) (q q′ : Share) (b o : ℕ) (γ : GName) (ys : List Glyph) (fl : RefT (List ℤ)) (n : ℕ) where
+module _ {M : Type 1} (𝓤 : URA M) (H : Heap 𝓤) (A : Atoms 𝓤) (W : Given 𝓤 H A) (mem : Memory → SProp 𝓤) (run : Routine → Fun 𝓤) (κ κ′ : Lft) (q q′ : Share) (b o : ℕ) (γ : GName) (ys : List Glyph) (gs : RefT (List ℤ)) (n : ℕ) where
   abbrev Arg : Type 0
   Arg = RefT (List Glyph) × (RefT (List ℤ) × (ℕ × Unit {0}))
 
   abbrev x : Arg
-  x = (record { ptr = (b, o); name = γ; now = ys }, (fl, (n, tt)))
+  x = (record { ptr = (b, o); name = γ; now = ys }, (gs, (n, tt)))
 
   abbrev s : List ℤ
-  s = now fl
+  s = now gs
 
   -- the list when k records are stored
   abbrev zs : ℕ → List Glyph
@@ -132,7 +132,7 @@ module _ {M : Type 1} (𝓤 : URA M) (H : Heap 𝓤) (A : Atoms 𝓤) (W : Given
 
   -- the machine values: of `glyphs`, and of all that is passed
   abbrev v : Val
-  v = sliceVal (fl .ptr) (length s)
+  v = sliceVal (gs .ptr) (length s)
 
   abbrev at : List Val × (List Val × (List Val × Unit {0}))
   at = (sliceVal (b, o) (length ys) ∷ [], (v ∷ [], (vint w64 n ∷ [], tt)))
@@ -142,7 +142,7 @@ module _ {M : Type 1} (𝓤 : URA M) (H : Heap 𝓤) (A : Atoms 𝓤) (W : Given
 
   -- what `glyphs` owns
   abbrev Own : Fml
-  Own = ShrSlice (named 1) κ′ i32 .own fl (v ∷ [])
+  Own = ShrSlice (named 1) κ′ i32 .own gs (v ∷ [])
 
   exits : Room R (length ys) → n < 2 ^ 64 → n ≤ length ys → ent 𝓤 (⋆ 𝓤 H A (‵ (fobs γ (codedHoleys R .code (heres R (zs n)))) ∷ ‵ (fbor κ (Held R (length (zs n)) b o γ)) ∷ ‵ (flft κ q) ∷ ‵ (flft κ′ q′) ∷ ‵ Own ∷ [])) (Post vunit)
   exits room n-fits enough =
@@ -159,21 +159,21 @@ module _ {M : Type 1} (𝓤 : URA M) (H : Heap 𝓤) (A : Atoms 𝓤) (W : Given
   passed k = (v ∷ [], (vint w64 k ∷ [], tt))
 
   abbrev to : ℕ → GlyphAt 𝓤 H A mem run .Ghost
-  to k = (((κ′, tt), (q′, tt), tt, (fl, (k, tt)), passed k), tt)
+  to k = (((κ′, tt), (q′, tt), tt, (gs, (k, tt)), passed k), tt)
 
-  asked : (k : ℕ) → k * 4 + 3 < length s → ent 𝓤 (onEntry 𝓤 H A g.signature (κ′, tt) (q′, tt) (fl, (k, tt)) (passed k)) (GlyphAt 𝓤 H A mem run .pre (to k))
-  asked k h = qed W ((‵ (flft κ′ q′) ⊛ ‵ ftrue) ∷ ‵ (owns (ShrSlice (named 0) κ′ i32 ∷ usize ∷ []) (fl, (k, tt)) (passed k)) ∷ []) ∵ says ! h $ done !
+  asked : (k : ℕ) → k * 4 + 3 < length s → ent 𝓤 (onEntry 𝓤 H A g.signature (κ′, tt) (q′, tt) (gs, (k, tt)) (passed k)) (GlyphAt 𝓤 H A mem run .pre (to k))
+  asked k h = qed W ((‵ (flft κ′ q′) ⊛ ‵ ftrue) ∷ ‵ (owns (ShrSlice (named 0) κ′ i32 ∷ usize ∷ []) (gs, (k, tt)) (passed k)) ∷ []) ∵ says ! h $ done !
 
   -- what `glyphs` owns gives what the callee asks, and is kept
   apart : (k : ℕ) → k < 2 ^ 64 → k * 4 + 3 < length s → ent 𝓤 (sep 𝓤 (A .lft κ′ q′) (sem 𝓤 H A Own)) (sep 𝓤 (GlyphAt 𝓤 H A mem run .pre (to k)) (sem 𝓤 H A Own))
   apart k fits h =
-      qed W (‵ (flft κ′ q′) ∷ ‵ Own ∷ []) ∵ move ! (1 ∷ []) $ use1 W (‵ Own ⊛ ‵ Own) (shr-slice-copy 𝓤 H A W (named 1) κ′ i32 .twice fl (v ∷ [])) $ split ! $
+      qed W (‵ (flft κ′ q′) ∷ ‵ Own ∷ []) ∵ move ! (1 ∷ []) $ use1 W (‵ Own ⊛ ‵ Own) (shr-slice-copy 𝓤 H A W (named 1) κ′ i32 .twice gs (v ∷ [])) $ split ! $
       nothing ! $ owned ! usize (Is usize) (uint-makes 𝓤 H A W w64) k _ (refl, fits) $ fjoin ! $ move ! (1 ∷ 0 ∷ []) $ fjoin ! $ nothing ! $ move ! (3 ∷ 0 ∷ []) $ join ! $
       use2 W (raw (GlyphAt 𝓤 H A mem run .pre (to k))) (asked k h) $ frame ! $ done !
 
   -- of the callee's `ensured`, the clause alone: it has no `&mut`, so what is said of last values is dropped
-  said : (k : ℕ) (r : Glyph) → ent 𝓤 (ensured 𝓤 H A g.ended (g.clauses 𝓤 H A mem run) (κ′, tt) (fl, (k, tt)) tt r) (fact 𝓤 (r ≡ recordOf s k))
-  said k r = exE 𝓤 _ (λ ws. snd∗ 𝓤 (sem 𝓤 H A (lasts g.ended (κ′, tt) (fl, (k, tt)) ws)) (fact 𝓤 (r ≡ recordOf s k)))
+  said : (k : ℕ) (r : Glyph) → ent 𝓤 (ensured 𝓤 H A g.ended (g.clauses 𝓤 H A mem run) (κ′, tt) (gs, (k, tt)) tt r) (fact 𝓤 (r ≡ recordOf s k))
+  said k r = exE 𝓤 _ (λ ws. snd∗ 𝓤 (sem 𝓤 H A (lasts g.ended (κ′, tt) (gs, (k, tt)) ws)) (fact 𝓤 (r ≡ recordOf s k)))
 
   module _ (𝓣 : Tables 𝓤 H) (known : Triple 𝓤 (𝓣 .C #records·glyph-at) (GlyphAt 𝓤 H A mem run)) (room : Room R (length ys)) (f-room : Room i32 (length s)) (n-fits : n < 2 ^ 64) (enough : n ≤ length ys) (long : n * 4 ≤ length s) where
     abbrev C : Calls 𝓤 H
@@ -223,7 +223,7 @@ module _ {M : Type 1} (𝓤 : URA M) (H : Heap 𝓤) (A : Atoms 𝓤) (W : Given
           move ! (13 ∷ 14 ∷ []) $ use2 W (raw (GlyphAt 𝓤 H A mem run .pre (to k)) ⊛ ‵ Own) (apart k (lt-fits k n l n-fits) (inside k n (length s) l long)) $ split ! $
           -- [what the callee asks; what `glyphs` owns; the row; _4; _5; _6; _7; _8; _1; _2; _3; _0; …]
           calls-at ! (fmOf 𝓤 H (W .laws) 𝓣) (GlyphAt 𝓤 H A mem run) known (to k) (and-then ! (load ! (from ! (stop !)) (look ! 9 refl)) (and-then ! (load ! (from ! (stop !)) (look ! 3 refl)) (no-more !))) (λ u.
-          use1 W (later (some (λ (r : Glyph). ((‵ (flft κ′ q′) ⊛ ‵ ftrue) ⊛ ‵ (R .own r (u ∷ []))) ⊛ raw (ensured 𝓤 H A g.ended (g.clauses 𝓤 H A mem run) (κ′, tt) (fl, (k, tt)) tt r)))) (id⊢ 𝓤 _) $ await ! tt $ pick ! (λ r.
+          use1 W (later (some (λ (r : Glyph). ((‵ (flft κ′ q′) ⊛ ‵ ftrue) ⊛ ‵ (R .own r (u ∷ []))) ⊛ raw (ensured 𝓤 H A g.ended (g.clauses 𝓤 H A mem run) (κ′, tt) (gs, (k, tt)) tt r)))) (id⊢ 𝓤 _) $ await ! tt $ pick ! (λ r.
           split ! $ move ! (1 ∷ []) $ use1 W (raw (fact 𝓤 (r ≡ recordOf s k))) (said k r) $ heard ! (r ≡ recordOf s k) (λ is-k. split ! $ move ! (1 ∷ []) $
           -- [what the record owns; the token; what `glyphs` owns; the row; _4; _5; _6; _7; _8; _1; _2; _3; _0; …]
           peeks ! R (Is R) (shows 𝓤 H A R) r (u ∷ []) (λ is.

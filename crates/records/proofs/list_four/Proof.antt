@@ -1,5 +1,5 @@
--- `records::list_four` meets its contract: a walk of its MIR, by hand. The array stands in a local, which is lent as a slice for a lifetime that the walk makes, `list_records` is called, the lifetime is ended, and the array is taken back at the last list that the callee's contract says.
--- Its own contract says nothing of a lent list of records, so whoever calls it needs no walk by hand.
+-- `records::list_four` meets its contract: a walk of its MIR. The array stands in a local, which is lent as a slice for a lifetime that the walk makes, `list_records` is called, the lifetime is ended, and the array is taken back at the last list that the callee's contract says.
+-- Its own contract says nothing of a lent list of records, so the borrow checker covers its callers.
 -- Assumes nothing.
 use mathlib.Core.Path.{_≡_, refl, sym, _∙_, ap, subst}
 use Prim.Native.Nat.{ℕ, _<_, _^_}
@@ -125,7 +125,7 @@ module _ {M : Type 1} (𝓤 : URA M) (H : Heap 𝓤) (A : Atoms 𝓤) (mem : Mem
   abbrev Lists : Contract 𝓤
   Lists = tripleOf 𝓤 H A g.signature (g.spec 𝓤 H A mem run)
 
-module _ {M : Type 1} (𝓤 : URA M) (H : Heap 𝓤) (A : Atoms 𝓤) (W : Given 𝓤 H A) (mem : Memory → SProp 𝓤) (run : Routine → Fun 𝓤) (κ₀ κ₁ κ₂ : Lft) (q₀ q₁ q₂ : Share) (us : RefT (List ℕ)) (cs fl : RefT (List ℤ)) (xs : List Glyph) where
+module _ {M : Type 1} (𝓤 : URA M) (H : Heap 𝓤) (A : Atoms 𝓤) (W : Given 𝓤 H A) (mem : Memory → SProp 𝓤) (run : Routine → Fun 𝓤) (κ₀ κ₁ κ₂ : Lft) (q₀ q₁ q₂ : Share) (us : RefT (List ℕ)) (cs gs : RefT (List ℤ)) (xs : List Glyph) where
   abbrev κs : Lfts 3
   κs = (κ₀, (κ₁, (κ₂, tt)))
 
@@ -133,10 +133,10 @@ module _ {M : Type 1} (𝓤 : URA M) (H : Heap 𝓤) (A : Atoms 𝓤) (W : Given
   qs = (q₀, (q₁, (q₂, tt)))
 
   abbrev x : Args f.signature κs
-  x = (us, (cs, (fl, (xs, tt))))
+  x = (us, (cs, (gs, (xs, tt))))
 
   abbrev s : List ℤ
-  s = now fl
+  s = now gs
 
   -- the listing into m records
   abbrev listed : ℕ → Outcome (List Glyph)
@@ -157,7 +157,7 @@ module _ {M : Type 1} (𝓤 : URA M) (H : Heap 𝓤) (A : Atoms 𝓤) (W : Given
   v₁ = sliceVal (cs .ptr) (length (now cs))
 
   abbrev v₂ : Val
-  v₂ = sliceVal (fl .ptr) (length s)
+  v₂ = sliceVal (gs .ptr) (length s)
 
   abbrev at : Vals f.signature κs
   at = (v₀ ∷ [], (v₁ ∷ [], (v₂ ∷ [], (avals xs, tt))))
@@ -173,7 +173,7 @@ module _ {M : Type 1} (𝓤 : URA M) (H : Heap 𝓤) (A : Atoms 𝓤) (W : Given
   Own₁ = ShrSlice (named 1) κ₁ i32 .own cs (v₁ ∷ [])
 
   abbrev Own₂ : Fml
-  Own₂ = ShrSlice (named 2) κ₂ i32 .own fl (v₂ ∷ [])
+  Own₂ = ShrSlice (named 2) κ₂ i32 .own gs (v₂ ∷ [])
 
   -- the tokens, what is had at entry, and what is kept over the call
   abbrev toks : Item 𝓤
@@ -200,7 +200,7 @@ module _ {M : Type 1} (𝓤 : URA M) (H : Heap 𝓤) (A : Atoms 𝓤) (W : Given
     κs₄ = (κ₀, (κ₁, (κ₂, (α ∷ [], tt))))
 
     abbrev given₄ : Args g.signature κs₄
-    given₄ = (us, (cs, (fl, (out, tt))))
+    given₄ = (us, (cs, (gs, (out, tt))))
 
     abbrev passed₄ : Vals g.signature κs₄
     passed₄ = (v₀ ∷ [], (v₁ ∷ [], (v₂ ∷ [], (v₃ ∷ [], tt))))
@@ -222,7 +222,7 @@ module _ {M : Type 1} (𝓤 : URA M) (H : Heap 𝓤) (A : Atoms 𝓤) (W : Given
         -- [the tokens; what the parameters own; Own₃]
         move ! (1 ∷ []) $ fsplit ! $ move ! (1 ∷ []) $ fsplit ! $ move ! (1 ∷ []) $ fsplit ! $ move ! (1 ∷ []) $ drop ! $
         -- [Own₂; Own₁; Own₀; the tokens; Own₃]
-        use1 W (‵ Own₂ ⊛ ‵ Own₂) (shr-slice-copy 𝓤 H A W (named 2) κ₂ i32 .twice fl (v₂ ∷ [])) $ split ! $
+        use1 W (‵ Own₂ ⊛ ‵ Own₂) (shr-slice-copy 𝓤 H A W (named 2) κ₂ i32 .twice gs (v₂ ∷ [])) $ split ! $
         move ! (2 ∷ []) $ use1 W (‵ Own₁ ⊛ ‵ Own₁) (shr-slice-copy 𝓤 H A W (named 1) κ₁ i32 .twice cs (v₁ ∷ [])) $ split ! $
         move ! (4 ∷ []) $ use1 W (‵ Own₀ ⊛ ‵ Own₀) (shr-slice-copy 𝓤 H A W (named 0) κ₀ u16 .twice us (v₀ ∷ [])) $ split ! $
         -- [Own₀; Own₀; Own₁; Own₁; Own₂; Own₂; the tokens; Own₃]

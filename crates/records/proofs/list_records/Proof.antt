@@ -1,4 +1,4 @@
--- `records::list_records` meets its contract: a walk of its MIR, by hand, with no branch and no loop. `decide`, which is covered, says the answer and how many records are stored, and `fill` stores them.
+-- `records::list_records` meets its contract: a walk of its MIR, with no branch and no loop. `decide`, which is covered, says the answer and how many records are stored, and `fill` stores them.
 -- The three shared slices are lent to the callees as copies, beside the tokens of their lifetimes, which come back. `out` goes to `fill` for good, at its own lifetime, share and name.
 -- Assumes nothing.
 use mathlib.Core.Path.{_≡_, refl, sym, _∙_, ap, subst}
@@ -80,7 +80,7 @@ module _ {M : Type 1} (𝓤 : URA M) (H : Heap 𝓤) (A : Atoms 𝓤) (mem : Mem
   abbrev Fill : Contract 𝓤
   Fill = tripleOf 𝓤 H A g.signature (g.spec 𝓤 H A mem run)
 
-module _ {M : Type 1} (𝓤 : URA M) (H : Heap 𝓤) (A : Atoms 𝓤) (W : Given 𝓤 H A) (mem : Memory → SProp 𝓤) (run : Routine → Fun 𝓤) (κ₀ κ₁ κ₂ κ₃ : Lft) (q₀ q₁ q₂ q₃ : Share) (us : RefT (List ℕ)) (cs fl : RefT (List ℤ)) (out : RefT (List Glyph)) where
+module _ {M : Type 1} (𝓤 : URA M) (H : Heap 𝓤) (A : Atoms 𝓤) (W : Given 𝓤 H A) (mem : Memory → SProp 𝓤) (run : Routine → Fun 𝓤) (κ₀ κ₁ κ₂ κ₃ : Lft) (q₀ q₁ q₂ q₃ : Share) (us : RefT (List ℕ)) (cs gs : RefT (List ℤ)) (out : RefT (List Glyph)) where
   abbrev κs : Lfts 4
   κs = (κ₀, (κ₁, (κ₂, (κ₃, tt))))
 
@@ -88,10 +88,10 @@ module _ {M : Type 1} (𝓤 : URA M) (H : Heap 𝓤) (A : Atoms 𝓤) (W : Given
   qs = (q₀, (q₁, (q₂, (q₃, tt))))
 
   abbrev x : Args f.signature κs
-  x = (us, (cs, (fl, (out, tt))))
+  x = (us, (cs, (gs, (out, tt))))
 
   abbrev s : List ℤ
-  s = now fl
+  s = now gs
 
   abbrev ys : List Glyph
   ys = now out
@@ -107,7 +107,7 @@ module _ {M : Type 1} (𝓤 : URA M) (H : Heap 𝓤) (A : Atoms 𝓤) (W : Given
   v₁ = sliceVal (cs .ptr) (length (now cs))
 
   abbrev v₂ : Val
-  v₂ = sliceVal (fl .ptr) (length s)
+  v₂ = sliceVal (gs .ptr) (length s)
 
   abbrev v₃ : Val
   v₃ = sliceVal (out .ptr) (length ys)
@@ -126,7 +126,7 @@ module _ {M : Type 1} (𝓤 : URA M) (H : Heap 𝓤) (A : Atoms 𝓤) (W : Given
   Own₁ = ShrSlice (named 1) κ₁ i32 .own cs (v₁ ∷ [])
 
   abbrev Own₂ : Fml
-  Own₂ = ShrSlice (named 2) κ₂ i32 .own fl (v₂ ∷ [])
+  Own₂ = ShrSlice (named 2) κ₂ i32 .own gs (v₂ ∷ [])
 
   abbrev Own₃ : Fml
   Own₃ = MutSlice (named 3) κ₃ R .own out (v₃ ∷ [])
@@ -149,17 +149,17 @@ module _ {M : Type 1} (𝓤 : URA M) (H : Heap 𝓤) (A : Atoms 𝓤) (W : Given
   passed₁ = (v₀ ∷ [], (v₁ ∷ [], (v₂ ∷ [], (vint w64 (length ys) ∷ [], tt))))
 
   abbrev to₁ : Decide 𝓤 H A mem run .Ghost
-  to₁ = (((κ₀, (κ₁, (κ₂, tt))), (q₀, (q₁, (q₂, tt))), tt, (us, (cs, (fl, (length ys, tt)))), passed₁), tt)
+  to₁ = (((κ₀, (κ₁, (κ₂, tt))), (q₀, (q₁, (q₂, tt))), tt, (us, (cs, (gs, (length ys, tt)))), passed₁), tt)
 
-  asked₁ : ent 𝓤 (onEntry 𝓤 H A d.signature (κ₀, (κ₁, (κ₂, tt))) (q₀, (q₁, (q₂, tt))) (us, (cs, (fl, (length ys, tt)))) passed₁) (Decide 𝓤 H A mem run .pre to₁)
-  asked₁ = qed W (toks₁ ∷ ‵ (owns (ShrSlice (named 0) κ₀ u16 ∷ ShrSlice (named 1) κ₁ i32 ∷ ShrSlice (named 2) κ₂ i32 ∷ usize ∷ []) (us, (cs, (fl, (length ys, tt)))) passed₁) ∷ []) ∵ join ! $ frame ! $ done !
+  asked₁ : ent 𝓤 (onEntry 𝓤 H A d.signature (κ₀, (κ₁, (κ₂, tt))) (q₀, (q₁, (q₂, tt))) (us, (cs, (gs, (length ys, tt)))) passed₁) (Decide 𝓤 H A mem run .pre to₁)
+  asked₁ = qed W (toks₁ ∷ ‵ (owns (ShrSlice (named 0) κ₀ u16 ∷ ShrSlice (named 1) κ₁ i32 ∷ ShrSlice (named 2) κ₂ i32 ∷ usize ∷ []) (us, (cs, (gs, (length ys, tt)))) passed₁) ∷ []) ∵ join ! $ frame ! $ done !
 
   apart₁ : length ys < 2 ^ 64 → ent 𝓤 (onEntry 𝓤 H A f.signature κs qs x at) (mean 𝓤 H A (raw (Decide 𝓤 H A mem run .pre to₁) ⊛ kept₁))
   apart₁ fits =
       qed W ((‵ (flft κ₀ q₀) ⊛ ‵ (flft κ₁ q₁) ⊛ ‵ (flft κ₂ q₂) ⊛ ‵ (flft κ₃ q₃) ⊛ ‵ ftrue) ∷ ‵ (owns (ShrSlice (named 0) κ₀ u16 ∷ ShrSlice (named 1) κ₁ i32 ∷ ShrSlice (named 2) κ₂ i32 ∷ MutSlice (named 3) κ₃ R ∷ []) x at) ∷ []) ∵
       split ! $ move ! (1 ∷ []) $ split ! $ move ! (1 ∷ []) $ split ! $ move ! (1 ∷ []) $ split ! $ move ! (5 ∷ []) $ fsplit ! $ move ! (1 ∷ []) $ fsplit ! $ move ! (1 ∷ []) $ fsplit ! $ move ! (1 ∷ []) $ fsplit ! $
       -- [Own₃; true; Own₂; Own₁; Own₀; κ₃; true; κ₂; κ₁; κ₀]
-      move ! (2 ∷ []) $ use1 W (‵ Own₂ ⊛ ‵ Own₂) (shr-slice-copy 𝓤 H A W (named 2) κ₂ i32 .twice fl (v₂ ∷ [])) $ split ! $
+      move ! (2 ∷ []) $ use1 W (‵ Own₂ ⊛ ‵ Own₂) (shr-slice-copy 𝓤 H A W (named 2) κ₂ i32 .twice gs (v₂ ∷ [])) $ split ! $
       move ! (4 ∷ []) $ use1 W (‵ Own₁ ⊛ ‵ Own₁) (shr-slice-copy 𝓤 H A W (named 1) κ₁ i32 .twice cs (v₁ ∷ [])) $ split ! $
       move ! (6 ∷ []) $ use1 W (‵ Own₀ ⊛ ‵ Own₀) (shr-slice-copy 𝓤 H A W (named 0) κ₀ u16 .twice us (v₀ ∷ [])) $ split ! $
       -- [Own₀; Own₀; Own₁; Own₁; Own₂; Own₂; Own₃; true; κ₃; true; κ₂; κ₁; κ₀]
@@ -168,15 +168,15 @@ module _ {M : Type 1} (𝓤 : URA M) (H : Heap 𝓤) (A : Atoms 𝓤) (W : Given
       move ! (8 ∷ 7 ∷ []) $ join ! $ move ! (8 ∷ 0 ∷ []) $ join ! $ move ! (8 ∷ 0 ∷ []) $ join ! $
       use2 W (raw (Decide 𝓤 H A mem run .pre to₁)) asked₁ $ keep ! (0 ∷ 6 ∷ 1 ∷ 2 ∷ 3 ∷ 4 ∷ []) $ done !
 
-  said₁ : (p : Plan) → ent 𝓤 (ensured 𝓤 H A d.ended (d.clauses 𝓤 H A mem run) (κ₀, (κ₁, (κ₂, tt))) (us, (cs, (fl, (length ys, tt)))) tt p) (fact 𝓤 (p ≡ plan))
-  said₁ p = exE 𝓤 _ (λ ws. snd∗ 𝓤 (sem 𝓤 H A (lasts d.ended (κ₀, (κ₁, (κ₂, tt))) (us, (cs, (fl, (length ys, tt)))) ws)) (fact 𝓤 (p ≡ plan)))
+  said₁ : (p : Plan) → ent 𝓤 (ensured 𝓤 H A d.ended (d.clauses 𝓤 H A mem run) (κ₀, (κ₁, (κ₂, tt))) (us, (cs, (gs, (length ys, tt)))) tt p) (fact 𝓤 (p ≡ plan))
+  said₁ p = exE 𝓤 _ (λ ws. snd∗ 𝓤 (sem 𝓤 H A (lasts d.ended (κ₀, (κ₁, (κ₂, tt))) (us, (cs, (gs, (length ys, tt)))) ws)) (fact 𝓤 (p ≡ plan)))
 
   -- ---- the call of `fill`, for n records
   abbrev passed₂ : ℕ → Vals g.signature (κ₃, (κ₂, tt))
   passed₂ n = (v₃ ∷ [], (v₂ ∷ [], (vint w64 n ∷ [], tt)))
 
   abbrev given₂ : ℕ → Args g.signature (κ₃, (κ₂, tt))
-  given₂ n = (out, (fl, (n, tt)))
+  given₂ n = (out, (gs, (n, tt)))
 
   abbrev to₂ : ℕ → Fill 𝓤 H A mem run .Ghost
   to₂ n = (((κ₃, (κ₂, tt)), (q₃, (q₂, tt)), tt, given₂ n, passed₂ n), tt)
@@ -188,7 +188,7 @@ module _ {M : Type 1} (𝓤 : URA M) (H : Heap 𝓤) (A : Atoms 𝓤) (W : Given
   apart₂ n fits h =
       qed W (toks₁ ∷ kept₁ ∷ []) ∵ split ! $ move ! (1 ∷ []) $ split ! $ move ! (1 ∷ []) $ split ! $ move ! (4 ∷ []) $ split ! $ move ! (1 ∷ []) $ split ! $ move ! (1 ∷ []) $ split ! $ move ! (1 ∷ []) $ split ! $
       -- [Own₂; Own₃; Own₁; Own₀; κ₃; κ₂; true; κ₁; κ₀]
-      use1 W (‵ Own₂ ⊛ ‵ Own₂) (shr-slice-copy 𝓤 H A W (named 2) κ₂ i32 .twice fl (v₂ ∷ [])) $ split ! $
+      use1 W (‵ Own₂ ⊛ ‵ Own₂) (shr-slice-copy 𝓤 H A W (named 2) κ₂ i32 .twice gs (v₂ ∷ [])) $ split ! $
       nothing ! $ owned ! usize (Is usize) (uint-makes 𝓤 H A W w64) n _ (refl, fits) $ fjoin ! $ move ! (1 ∷ 0 ∷ []) $ fjoin ! $ move ! (2 ∷ 0 ∷ []) $ fjoin ! $
       -- [what the callee's arguments own; Own₂; Own₁; Own₀; κ₃; κ₂; true; κ₁; κ₀]
       move ! (5 ∷ 6 ∷ []) $ join ! $ move ! (5 ∷ 0 ∷ []) $ join ! $ use2 W (raw (Fill 𝓤 H A mem run .pre (to₂ n))) (asked₂ n h) $ keep ! (0 ∷ 5 ∷ 4 ∷ 3 ∷ 2 ∷ 1 ∷ []) $ done !
@@ -217,7 +217,7 @@ module _ {M : Type 1} (𝓤 : URA M) (H : Heap 𝓤) (A : Atoms 𝓤) (W : Given
         move ! (20 ∷ []) $ use1 W (raw (Decide 𝓤 H A mem run .pre to₁) ⊛ kept₁) (apart₁ f₃) $ split ! $
         -- [what `decide` asks; what is kept; _9; …; _8; …; _7; …; _6; …; _5; …; _4; …; _3; …; _2; …; _1; …; _0; …]
         calls-at ! fm (Decide 𝓤 H A mem run) known₁ to₁ (and-then ! (load ! (from ! (stop !)) (look ! 18 refl)) (and-then ! (load ! (from ! (stop !)) (look ! 16 refl)) (and-then ! (load ! (from ! (stop !)) (look ! 14 refl)) (and-then ! (load ! (from ! (stop !)) (look ! 8 refl)) (no-more !))))) (λ u.
-        use1 W (later (some (λ (p : Plan). (toks₁ ⊛ ‵ (P.the-row .own p (u ∷ []))) ⊛ raw (ensured 𝓤 H A d.ended (d.clauses 𝓤 H A mem run) (κ₀, (κ₁, (κ₂, tt))) (us, (cs, (fl, (length ys, tt)))) tt p)))) (id⊢ 𝓤 _) $ await ! tt $ pick ! (λ p.
+        use1 W (later (some (λ (p : Plan). (toks₁ ⊛ ‵ (P.the-row .own p (u ∷ []))) ⊛ raw (ensured 𝓤 H A d.ended (d.clauses 𝓤 H A mem run) (κ₀, (κ₁, (κ₂, tt))) (us, (cs, (gs, (length ys, tt)))) tt p)))) (id⊢ 𝓤 _) $ await ! tt $ pick ! (λ p.
         split ! $ move ! (1 ∷ []) $ use1 W (raw (fact 𝓤 (p ≡ plan))) (said₁ p) $ heard ! (p ≡ plan) (λ e. split ! $ move ! (1 ∷ []) $
         -- [what the plan owns; the tokens; what is kept; _9; …]
         peeks ! P.the-row (Is P.the-row) (shows 𝓤 H A P.the-row) p (u ∷ []) (λ is.
