@@ -11,3 +11,4 @@ pub mod Cursors
 pub mod Outputs
 pub mod Picks
 pub mod Wires
+pub mod Checks

@@ -2,7 +2,7 @@
 -- Assumes nothing.
 use Prim.Native.Nat.{ℕ, _+_, _-_}
 use mathlib.Core.Bool.{Bool, cond, not, _&&_, _||_}
-use mathlib.Core.List.{List}
+use mathlib.Core.List.{List, [], _∷_}
 use lib.Dec.{leb, eqb}
 use lib.IntN.{ℤ}
 use lib.ListN.{length, getD}
@@ -27,3 +27,8 @@ opensAt bare us at a b n =
     cond bare
     (eqb a 0 && eqb b 1 && n)
     (leb 1 a && leb 1 b && leb a (length us - at) && not (isLow (getD us (at + a) 0)) && (n || (eqb a 1 && eqb b 1)))
+
+-- the units of all these clusters
+unfoldable pub unitSum : List Cluster → ℕ
+unitSum [] = 0
+unitSum (c ∷ cs) = c .units + unitSum cs

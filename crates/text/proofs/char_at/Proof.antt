@@ -4,7 +4,7 @@ use native.Mathlib.Omega.{arith}
 use mathlib.Core.Bool.{true}
 use Rattle.label.specs.Text.{trail}
 use mathlib.Core.Path.{_≡_, sym, _∙_}
-use lib.ListN.{getD, drop, length, length-drop}
+use lib.ListN.{drop, length-drop}
 use Rattle.text.proofs.Chars.{char-unfit, char-cut, char-good, char-outside, trail-inside}
 use borrow.Author.Needs.{needs}
 use Rattle.text.proofs.char_at.Statement.{statement}
