@@ -1,17 +1,17 @@
 -- Laws of the character at a place, and of the walk over a text's characters.
 -- Assumes nothing.
-use Prim.Native.Nat.{ℕ, zero, suc, _+_, _*_, _-_, _%_, _^_, _≤_, _<_}
+use Prim.Native.Nat.{ℕ, zero, suc, _+_, _*_, _-_, _%_, _≤_, _<_}
 use native.Mathlib.Omega.{arith}
-use native.Mathlib.Nat.{not-suc-le-zero, add-zero, add-suc, suc-add}
+use native.Mathlib.Nat.{add-zero}
 use native.Mathlib.Numerals.{add-one}
-use mathlib.Core.Path.{_≡_, refl, sym, _∙_, ap, subst}
-use mathlib.Core.Bool.{Bool, true, false, cond, not, _&&_, _||_, false≢true, and-false, and-true}
-use mathlib.Core.List.{List, [], _∷_, _++_, append-assoc, append-nil}
-use borrow.Author.Tests.{eq-eqb, ne-eqb, not-true, le-leb, lt-leb}
-use lib.Dec.{eqb, ltb, leb}
-use lib.ListN.{length, getD, take, drop, length-append, length-drop, drop-of-length-le}
-use lib.Seq.{getD-drop, drop-cons, drop-drop}
-use Rattle.label.specs.Outcome.{Outcome, ok, no, need, _>>=_, _>>_}
+use mathlib.Core.Path.{_≡_, refl, sym, _∙_, ap}
+use mathlib.Core.Bool.{Bool, true, false, false≢true, and-false}
+use mathlib.Core.List.{List, [], _∷_, _++_, append-nil}
+use borrow.Author.Tests.{ne-eqb, le-leb, lt-leb}
+use lib.Dec.{eqb, leb}
+use lib.ListN.{length, getD, drop, length-append, length-drop, drop-of-length-le}
+use lib.Seq.{getD-drop, drop-cons}
+use Rattle.label.specs.Outcome.{Outcome, ok}
 use Rattle.label.specs.Text.{within, lead, starts, trail, scalar, xmlChar, unitsOf, decode}
 use Rattle.label.specs.declared.Row.{Row}
 use Rattle.text.specs.Chars.{charAt, counted, pickChar}
@@ -19,7 +19,7 @@ use Rattle.text.specs.declared.Counted.{Counted}
 use Rattle.text.specs.declared.Counted.the-variants.{Units, Refused}
 use Rattle.text.specs.declared.Char.{Char}
 use Rattle.text.specs.declared.Char.the-variants.{Good, Ill, Outside}
-use Rattle.label.proofs.Basics.{and-l, and-r, and-i, clash, cases}
+use Rattle.label.proofs.Basics.{and-r, clash}
 use Rattle.label.proofs.Cursors.{onto, onto-nil, onto-onto, decode-good, decode-ill, decode-outside, decode-end}
 
 -- ── the bytes after a character's first ──

@@ -1,2 +1,4 @@
 pub mod Chars
 pub mod Moves
+pub mod Units
+pub mod Utf8

@@ -2,23 +2,22 @@
 -- Assumes nothing.
 use Prim.Native.Nat.{ℕ, zero, suc, _+_, _-_, _/_, _%_, _≤_, _<_}
 use native.Mathlib.Omega.{arith}
-use native.Mathlib.Nat.{not-suc-le-zero}
-use mathlib.Core.Path.{_≡_, refl, sym, _∙_, ap, subst}
-use mathlib.Core.Bool.{Bool, true, false, not}
+use mathlib.Core.Path.{_≡_, refl, sym, _∙_, ap}
+use mathlib.Core.Bool.{true}
 use mathlib.Core.List.{List, [], _∷_, _++_}
-use borrow.Author.Tests.{le-leb, lt-leb, leb-true}
+use borrow.Author.Tests.{le-leb, lt-leb}
 use lib.Dec.{leb, leb·zero, leb·suc-suc, leb·suc-zero}
-use lib.ListN.{length, getD, drop}
-use Rattle.label.specs.Outcome.{Outcome, ok, no, _>>=_}
-use Rattle.label.specs.Text.{within, xmlChar, isLow, unitsOf, decode}
+use lib.ListN.{length, drop}
+use Rattle.label.specs.Outcome.{ok}
+use Rattle.label.specs.Text.{xmlChar, isLow, unitsOf, decode}
 use Rattle.text.specs.Chars.{charAt}
 use Rattle.label.specs.Run.{whole}
 use Rattle.text.specs.Moves.{unitsFrom, Moves}
 use Rattle.text.specs.declared.Char.the-variants.{Good, Ill, Outside}
 use Rattle.text.specs.declared.Moved.the-variants.{To, Past, Half}
-use Rattle.label.proofs.Basics.{clash, cases, bind-ok, no-ok}
+use Rattle.label.proofs.Basics.{bind-ok, no-ok}
 use Rattle.label.proofs.Walks.{ok-path}
-use Rattle.label.proofs.Texts.{proper-first, within-is, xml-range}
+use Rattle.label.proofs.Texts.{proper-first, within-is}
 use Rattle.label.proofs.Sounds.{decode-proper}
 use Rattle.label.proofs.Cursors.{onto, decode-good, decode-ill, decode-outside, decode-end}
 use Rattle.text.proofs.Chars.{GoodAt, char-is-good, char-is-ill, char-is-outside}

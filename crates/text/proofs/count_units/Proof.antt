@@ -1,6 +1,6 @@
 use Rattle.text.specs.Chars.{charAt}
 use Rattle.text.specs.declared.Char.the-variants.{Good, Ill, Outside}
-use Prim.Native.Nat.{ℕ, _≤_, _<_, _-_, _+_, _*_}
+use Prim.Native.Nat.{_≤_, _-_, _*_}
 use native.Mathlib.Omega.{arith}
 use mathlib.Core.Path.{_≡_, sym, _∙_}
 use borrow.Author.Needs.{needs}
@@ -18,27 +18,21 @@ Inv-loop s i₀ n₀ i n = (i ≤ length s) × (n ≤ 2 * i) × Reached s i n
 abbrev μ-loop : tie.MeasureT-loop
 μ-loop s i₀ n₀ i n = length s - i
 
--- src/lib.rt:226:5
 loop-holds : tie.Need-loop-holds Inv-loop μ-loop
 loop-holds c = (search needs, search needs, reached-start (c .before .args .s .now))
 
--- src/lib.rt:227:15
 char-at-requires : tie.Need-char-at-requires Inv-loop μ-loop
 char-at-requires c κs = search needs
 
--- src/lib.rt:228:26
 enum-known-code : tie.Need-enum-known-code Inv-loop μ-loop
 enum-known-code c = search needs
 
--- src/lib.rt:230:21
 add-n : tie.Need-add-n Inv-loop μ-loop
 add-n c = search needs
 
--- src/lib.rt:232:21
 add-n-2 : tie.Need-add-n-2 Inv-loop μ-loop
 add-n-2 c = search needs
 
--- src/lib.rt:226:5
 loop-less : tie.Need-loop-less Inv-loop μ-loop
 loop-less c =
     let l = c .before .before .before .before .before .before .loop in
@@ -47,7 +41,6 @@ loop-less c =
     let d = reached-inside s (l .i) (c .before .before .code .given .0 .0) (c .before .before .code .given .0 .1 .0) (search needs) g in
     omega (arith, d)
 
--- src/lib.rt:226:5
 loop-again : tie.Need-loop-again Inv-loop μ-loop
 loop-again c =
     let l = c .before .before .before .before .before .before .loop in
@@ -56,7 +49,6 @@ loop-again c =
     let d = reached-inside s (l .i) (c .before .before .code .given .0 .0) (c .before .before .code .given .0 .1 .0) (search needs) g in
     (d .1, omega (arith, d), reached-one s (l .i) (l .n) (c .before .before .code .given .0 .0) (c .before .before .code .given .0 .1 .0) (search needs) (l .inv .2) g (c .if1 .taken))
 
--- src/lib.rt:226:5
 loop-less-2 : tie.Need-loop-less-2 Inv-loop μ-loop
 loop-less-2 c =
     let l = c .before .before .before .before .before .before .loop in
@@ -65,7 +57,6 @@ loop-less-2 c =
     let d = reached-inside s (l .i) (c .before .before .code .given .0 .0) (c .before .before .code .given .0 .1 .0) (search needs) g in
     omega (arith, d)
 
--- src/lib.rt:226:5
 loop-again-2 : tie.Need-loop-again-2 Inv-loop μ-loop
 loop-again-2 c =
     let l = c .before .before .before .before .before .before .loop in
@@ -74,11 +65,9 @@ loop-again-2 c =
     let d = reached-inside s (l .i) (c .before .before .code .given .0 .0) (c .before .before .code .given .0 .1 .0) (search needs) g in
     (d .1, omega (arith, d), reached-two s (l .i) (l .n) (c .before .before .code .given .0 .0) (c .before .before .code .given .0 .1 .0) (search needs) (l .inv .2) g (c .if1 .left))
 
--- src/lib.rt:237:17
 enum-told : tie.Need-enum-told Inv-loop μ-loop
 enum-told c = search needs
 
--- src/lib.rt:237:17
 returns : tie.Need-returns Inv-loop μ-loop
 returns c =
     let l = c .before .before .before .before .loop in
@@ -86,11 +75,9 @@ returns c =
     let g : charAt s (l .i) ≡ Ill = sym (c .before .before .char-at .ensures) ∙ c .enum-told .given .1 in
     reached-ill s (l .i) (l .n) (search needs) (l .inv .2) g
 
--- src/lib.rt:240:17
 enum-told-2 : tie.Need-enum-told-2 Inv-loop μ-loop
 enum-told-2 c = search needs
 
--- src/lib.rt:240:17
 returns-2 : tie.Need-returns-2 Inv-loop μ-loop
 returns-2 c =
     let l = c .before .before .before .before .loop in
@@ -98,7 +85,6 @@ returns-2 c =
     let g : charAt s (l .i) ≡ Outside = sym (c .before .before .char-at .ensures) ∙ c .enum-told2 .given .1 in
     reached-outside s (l .i) (l .n) (search needs) (l .inv .2) g
 
--- src/lib.rt:220:1
 returns-3 : tie.Need-returns-3 Inv-loop μ-loop
 returns-3 c = let l = c .before .loop in reached-end (c .before .before .before .args .s .now) (l .i) (l .n) (c .loop-test .left) (l .inv .2)
 

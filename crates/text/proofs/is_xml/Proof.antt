@@ -6,39 +6,30 @@ use Rattle.text.proofs.is_xml.Tie as tie
 use Rattle.text.proofs.is_xml.Reads as reads
 use Rattle.text.proofs.is_xml.Lts as lts
 
--- src/lib.rt:147:9
 returns : tie.Need-returns
 returns c = let a = c .before .args .c in sym (xml-nine a (search needs))
 
--- src/lib.rt:150:9
 returns-2 : tie.Need-returns-2
 returns-2 c = let a = c .before .before .args .c in sym (xml-ten a (search needs))
 
--- src/lib.rt:153:9
 returns-3 : tie.Need-returns-3
 returns-3 c = let a = c .before .before .before .args .c in sym (xml-thirteen a (search needs))
 
--- src/lib.rt:156:9
 returns-4 : tie.Need-returns-4
 returns-4 c = let a = c .before .before .before .before .args .c in sym (xml-low a (search needs) (search needs) (search needs) (search needs))
 
--- src/lib.rt:159:9
 returns-5 : tie.Need-returns-5
 returns-5 c = let a = c .before .before .before .before .before .args .c in sym (xml-mid a (search needs) (search needs))
 
--- src/lib.rt:162:9
 returns-6 : tie.Need-returns-6
 returns-6 c = let a = c .before .before .before .before .before .before .args .c in sym (xml-gap a (search needs) (search needs) (search needs))
 
--- src/lib.rt:165:9
 returns-7 : tie.Need-returns-7
 returns-7 c = let a = c .before .before .before .before .before .before .before .args .c in sym (xml-plane a (search needs) (search needs) (search needs))
 
--- src/lib.rt:168:9
 returns-8 : tie.Need-returns-8
 returns-8 c = let a = c .before .before .before .before .before .before .before .before .args .c in sym (xml-non a (search needs) (search needs) (search needs))
 
--- src/lib.rt:143:1
 returns-9 : tie.Need-returns-9
 returns-9 c = let a = c .before .before .before .before .before .before .before .before .args .c in sym (xml-high a (search needs) (search needs))
 

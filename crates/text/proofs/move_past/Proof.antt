@@ -1,10 +1,10 @@
-use Prim.Native.Nat.{ℕ, _≤_, _<_, _-_, _+_, _*_}
+use Prim.Native.Nat.{_-_}
 use native.Mathlib.Omega.{arith}
-use mathlib.Core.Path.{_≡_, refl, sym, _∙_, ap}
+use mathlib.Core.Path.{_≡_, sym, _∙_}
 use borrow.Author.Needs.{needs}
 use lib.ListN.{length}
 use Rattle.text.specs.Chars.{charAt}
-use Rattle.text.specs.declared.Char.the-variants.{Good, Ill, Outside}
+use Rattle.text.specs.declared.Char.the-variants.{Good}
 use Rattle.text.proofs.Chars.{reached-inside}
 use Rattle.text.proofs.Moves.{Left, left-start, left-one, left-two, left-half, left-past, left-done, left-no-ill, left-no-outside}
 use Rattle.text.proofs.move_past.Statement.{statement}
@@ -19,30 +19,24 @@ Inv-loop s at count b₀ a₀ b a = Left s at count b a
 abbrev μ-loop : tie.MeasureT-loop
 μ-loop s at count b₀ a₀ b a = length s - b
 
--- src/lib.rt:429:5
 loop-holds : tie.Need-loop-holds Inv-loop μ-loop
 loop-holds c = left-start (c .before .args .s .now) (c .before .args .at) (c .before .args .count) (c .before .pre)
 
--- src/lib.rt:431:13
 returns : tie.Need-returns Inv-loop μ-loop
 returns c =
     let g = c .before .before .before .before .args in
     let l = c .before .before .loop in
     left-past (g .s .now) (g .at) (g .count) (l .b) (l .a) (l .inv) (c .before .loop-test .taken) (c .if1 .taken)
 
--- src/lib.rt:433:15
 char-at-requires : tie.Need-char-at-requires Inv-loop μ-loop
 char-at-requires c κs = search needs
 
--- src/lib.rt:434:26
 enum-known-code : tie.Need-enum-known-code Inv-loop μ-loop
 enum-known-code c = search needs
 
--- src/lib.rt:436:21
 sub-a : tie.Need-sub-a Inv-loop μ-loop
 sub-a c = search needs
 
--- src/lib.rt:439:25
 returns-2 : tie.Need-returns-2 Inv-loop μ-loop
 returns-2 c =
     let g = c .before .before .before .before .before .before .before .before .before .before .args in
@@ -51,11 +45,9 @@ returns-2 c =
     let k : charAt (g .s .now) (l .b) ≡ Good (v .0 .0) (v .0 .1 .0) = sym (c .before .before .before .before .before .char-at .ensures) ∙ v .1 in
     left-half (g .s .now) (g .at) (g .count) (l .b) (l .a) (v .0 .0) (v .0 .1 .0) (l .inv) (c .if3 .taken) (c .before .before .before .before .before .before .if1 .left) k (c .before .if2 .left)
 
--- src/lib.rt:441:21
 sub-a-2 : tie.Need-sub-a-2 Inv-loop μ-loop
 sub-a-2 c = search needs
 
--- src/lib.rt:429:5
 loop-less : tie.Need-loop-less Inv-loop μ-loop
 loop-less c =
     let g = c .before .before .before .before .before .before .before .before .before .args in
@@ -65,7 +57,6 @@ loop-less c =
     let d = reached-inside (g .s .now) (l .b) (v .0 .0) (v .0 .1 .0) (c .before .before .before .before .before .if1 .left) k in
     omega (arith, d, c .before .before .before .before .before .if1 .left)
 
--- src/lib.rt:429:5
 loop-again : tie.Need-loop-again Inv-loop μ-loop
 loop-again c =
     let g = c .before .before .before .before .before .before .before .before .before .args in
@@ -74,7 +65,6 @@ loop-again c =
     let k : charAt (g .s .now) (l .b) ≡ Good (v .0 .0) (v .0 .1 .0) = sym (c .before .before .before .before .char-at .ensures) ∙ v .1 in
     left-one (g .s .now) (g .at) (g .count) (l .b) (l .a) (v .0 .0) (v .0 .1 .0) (l .inv) (c .before .before .before .before .before .before .loop-test .taken) (c .before .before .before .before .before .if1 .left) k (c .if2 .taken)
 
--- src/lib.rt:429:5
 loop-less-2 : tie.Need-loop-less-2 Inv-loop μ-loop
 loop-less-2 c =
     let g = c .before .before .before .before .before .before .before .before .before .before .args in
@@ -84,7 +74,6 @@ loop-less-2 c =
     let d = reached-inside (g .s .now) (l .b) (v .0 .0) (v .0 .1 .0) (c .before .before .before .before .before .before .if1 .left) k in
     omega (arith, d, c .before .before .before .before .before .before .if1 .left)
 
--- src/lib.rt:429:5
 loop-again-2 : tie.Need-loop-again-2 Inv-loop μ-loop
 loop-again-2 c =
     let g = c .before .before .before .before .before .before .before .before .before .before .args in
@@ -93,29 +82,24 @@ loop-again-2 c =
     let k : charAt (g .s .now) (l .b) ≡ Good (v .0 .0) (v .0 .1 .0) = sym (c .before .before .before .before .before .char-at .ensures) ∙ v .1 in
     left-two (g .s .now) (g .at) (g .count) (l .b) (l .a) (v .0 .0) (v .0 .1 .0) (l .inv) (c .before .before .before .before .before .before .before .loop-test .taken) (c .if3 .left) (c .before .before .before .before .before .before .if1 .left) k (c .before .if2 .left)
 
--- src/lib.rt:446:17
 enum-told : tie.Need-enum-told Inv-loop μ-loop
 enum-told c = search needs
 
--- src/lib.rt:446:17
 returns-3 : tie.Need-returns-3 Inv-loop μ-loop
 returns-3 c =
     let g = c .before .before .before .before .before .before .before .args in
     let l = c .before .before .before .before .before .loop in
     left-no-ill (g .s .now) (g .at) (g .count) (l .b) (l .a) (l .inv) (c .before .before .before .if1 .left) (sym (c .before .before .char-at .ensures) ∙ c .enum-told .given .1)
 
--- src/lib.rt:449:17
 enum-told-2 : tie.Need-enum-told-2 Inv-loop μ-loop
 enum-told-2 c = search needs
 
--- src/lib.rt:449:17
 returns-4 : tie.Need-returns-4 Inv-loop μ-loop
 returns-4 c =
     let g = c .before .before .before .before .before .before .before .args in
     let l = c .before .before .before .before .before .loop in
     left-no-outside (g .s .now) (g .at) (g .count) (l .b) (l .a) (l .inv) (c .before .before .before .if1 .left) (sym (c .before .before .char-at .ensures) ∙ c .enum-told2 .given .1)
 
--- src/lib.rt:423:1
 returns-5 : tie.Need-returns-5 Inv-loop μ-loop
 returns-5 c =
     let g = c .before .before .before .args in

@@ -8,124 +8,96 @@ use Rattle.text.proofs.row_of.Lts as lts
 use Rattle.text.proofs.is_within.Reads as is-within-reads
 use Rattle.text.proofs.row.Reads as row-reads
 
--- src/lib.rt:37:8
 is-within-requires : tie.Need-is-within-requires
 is-within-requires c κs = search needs
 
--- src/lib.rt:38:9
 row-requires : tie.Need-row-requires
 row-requires c κs = search needs
 
--- src/lib.rt:38:9
 returns : tie.Need-returns
 unfolding lead
 returns c = rw (c .row .ensures, sym (c .before .before .is-within .ensures) ∙ c .before .if1 .taken)
 
--- src/lib.rt:40:8
 is-within-requires-2 : tie.Need-is-within-requires-2
 is-within-requires-2 c κs = search needs
 
--- src/lib.rt:41:9
 row-requires-2 : tie.Need-row-requires-2
 row-requires-2 c κs = search needs
 
--- src/lib.rt:41:9
 returns-2 : tie.Need-returns-2
 unfolding lead
 returns-2 c = rw (c .row2 .ensures, sym (c .before .before .before .before .is-within .ensures) ∙ c .before .before .before .if1 .left, sym (c .before .before .is-within2 .ensures) ∙ c .before .if2 .taken)
 
--- src/lib.rt:43:8
 is-within-requires-3 : tie.Need-is-within-requires-3
 is-within-requires-3 c κs = search needs
 
--- src/lib.rt:44:9
 row-requires-3 : tie.Need-row-requires-3
 row-requires-3 c κs = search needs
 
--- src/lib.rt:44:9
 returns-3 : tie.Need-returns-3
 unfolding lead
 returns-3 c = rw (c .row3 .ensures, sym (c .before .before .before .before .before .before .is-within .ensures) ∙ c .before .before .before .before .before .if1 .left, sym (c .before .before .before .before .is-within2 .ensures) ∙ c .before .before .before .if2 .left, sym (c .before .before .is-within3 .ensures) ∙ c .before .if3 .taken)
 
--- src/lib.rt:46:8
 is-within-requires-4 : tie.Need-is-within-requires-4
 is-within-requires-4 c κs = search needs
 
--- src/lib.rt:47:9
 row-requires-4 : tie.Need-row-requires-4
 row-requires-4 c κs = search needs
 
--- src/lib.rt:47:9
 returns-4 : tie.Need-returns-4
 unfolding lead
 returns-4 c = rw (c .row4 .ensures, sym (c .before .before .before .before .before .before .before .before .is-within .ensures) ∙ c .before .before .before .before .before .before .before .if1 .left, sym (c .before .before .before .before .before .before .is-within2 .ensures) ∙ c .before .before .before .before .before .if2 .left, sym (c .before .before .before .before .is-within3 .ensures) ∙ c .before .before .before .if3 .left, sym (c .before .before .is-within4 .ensures) ∙ c .before .if4 .taken)
 
--- src/lib.rt:49:8
 is-within-requires-5 : tie.Need-is-within-requires-5
 is-within-requires-5 c κs = search needs
 
--- src/lib.rt:50:9
 row-requires-5 : tie.Need-row-requires-5
 row-requires-5 c κs = search needs
 
--- src/lib.rt:50:9
 returns-5 : tie.Need-returns-5
 unfolding lead
 returns-5 c = rw (c .row5 .ensures, sym (c .before .before .before .before .before .before .before .before .before .before .is-within .ensures) ∙ c .before .before .before .before .before .before .before .before .before .if1 .left, sym (c .before .before .before .before .before .before .before .before .is-within2 .ensures) ∙ c .before .before .before .before .before .before .before .if2 .left, sym (c .before .before .before .before .before .before .is-within3 .ensures) ∙ c .before .before .before .before .before .if3 .left, sym (c .before .before .before .before .is-within4 .ensures) ∙ c .before .before .before .if4 .left, sym (c .before .before .is-within5 .ensures) ∙ c .before .if5 .taken)
 
--- src/lib.rt:52:8
 is-within-requires-6 : tie.Need-is-within-requires-6
 is-within-requires-6 c κs = search needs
 
--- src/lib.rt:53:9
 row-requires-6 : tie.Need-row-requires-6
 row-requires-6 c κs = search needs
 
--- src/lib.rt:53:9
 returns-6 : tie.Need-returns-6
 unfolding lead
 returns-6 c = rw (c .row6 .ensures, sym (c .before .before .before .before .before .before .before .before .before .before .before .before .is-within .ensures) ∙ c .before .before .before .before .before .before .before .before .before .before .before .if1 .left, sym (c .before .before .before .before .before .before .before .before .before .before .is-within2 .ensures) ∙ c .before .before .before .before .before .before .before .before .before .if2 .left, sym (c .before .before .before .before .before .before .before .before .is-within3 .ensures) ∙ c .before .before .before .before .before .before .before .if3 .left, sym (c .before .before .before .before .before .before .is-within4 .ensures) ∙ c .before .before .before .before .before .if4 .left, sym (c .before .before .before .before .is-within5 .ensures) ∙ c .before .before .before .if5 .left, sym (c .before .before .is-within6 .ensures) ∙ c .before .if6 .taken)
 
--- src/lib.rt:55:8
 is-within-requires-7 : tie.Need-is-within-requires-7
 is-within-requires-7 c κs = search needs
 
--- src/lib.rt:56:9
 row-requires-7 : tie.Need-row-requires-7
 row-requires-7 c κs = search needs
 
--- src/lib.rt:56:9
 returns-7 : tie.Need-returns-7
 unfolding lead
 returns-7 c = rw (c .row7 .ensures, sym (c .before .before .before .before .before .before .before .before .before .before .before .before .before .before .is-within .ensures) ∙ c .before .before .before .before .before .before .before .before .before .before .before .before .before .if1 .left, sym (c .before .before .before .before .before .before .before .before .before .before .before .before .is-within2 .ensures) ∙ c .before .before .before .before .before .before .before .before .before .before .before .if2 .left, sym (c .before .before .before .before .before .before .before .before .before .before .is-within3 .ensures) ∙ c .before .before .before .before .before .before .before .before .before .if3 .left, sym (c .before .before .before .before .before .before .before .before .is-within4 .ensures) ∙ c .before .before .before .before .before .before .before .if4 .left, sym (c .before .before .before .before .before .before .is-within5 .ensures) ∙ c .before .before .before .before .before .if5 .left, sym (c .before .before .before .before .is-within6 .ensures) ∙ c .before .before .before .if6 .left, sym (c .before .before .is-within7 .ensures) ∙ c .before .if7 .taken)
 
--- src/lib.rt:58:8
 is-within-requires-8 : tie.Need-is-within-requires-8
 is-within-requires-8 c κs = search needs
 
--- src/lib.rt:59:9
 row-requires-8 : tie.Need-row-requires-8
 row-requires-8 c κs = search needs
 
--- src/lib.rt:59:9
 returns-8 : tie.Need-returns-8
 unfolding lead
 returns-8 c = rw (c .row8 .ensures, sym (c .before .before .before .before .before .before .before .before .before .before .before .before .before .before .before .before .is-within .ensures) ∙ c .before .before .before .before .before .before .before .before .before .before .before .before .before .before .before .if1 .left, sym (c .before .before .before .before .before .before .before .before .before .before .before .before .before .before .is-within2 .ensures) ∙ c .before .before .before .before .before .before .before .before .before .before .before .before .before .if2 .left, sym (c .before .before .before .before .before .before .before .before .before .before .before .before .is-within3 .ensures) ∙ c .before .before .before .before .before .before .before .before .before .before .before .if3 .left, sym (c .before .before .before .before .before .before .before .before .before .before .is-within4 .ensures) ∙ c .before .before .before .before .before .before .before .before .before .if4 .left, sym (c .before .before .before .before .before .before .before .before .is-within5 .ensures) ∙ c .before .before .before .before .before .before .before .if5 .left, sym (c .before .before .before .before .before .before .is-within6 .ensures) ∙ c .before .before .before .before .before .if6 .left, sym (c .before .before .before .before .is-within7 .ensures) ∙ c .before .before .before .if7 .left, sym (c .before .before .is-within8 .ensures) ∙ c .before .if8 .taken)
 
--- src/lib.rt:61:8
 is-within-requires-9 : tie.Need-is-within-requires-9
 is-within-requires-9 c κs = search needs
 
--- src/lib.rt:62:9
 row-requires-9 : tie.Need-row-requires-9
 row-requires-9 c κs = search needs
 
--- src/lib.rt:62:9
 returns-9 : tie.Need-returns-9
 unfolding lead
 returns-9 c = rw (c .row9 .ensures, sym (c .before .before .before .before .before .before .before .before .before .before .before .before .before .before .before .before .before .before .is-within .ensures) ∙ c .before .before .before .before .before .before .before .before .before .before .before .before .before .before .before .before .before .if1 .left, sym (c .before .before .before .before .before .before .before .before .before .before .before .before .before .before .before .before .is-within2 .ensures) ∙ c .before .before .before .before .before .before .before .before .before .before .before .before .before .before .before .if2 .left, sym (c .before .before .before .before .before .before .before .before .before .before .before .before .before .before .is-within3 .ensures) ∙ c .before .before .before .before .before .before .before .before .before .before .before .before .before .if3 .left, sym (c .before .before .before .before .before .before .before .before .before .before .before .before .is-within4 .ensures) ∙ c .before .before .before .before .before .before .before .before .before .before .before .if4 .left, sym (c .before .before .before .before .before .before .before .before .before .before .is-within5 .ensures) ∙ c .before .before .before .before .before .before .before .before .before .if5 .left, sym (c .before .before .before .before .before .before .before .before .is-within6 .ensures) ∙ c .before .before .before .before .before .before .before .if6 .left, sym (c .before .before .before .before .before .before .is-within7 .ensures) ∙ c .before .before .before .before .before .if7 .left, sym (c .before .before .before .before .is-within8 .ensures) ∙ c .before .before .before .if8 .left, sym (c .before .before .is-within9 .ensures) ∙ c .before .if9 .taken)
 
--- src/lib.rt:34:1
 returns-10 : tie.Need-returns-10
 unfolding lead
 returns-10 c = rw (sym (c .before .before .before .before .before .before .before .before .before .before .before .before .before .before .before .before .before .is-within .ensures) ∙ c .before .before .before .before .before .before .before .before .before .before .before .before .before .before .before .before .if1 .left, sym (c .before .before .before .before .before .before .before .before .before .before .before .before .before .before .before .is-within2 .ensures) ∙ c .before .before .before .before .before .before .before .before .before .before .before .before .before .before .if2 .left, sym (c .before .before .before .before .before .before .before .before .before .before .before .before .before .is-within3 .ensures) ∙ c .before .before .before .before .before .before .before .before .before .before .before .before .if3 .left, sym (c .before .before .before .before .before .before .before .before .before .before .before .is-within4 .ensures) ∙ c .before .before .before .before .before .before .before .before .before .before .if4 .left, sym (c .before .before .before .before .before .before .before .before .before .is-within5 .ensures) ∙ c .before .before .before .before .before .before .before .before .if5 .left, sym (c .before .before .before .before .before .before .before .is-within6 .ensures) ∙ c .before .before .before .before .before .before .if6 .left, sym (c .before .before .before .before .before .is-within7 .ensures) ∙ c .before .before .before .before .if7 .left, sym (c .before .before .before .is-within8 .ensures) ∙ c .before .before .if8 .left, sym (c .before .is-within9 .ensures) ∙ c .if9 .left)

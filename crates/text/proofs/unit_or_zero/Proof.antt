@@ -7,19 +7,15 @@ use Rattle.text.proofs.unit_or_zero.Tie as tie
 use Rattle.text.proofs.unit_or_zero.Reads as reads
 use Rattle.text.proofs.unit_or_zero.Lts as lts
 
--- src/lib.rt:111:23
 mul-result : tie.Need-mul-result
 mul-result c = search needs
 
--- src/lib.rt:111:23
 shared-slice-read-result : tie.Need-shared-slice-read-result
 shared-slice-read-result c = search needs
 
--- src/lib.rt:108:1
 returns : tie.Need-returns
 returns c = search needs
 
--- src/lib.rt:108:1
 returns-2 : tie.Need-returns-2
 returns-2 c = sym (List·getD-eq-default (now (c .before .args .us)) 0 (c .if1 .left))
 
