@@ -6,11 +6,11 @@ use label::Reading;
 use label::Refusal;
 use label::Writing;
 ghost use mathlib.Core.Path.{_≡_};
-ghost use Prim.Native.Nat.{_+_, _≤_};
-ghost use lib.ListN.{length, drop};
+ghost use Prim.Native.Nat.{_≤_, _<_};
+ghost use lib.ListN.{length};
 ghost use Rattle.label.specs.Limits.{maxTextBytes, maxIndicesBytes};
-ghost use Rattle.label.specs.Relabel.{line, relabelRead};
-ghost use Rattle.lines.specs.Lines.{relabelOutcome, relabelled, textLine, indicesLine};
+ghost use Rattle.label.specs.Relabel.{relabelRead};
+ghost use Rattle.lines.specs.Lines.{lineEnd, lineBehind, twoLines, relabelOutcome, relabelled, textLine, indicesLine};
 
 pub struct Relabelled {
     pub read: Counts,
@@ -23,9 +23,9 @@ pub enum Relabelling {
 }
 
 // The end of the line that starts at `from`: its line feed, or the end of the input.
-pub fn line_end(s: &[u8], from: usize) -> usize
+fn line_end(s: &[u8], from: usize) -> usize
     requires { ⌜ from ≤ length (now s) ⌝ }
-    ensures { λ r. ⌜ r ≡ from + length (line (drop from (now (s .entry))) .before) ⌝ }
+    ensures { λ r. ⌜ r ≡ lineEnd (now (s .entry)) from ⌝ }
     ensures bounds { λ r. ⌜ (from ≤ r) × (r ≤ length (now (s .entry))) ⌝ }
 {
     let mut i = from;
@@ -36,6 +36,41 @@ pub fn line_end(s: &[u8], from: usize) -> usize
         i += 1;
     }
     i
+}
+
+// The place behind a line that ends at `end`: behind its line feed, or the end of the input.
+fn next_line(s: &[u8], end: usize) -> usize
+    requires { ⌜ end ≤ length (now s) ⌝ }
+    ensures { λ r. ⌜ r ≡ lineBehind (now (s .entry)) end ⌝ }
+    ensures bounds { λ r. ⌜ (end ≤ r) × (r ≤ length (now (s .entry))) × (end < length (now (s .entry)) → end < r) ⌝ }
+{
+    if end < s.len() { end + 1 } else { end }
+}
+
+// Where a label's two lines stand: the text up to `text_end`, the indices from `start` to `end`, and what follows from `next` on.
+pub struct TwoLines {
+    pub text_end: usize,
+    pub start: usize,
+    pub end: usize,
+    pub next: usize,
+}
+
+// The two lines from `at` on.
+pub fn two_lines(s: &[u8], at: usize) -> TwoLines
+    requires { ⌜ at ≤ length (now s) ⌝ }
+    ensures { λ r. ⌜ r ≡ twoLines (now (s .entry)) at ⌝ }
+    ensures bounds { λ r. ⌜ (at ≤ r .«text_end») × (r .«text_end» ≤ length (now (s .entry))) × (r .start ≤ r .end) × (r .end ≤ length (now (s .entry))) × (r .next ≤ length (now (s .entry))) × (at < length (now (s .entry)) → at < r .next) ⌝ }
+{
+    let text_end = line_end(s, at);
+    let start = next_line(s, text_end);
+    let end = line_end(s, start);
+    let next = next_line(s, end);
+    TwoLines {
+        text_end,
+        start,
+        end,
+        next,
+    }
 }
 
 fn answer(read: Counts, w: Writing) -> Relabelling {
