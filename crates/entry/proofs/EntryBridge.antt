@@ -1,16 +1,16 @@
 -- An entry scanned in one pass is the entry of the definitions: the same refusal, or the same values.
 -- Assumes nothing.
 use mathlib.Core.Path.{_≡_, refl, ap, sym, _∙_, subst}
-use mathlib.Core.Bool.{Bool, true, false, not, cond, _&&_, _||_, and-false, and-true}
+use mathlib.Core.Bool.{Bool, true, false, not, cond, _&&_, and-false, and-true}
 use mathlib.Core.List.{List, [], _∷_, _++_, append-nil, append-assoc}
-use Prim.Native.Nat.{ℕ, suc, zero, _+_, _≤_, _<_}
+use Prim.Native.Nat.{ℕ, suc, _+_, _≤_}
 use native.Mathlib.Omega.{arith}
 use lib.ListN.{length, drop, getD, length-drop, length-append}
 use lib.Seq.{drop-drop}
 use lib.Dec.{leb, ltb, eqb}
 use borrow.Author.Tests.{eqb-true, leb-true, leb-false, le-leb, lt-leb, lt-ltb}
 use Rattle.label.specs.Limits.{maxIndex}
-use Rattle.label.specs.Outcome.{Outcome, ok, no, need, _>>=_, _>>_}
+use Rattle.label.specs.Outcome.{Outcome, ok, need, _>>_}
 use Rattle.label.specs.Bytes.{empty, Cut, split, value}
 use Rattle.label.specs.Entry.{Entry, entry, part, minus, unsigned, numberFits, hasMap, mapUnits, mapGlyphs, isIndexPart, indexDigits, isAdvance, isOffset, fieldFits, wellFormed, indexOf, advanceOf, offsetOf, entryOf}
 use Rattle.label.specs.declared.Index.the-variants.{Named, Font}
@@ -23,8 +23,8 @@ use Rattle.entry.specs.Numbers.{within}
 use Rattle.entry.specs.Parts.{Parts, partsOf, mapOf, indexAt, frontOk, fieldOf, wellParted, indexChoice, advanceChoice, offsetBy, scanned}
 use Rattle.entry.proofs.Scan.{Cutting, whole, parted, cutting, none-or, none-left, none-right}
 use Rattle.entry.proofs.FieldBridge.{fieldSize, Fielded, field-is, field-stuck, advance-field, or-right}
-use Rattle.entry.proofs.FieldBridge as fb
 use Rattle.entry.proofs.FrontBridge.{Headed, head-is}
+use Rattle.entry.proofs.FieldBridge as fb
 use Rattle.entry.proofs.FrontBridge as mb
 
 -- ── the parts between commas ──
@@ -302,7 +302,7 @@ scannedBy p0 p1 p2 p3 =
         index = indexChoice (ltb 0 (length (indexDigits p0))) (value (indexDigits p0));
         advance = advanceChoice (not (empty p1)) (fieldSize p1);
         u = offsetBy (minus p2) (fieldSize p2);
-        v = offsetBy (minus p3) (fieldSize p3)
+        v = offsetBy (minus p3) (fieldSize p3);
       };
     }
 

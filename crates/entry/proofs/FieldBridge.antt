@@ -17,7 +17,7 @@ use Rattle.entry.specs.declared.Thousandths.the-variants.{Of}
 use Rattle.entry.specs.Digits.{ends, isBreak}
 use Rattle.entry.specs.Numbers.{numberOf, signLength}
 use Rattle.entry.specs.Parts.{fieldOf, notGiven, givenBy}
-use Rattle.entry.proofs.NumberBridge.{Signed, signed, none-unsigned, sizedAs, Numbered, number-is}
+use Rattle.entry.proofs.NumberBridge.{signed, none-unsigned, sizedAs, Numbered, number-is}
 use Rattle.entry.proofs.NumberBridge as nb
 
 pub or-left : (a b : Bool) → (a || b) ≡ false → a ≡ false

@@ -1,7 +1,7 @@
 -- The map and the index scanned at the front of an entry are the index part of the definitions.
 -- Assumes nothing.
 use mathlib.Core.Path.{_≡_, refl, ap, sym, _∙_, subst}
-use mathlib.Core.Bool.{Bool, true, false, not, cond, _&&_, _||_, and-false, and-true}
+use mathlib.Core.Bool.{Bool, true, false, not, _&&_, _||_, and-false, and-true}
 use mathlib.Core.List.{List, [], _∷_, _++_, append-assoc}
 use Prim.Native.Nat.{ℕ, _+_}
 use native.Mathlib.Nat.{zero-add}
@@ -9,7 +9,7 @@ use lib.ListN.{length, drop}
 use lib.Seq.{drop-drop}
 use lib.Dec.{ltb, eqb}
 use borrow.Author.Tests.{eqb-true}
-use Rattle.label.specs.Bytes.{empty, Cut, cut, isDigit, allDigits, digits}
+use Rattle.label.specs.Bytes.{empty, cut, isDigit, allDigits, digits}
 use Rattle.label.specs.Entry.{hasMap, atParenthesis, atColon, isIndexPart, indexDigits, mapUnits, mapGlyphs}
 use Rattle.label.proofs.Basics.{and-r, cases}
 use Rattle.label.proofs.Splits.{none}
@@ -137,7 +137,7 @@ closed-one a w r x na ca nw h hm ar inn = go (front a (41 ∷ (w ++ r)) refl)
     go (full i l f) =
         mapped x r (40 ∷ (a ++ (41 ∷ (w ++ r)))) w (oneMap a) (map-is (a ++ (41 ∷ (w ++ r))) ∙ rw (f, l)) refl
         (behind-one (a ++ (41 ∷ (w ++ r))) (length a) ∙ rw (sym (ap length l)) (rw f))
-        (rw (hm, inn, ar, i, and-true, and-true, some-is a)) hm (rw (hm, ar)) (λ o. rw (hm, inn) ) (λ o. rw (hm, inn)) nw h
+        (rw (hm, inn, ar, i, and-true, and-true, some-is a)) hm (rw (hm, ar)) (λ o. rw (hm, inn)) (λ o. rw (hm, inn)) nw h
 
 -- `(a:b)` and what follows
 closed-two : (a b w r x : List ℕ) → none isClose a ≡ true → none isColon a ≡ true → none isClose b ≡ true → none isBreak w ≡ true → ends isBreak r ≡ true
@@ -154,7 +154,7 @@ closed-two a b w r x na ca nb nw h hm af aw inn = outer (front a (58 ∷ (b ++ (
         mapped x r (40 ∷ (a ++ (58 ∷ (b ++ (41 ∷ (w ++ r)))))) w (twoMap a b) (m ∙ rw (g, v)) refl
         (behind-two (a ++ (58 ∷ (b ++ (41 ∷ (w ++ r))))) (length a) (length b) ∙ rw (rw l at f) (rw (rw v at g)))
         (rw (hm, inn, af, aw, i, j, and-true, and-true, some-is a, some-is b) (assoc (digits w) (not (empty a)) (not (empty b)))) hm (rw (hm, aw))
-        (λ o. rw (hm, inn) ) (λ o. rw (hm, inn) ) nw h
+        (λ o. rw (hm, inn)) (λ o. rw (hm, inn)) nw h
 
     outer : Front a (58 ∷ (b ++ (41 ∷ (w ++ r)))) → Headed x r (40 ∷ (a ++ (58 ∷ (b ++ (41 ∷ (w ++ r))))))
     outer (odd i c y f g) = ill x r (40 ∷ (a ++ (58 ∷ (b ++ (41 ∷ (w ++ r)))))) (map-is (a ++ (58 ∷ (b ++ (41 ∷ (w ++ r))))) ∙ rw (f, g isClose na, g isColon ca)) (rw (hm, inn, i, and-false, and-false))

@@ -10,9 +10,9 @@ use lib.Seq.{drop-append-seam, drop-drop}
 use lib.Dec.{leb, ltb, eqb}
 use borrow.Author.Tests.{eqb-true}
 use Rattle.label.specs.Limits.{maxDigits, maxExponentDigits, maxThousandths}
-use Rattle.label.specs.Bytes.{Cut, cut, isDigit, allDigits, value}
+use Rattle.label.specs.Bytes.{cut, isDigit, allDigits, value}
 use Rattle.label.specs.Entry.{minus, plus, unsigned, isE, isPoint, atExponent, isDecimals, isNumber, mantissaDigits, fractionDigits, exponentDigits, scaled, thousandths, numberFits}
-use Rattle.label.proofs.Basics.{and-l, and-r, clash, cases}
+use Rattle.label.proofs.Basics.{and-r, clash, cases}
 use Rattle.label.proofs.Splits.{none}
 use Rattle.entry.specs.declared.Thousandths.{Thousandths}
 use Rattle.entry.specs.declared.Thousandths.the-variants.{Of, Over}

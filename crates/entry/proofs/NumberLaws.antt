@@ -1,12 +1,12 @@
 -- Laws of a number's parts. Assumes nothing.
-use mathlib.Core.Path.{_≡_, refl, ap, sym, _∙_}
+use mathlib.Core.Path.{_≡_, refl, ap, sym}
 use mathlib.Core.Bool.{Bool, true, false, cond, _&&_, _||_}
 use mathlib.Core.List.{List, [], _∷_, _++_}
 use Prim.Native.Nat.{ℕ, suc, zero, _+_, _-_, _*_, _^_, _≤_, _<_, min}
 use native.Mathlib.Omega.{arith}
 use native.Mathlib.Nat.{mul-le-mul-right, pow-suc, lt-of-lt-of-le}
 use lib.Pow.{pow-add}
-use lib.Dec.{leb, ltb, eqb}
+use lib.Dec.{ltb, eqb}
 use lib.ListN.{length, drop, length-append}
 use borrow.Author.Tests.{le-leb, lt-leb, eq-eqb, ne-eqb}
 use lib.Seq.{drop-drop}
@@ -21,7 +21,7 @@ use Rattle.entry.specs.declared.Mantissa.{Mantissa}
 use Rattle.entry.specs.declared.Exponent.{Exponent}
 use Rattle.entry.specs.Items.{cap}
 use Rattle.entry.specs.Digits.{headOf, lead, digitsFrom}
-use Rattle.entry.specs.Numbers.{sized, Mant, Expo, pointed, plain, raised, unraised, mantissaOf, exponentOf, signLength, sizeOf, numberOf, cutMantissa, cutExponent, raisedBy}
+use Rattle.entry.specs.Numbers.{sized, Mant, Expo, pointed, plain, unraised, mantissaOf, exponentOf, signLength, sizeOf, numberOf, cutMantissa, cutExponent, raisedBy}
 use Rattle.entry.proofs.DigitLaws.{lead-yes, lead-no, digit-high, cut-from}
 use Rattle.entry.proofs.ValueLaws.{ten-mono}
 

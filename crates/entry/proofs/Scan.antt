@@ -1,14 +1,14 @@
 -- What the scan meets in a list: digits to the end of a part, or a byte that is none; a part cut at a byte, or whole.
 -- Assumes nothing.
 use mathlib.Core.Path.{_≡_, refl, ap, sym, _∙_, subst}
-use mathlib.Core.Bool.{Bool, true, false, not, cond, _&&_, _||_}
+use mathlib.Core.Bool.{Bool, true, false, not, _||_}
 use mathlib.Core.List.{List, [], _∷_, _++_}
-use Prim.Native.Nat.{ℕ, suc, _<_}
+use Prim.Native.Nat.{ℕ, suc}
 use native.Mathlib.Omega.{arith}
 use lib.ListN.{length, drop}
 use lib.Dec.{ltb, eqb}
 use borrow.Author.Tests.{eqb-true, not-true, lt-ltb}
-use Rattle.label.specs.Bytes.{empty, Cut, cut, isDigit, allDigits}
+use Rattle.label.specs.Bytes.{empty, cut, isDigit, allDigits}
 use Rattle.label.proofs.Basics.{and-l, and-r, and-i, cases}
 use Rattle.label.proofs.Splits.{none}
 use Rattle.label.proofs.Decimals.{cut-none, cut-found}

@@ -1,6 +1,6 @@
 -- Laws of rounding, of powers of ten and of the limit. Assumes nothing.
-use mathlib.Core.Path.{_≡_, refl, ap, sym, _∙_}
-use mathlib.Core.Bool.{Bool, true, false}
+use mathlib.Core.Path.{_≡_, refl, ap, _∙_}
+use mathlib.Core.Bool.{true, false}
 use Prim.Native.Nat.{ℕ, suc, zero, _+_, _-_, _*_, _/_, _%_, _^_, _≤_, _<_}
 use native.Mathlib.Omega.{arith}
 use native.Mathlib.Nat.{div-eq-of-lt-le, mul-div-mul-right, div-eq-of-lt, mul-assoc, one-le-pow, mod-lt, div-add-mod', pow-le-pow-right, mul-le-mul, mul-le-mul-right}

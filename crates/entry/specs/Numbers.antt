@@ -1,7 +1,7 @@
 -- A number at the front of a list: "digits, or digits `.` digits, or `.` digits; then optionally `e` or `E`, an optional sign, digits".
 -- Assumes nothing.
 use mathlib.Core.Bool.{Bool, true, false, cond, _&&_, _||_}
-use mathlib.Core.List.{List, [], _∷_, _++_}
+use mathlib.Core.List.{List, [], _++_}
 use Prim.Native.Nat.{ℕ, _+_, min}
 use lib.ListN.{length, drop}
 use lib.Dec.{leb, ltb, eqb}

@@ -1,13 +1,13 @@
 -- The parts of an entry at the front of a list: a map, the index's digits, and up to three fields; and the checks 7, 8 and 9 of them.
 -- Assumes nothing.
 use mathlib.Core.Bool.{Bool, true, false, cond, not, _&&_, _||_}
-use mathlib.Core.List.{List, [], _∷_}
+use mathlib.Core.List.{List}
 use Prim.Native.Nat.{ℕ, _+_, _≤_, min}
 use lib.ListN.{length, drop}
 use lib.Dec.{leb, ltb, eqb}
 use lib.IntN.{ℤ, pos, negℤ}
 use Rattle.label.specs.Limits.{maxIndex, maxThousandths}
-use Rattle.label.specs.Outcome.{Outcome, ok, no, need, _>>=_, _>>_}
+use Rattle.label.specs.Outcome.{Outcome, ok, need, _>>=_, _>>_}
 use Rattle.label.specs.Bytes.{value}
 use Rattle.label.specs.Entry.{Entry}
 use Rattle.label.specs.declared.Index.{Index}
@@ -176,7 +176,7 @@ saidBy p =
         index = indexChoice (ltb 0 (length (p .digits))) (value (p .digits));
         advance = advanceChoice (p .x .given) (p .x .size);
         u = offsetBy (p .y .negative) (p .y .size);
-        v = offsetBy (p .z .negative) (p .z .size)
+        v = offsetBy (p .z .negative) (p .z .size);
       };
     }
 

@@ -1,38 +1,33 @@
+-- `entry::advance_of` meets its contract. Assumes nothing.
 use mathlib.Core.Bool.{false}
-use Rattle.entry.specs.Parts.{advanceChoice}
-use Rattle.label.specs.declared.Advance.the-variants.{Own}
 use mathlib.Core.Path.{_≡_, refl}
+use borrow.Author.Needs.{needs}
+use Rattle.label.specs.declared.Advance.the-variants.{Own}
+use Rattle.entry.specs.Parts.{advanceChoice}
 use Rattle.entry.specs.declared.Thousandths.the-variants.{Of, Over}
 use Rattle.entry.specs.declared.Thousandths.{Thousandths}
-use borrow.Author.Needs.{needs}
 use Rattle.entry.proofs.advance_of.Statement.{statement}
 use Rattle.entry.proofs.advance_of.Tie as tie
-use Rattle.entry.proofs.advance_of.Reads as reads
-use Rattle.entry.proofs.advance_of.Lts as lts
 
 -- (ours)
 own : (z : Thousandths) → Own ≡ advanceChoice false z
 own (Of v) = refl
 own Over = refl
+
 -- (end)
 
--- src/lib.rt:521:29
 enum-known-z : tie.Need-enum-known-z
 enum-known-z c = search needs
 
--- src/lib.rt:522:34
 enum-told : tie.Need-enum-told
 enum-told c = search needs
 
--- src/lib.rt:516:1
 returns : tie.Need-returns
 returns c = rw (c .before .z .given .1, c .before .before .before .if1 .taken)
 
--- src/lib.rt:516:1
 returns-2 : tie.Need-returns-2
 returns-2 c = search needs
 
--- src/lib.rt:516:1
 returns-3 : tie.Need-returns-3
 returns-3 c = rw (c .if1 .left) (own (c .before .args .z))
 

@@ -1,21 +1,17 @@
-use Rattle.entry.proofs.DigitLaws.{ends-at, ends-end}
-use Rattle.entry.specs.Items.{isSemi}
+-- `entry::ends_at` meets its contract. Assumes nothing.
 use mathlib.Core.Path.{sym}
 use borrow.Author.Needs.{needs}
+use Rattle.entry.specs.Items.{isSemi}
+use Rattle.entry.proofs.DigitLaws.{ends-at, ends-end}
 use Rattle.entry.proofs.ends_at.Statement.{statement}
 use Rattle.entry.proofs.ends_at.Tie as tie
-use Rattle.entry.proofs.ends_at.Reads as reads
-use Rattle.entry.proofs.ends_at.Lts as lts
 
--- src/lib.rt:54:23
 shared-slice-read-result : tie.Need-shared-slice-read-result
 shared-slice-read-result c = search needs
 
--- src/lib.rt:51:1
 returns : tie.Need-returns
 returns c = sym (ends-at isSemi _ _ (c .before .if1 .taken))
 
--- src/lib.rt:51:1
 returns-2 : tie.Need-returns-2
 returns-2 c = sym (ends-end isSemi _ _ (c .if1 .left))
 

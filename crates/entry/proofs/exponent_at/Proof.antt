@@ -1,58 +1,42 @@
-use Rattle.entry.proofs.NumberLaws.{signed-in, code-raised, code-unraised}
-use Rattle.label.specs.Entry.{isE}
+-- `entry::exponent_at` meets its contract. Assumes nothing.
 use mathlib.Core.Path.{ap, sym, _∙_}
 use native.Mathlib.Omega.{arith}
 use borrow.Author.Needs.{needs}
+use Rattle.label.specs.Entry.{isE}
+use Rattle.entry.proofs.NumberLaws.{signed-in, code-raised, code-unraised}
 use Rattle.entry.proofs.exponent_at.Statement.{statement}
 use Rattle.entry.proofs.exponent_at.Tie as tie
-use Rattle.entry.proofs.exponent_at.Reads as reads
-use Rattle.entry.proofs.exponent_at.Lts as lts
-use Rattle.entry.proofs.byte_at.Reads as byte-at-reads
-use Rattle.entry.proofs.digits_at.Reads as digits-at-reads
-use Rattle.entry.proofs.is_exponent.Reads as is-exponent-reads
-use Rattle.entry.proofs.sign_length.Reads as sign-length-reads
 
--- src/lib.rt:301:20
 byte-at-requires : tie.Need-byte-at-requires
 byte-at-requires c κs = search needs
 
--- src/lib.rt:301:8
 is-exponent-requires : tie.Need-is-exponent-requires
 is-exponent-requires c κs = search needs
 
--- src/lib.rt:302:28
 add-byte-at : tie.Need-add-byte-at
 add-byte-at c = search needs
 
--- src/lib.rt:302:13
 byte-at-requires-2 : tie.Need-byte-at-requires-2
 byte-at-requires-2 c κs = search needs
 
--- src/lib.rt:303:21
 sign-length-requires : tie.Need-sign-length-requires
 sign-length-requires c κs = search needs
 
--- src/lib.rt:303:17
 add-k : tie.Need-add-k
 add-k c = search needs
 
--- src/lib.rt:304:30
 add-digits-at : tie.Need-add-digits-at
 add-digits-at c = search needs
 
--- src/lib.rt:304:13
 digits-at-requires : tie.Need-digits-at-requires
 digits-at-requires c κs = (signed-in _ _ _ _ (c .before .byte-at2 .ensures) (c .sign-length .ensures .0) (ap isE (sym (c .before .before .before .before .byte-at .ensures)) ∙ sym (c .before .before .before .is-exponent .ensures) ∙ c .before .before .if1 .taken), search needs)
 
--- src/lib.rt:308:19
 add-t10 : tie.Need-add-t10
 add-t10 c = search needs
 
--- src/lib.rt:296:1
 returns : tie.Need-returns
 returns c = (code-raised _ _ _ _ _ (c .before .before .byte-at2 .ensures) (c .before .sign-length .ensures .0) (c .digits-at .ensures .0) (ap isE (sym (c .before .before .before .before .before .byte-at .ensures)) ∙ sym (c .before .before .before .before .is-exponent .ensures) ∙ c .before .before .before .if1 .taken), omega arith)
 
--- src/lib.rt:296:1
 returns-2 : tie.Need-returns-2
 returns-2 c = (code-unraised (c .before .before .before .before .args .s .now) (c .before .before .before .before .args .at) (ap isE (sym (c .before .before .byte-at .ensures)) ∙ sym (c .before .is-exponent .ensures) ∙ c .if1 .left), omega arith)
 

@@ -1,77 +1,56 @@
+-- `entry::field_at` meets its contract. Assumes nothing.
+use mathlib.Core.Path.{sym, _∙_}
+use native.Mathlib.Omega.{arith}
+use lib.Dec.{lit<}
+use borrow.Author.Needs.{needs}
 use Rattle.entry.proofs.EntryLaws.{code-absent, code-empty, code-given}
 use Rattle.entry.proofs.NumberLaws.{signed-after}
 use Rattle.entry.proofs.DigitLaws.{head-in}
-use lib.Dec.{lit<}
-use mathlib.Core.Path.{sym, _∙_}
-use native.Mathlib.Omega.{arith}
-use borrow.Author.Needs.{needs}
 use Rattle.entry.proofs.field_at.Statement.{statement}
 use Rattle.entry.proofs.field_at.Tie as tie
-use Rattle.entry.proofs.field_at.Reads as reads
-use Rattle.entry.proofs.field_at.Lts as lts
-use Rattle.entry.proofs.breaks_at.Reads as breaks-at-reads
-use Rattle.entry.proofs.byte_at.Reads as byte-at-reads
-use Rattle.entry.proofs.not_given.Reads as not-given-reads
-use Rattle.entry.proofs.number_at.Reads as number-at-reads
-use Rattle.entry.proofs.sign_length.Reads as sign-length-reads
 
--- src/lib.rt:475:8
 byte-at-requires : tie.Need-byte-at-requires
 byte-at-requires c κs = search needs
 
--- src/lib.rt:476:9
 not-given-requires : tie.Need-not-given-requires
 not-given-requires c κs = search needs
 
--- src/lib.rt:476:9
 returns : tie.Need-returns
 returns c = (c .not-given .ensures ∙ code-absent (c .before .before .before .before .args .s .now) (c .before .before .before .before .args .at) (λ h. c .before .if1 .taken (c .before .before .byte-at .ensures ∙ h)), rw (c .not-given .ensures) (omega arith))
 
--- src/lib.rt:478:21
 add-breaks-at : tie.Need-add-breaks-at
 add-breaks-at c = search needs
 
--- src/lib.rt:478:8
 breaks-at-requires : tie.Need-breaks-at-requires
 breaks-at-requires c κs = search needs
 
--- src/lib.rt:479:9
 not-given-requires-2 : tie.Need-not-given-requires-2
 not-given-requires-2 c κs = search needs
 
--- src/lib.rt:479:9
 returns-2 : tie.Need-returns-2
 returns-2 c = (c .not-given2 .ensures ∙ code-empty (c .before .before .before .before .before .before .args .s .now) (c .before .before .before .before .before .before .args .at) (sym (c .before .before .before .before .byte-at .ensures) ∙ c .before .before .before .if1 .left) (sym (c .before .before .breaks-at .ensures) ∙ c .before .if2 .taken), rw (c .not-given2 .ensures) (omega (arith, head-in (c .before .before .before .before .before .before .args .s .now) (c .before .before .before .before .before .before .args .at) 44 (sym (c .before .before .before .before .byte-at .ensures) ∙ c .before .before .before .if1 .left) (lit< tt))))
 
--- src/lib.rt:481:24
 add-byte-at : tie.Need-add-byte-at
 add-byte-at c = search needs
 
--- src/lib.rt:481:9
 byte-at-requires-2 : tie.Need-byte-at-requires-2
 byte-at-requires-2 c κs = search needs
 
--- src/lib.rt:482:17
 sign-length-requires : tie.Need-sign-length-requires
 sign-length-requires c κs = search needs
 
--- src/lib.rt:482:13
 add-k : tie.Need-add-k
 add-k c = search needs
 
--- src/lib.rt:483:26
 add-number-at : tie.Need-add-number-at
 add-number-at c = search needs
 
--- src/lib.rt:483:9
 number-at-requires : tie.Need-number-at-requires
 number-at-requires c κs = signed-after _ _ _ _ (c .before .byte-at2 .ensures) (c .sign-length .ensures .0) (head-in _ _ _ (sym (c .before .before .before .before .before .byte-at .ensures) ∙ c .before .before .before .before .if1 .left) (lit< tt))
 
--- src/lib.rt:487:15
 add-t10 : tie.Need-add-t10
 add-t10 c = search needs
 
--- src/lib.rt:470:1
 returns-3 : tie.Need-returns-3
 returns-3 c = (code-given _ _ (sym (c .before .before .before .before .before .before .before .byte-at .ensures) ∙ c .before .before .before .before .before .before .if1 .left) _ (c .before .before .before .byte-at2 .ensures) (sym (c .before .before .before .before .before .breaks-at .ensures) ∙ c .before .before .before .before .if2 .left) _ (c .before .before .sign-length .ensures .0) _ (c .before .number-at .ensures .0), omega arith)
 

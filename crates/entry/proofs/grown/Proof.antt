@@ -1,40 +1,30 @@
-use Rattle.entry.proofs.ValueLaws.{sized-over, grow-over, grow-large, grow-fits}
+-- `entry::grown` meets its contract. Assumes nothing.
+use mathlib.Core.Path.{sym}
 use native.Mathlib.Nat.{zero-mul}
 use native.Mathlib.Omega.{arith}
-use mathlib.Core.Path.{sym}
 use borrow.Author.Needs.{needs}
+use Rattle.entry.proofs.ValueLaws.{sized-over, grow-over, grow-large, grow-fits}
 use Rattle.entry.proofs.grown.Statement.{statement}
 use Rattle.entry.proofs.grown.Tie as tie
-use Rattle.entry.proofs.grown.Reads as reads
-use Rattle.entry.proofs.grown.Lts as lts
-use Rattle.entry.proofs.limited.Reads as limited-reads
-use Rattle.entry.proofs.power.Reads as power-reads
 
--- src/lib.rt:170:9
 returns : tie.Need-returns
 returns c = rw (c .if1 .taken, zero-mul)
 
--- src/lib.rt:173:9
 returns-2 : tie.Need-returns-2
 returns-2 c = sym (sized-over _ (grow-over _ _ (omega arith) (c .if2 .taken)))
 
--- src/lib.rt:176:9
 returns-3 : tie.Need-returns-3
 returns-3 c = sym (sized-over _ (grow-large _ _ (c .if3 .taken)))
 
--- src/lib.rt:178:17
 power-requires : tie.Need-power-requires
 power-requires c κs = search needs
 
--- src/lib.rt:178:13
 mul-limited : tie.Need-mul-limited
 mul-limited c = rw (c .power .ensures) (omega (arith, grow-fits (c .before .before .before .before .args .m) (c .before .before .before .before .args .k) (omega arith) (omega arith)))
 
--- src/lib.rt:178:5
 limited-requires : tie.Need-limited-requires
 limited-requires c κs = search needs
 
--- src/lib.rt:166:1
 returns-4 : tie.Need-returns-4
 returns-4 c = cc
 

@@ -1,20 +1,16 @@
-use Rattle.entry.proofs.ValueLaws.{sized-of, sized-over}
+-- `entry::limited` meets its contract. Assumes nothing.
 use mathlib.Core.Path.{sym}
 use borrow.Author.Needs.{needs}
+use Rattle.entry.proofs.ValueLaws.{sized-of, sized-over}
 use Rattle.entry.proofs.limited.Statement.{statement}
 use Rattle.entry.proofs.limited.Tie as tie
-use Rattle.entry.proofs.limited.Reads as reads
-use Rattle.entry.proofs.limited.Lts as lts
 
--- src/lib.rt:159:25
 cast-t4 : tie.Need-cast-t4
 cast-t4 c = search needs
 
--- src/lib.rt:155:1
 returns : tie.Need-returns
 returns c = sym (sized-of _ (c .if1 .taken))
 
--- src/lib.rt:155:1
 returns-2 : tie.Need-returns-2
 returns-2 c = sym (sized-over _ (c .if1 .left))
 

@@ -1,14 +1,13 @@
-use Rattle.entry.proofs.Table.{at}
-use lib.ListN.{getD}
-use lib.Dec.{eqb, eqb→eq}
-use Prim.Native.Nat.{ℕ, _^_}
+-- `entry::power` meets its contract. Assumes nothing.
 use mathlib.Core.Bool.{Bool}
 use mathlib.Core.List.{List, [], _∷_}
+use Prim.Native.Nat.{ℕ, _^_}
+use lib.ListN.{getD}
+use lib.Dec.{eqb, eqb→eq}
 use borrow.Author.Needs.{needs}
+use Rattle.entry.proofs.Table.{at}
 use Rattle.entry.proofs.power.Statement.{statement}
 use Rattle.entry.proofs.power.Tie as tie
-use Rattle.entry.proofs.power.Reads as reads
-use Rattle.entry.proofs.power.Lts as lts
 
 -- (ours)
 powers : List ℕ
@@ -18,17 +17,15 @@ powers =
 
 right : ℕ → ℕ → Bool
 right k x = eqb x (10 ^ k)
+
 -- (end)
 
--- src/lib.rt:152:5
 mul-result : tie.Need-mul-result
 mul-result c = search needs
 
--- src/lib.rt:152:5
 array-read-result : tie.Need-array-read-result
 array-read-result c = search needs
 
--- src/lib.rt:148:1
 returns : tie.Need-returns
 unfolding powers right
 returns c = eqb→eq (getD powers (c .args .k) 0) (10 ^ (c .args .k)) (at right powers tt (c .args .k) (search needs))

@@ -1,32 +1,25 @@
-use Rattle.entry.proofs.DigitLaws.{digit-low}
+-- `entry::push_digit` meets its contract. Assumes nothing.
 use native.Mathlib.Omega.{arith}
 use borrow.Author.Needs.{needs}
+use Rattle.entry.proofs.DigitLaws.{digit-low}
 use Rattle.entry.proofs.push_digit.Statement.{statement}
 use Rattle.entry.proofs.push_digit.Tie as tie
-use Rattle.entry.proofs.push_digit.Reads as reads
-use Rattle.entry.proofs.push_digit.Lts as lts
 
--- src/lib.rt:89:13
 mul-w : tie.Need-mul-w
 mul-w c = search needs
 
--- src/lib.rt:89:23
 sub-w : tie.Need-sub-w
 sub-w c = omega (arith, digit-low (c .args .b) (c .pre .1))
 
--- src/lib.rt:89:22
 cast-w : tie.Need-cast-w
 cast-w c = search needs
 
--- src/lib.rt:89:13
 add-w : tie.Need-add-w
 add-w c = search needs
 
--- src/lib.rt:85:1
 returns : tie.Need-returns
 returns c = search needs
 
--- src/lib.rt:85:1
 returns-2 : tie.Need-returns-2
 returns-2 c = search needs
 

@@ -1,52 +1,38 @@
+-- `entry::shrunk` meets its contract. Assumes nothing.
 use native.Mathlib.Nat.{mod-lt, div-le-self}
-use Rattle.entry.proofs.ValueLaws.{shrink-none, round-up, round-down, ten-pos, ten-mono}
 use native.Mathlib.Omega.{arith}
-use mathlib.Core.Path.{sym}
 use borrow.Author.Needs.{needs}
+use Rattle.entry.proofs.ValueLaws.{shrink-none, round-up, round-down, ten-pos, ten-mono}
 use Rattle.entry.proofs.shrunk.Statement.{statement}
 use Rattle.entry.proofs.shrunk.Tie as tie
-use Rattle.entry.proofs.shrunk.Reads as reads
-use Rattle.entry.proofs.shrunk.Lts as lts
-use Rattle.entry.proofs.limited.Reads as limited-reads
-use Rattle.entry.proofs.power.Reads as power-reads
 
--- src/lib.rt:187:9
 returns : tie.Need-returns
 returns c = rw (shrink-none _ _ (c .before .pre) (c .if1 .taken))
 
--- src/lib.rt:189:9
 power-requires : tie.Need-power-requires
 power-requires c κs = search needs
 
--- src/lib.rt:190:13
 div-q : tie.Need-div-q
 div-q c = rw (c .power .ensures) (ten-pos _)
 
--- src/lib.rt:191:13
 rem-r : tie.Need-rem-r
 rem-r c = rw (c .power .ensures) (ten-pos _)
 
--- src/lib.rt:192:13
 mul-if2 : tie.Need-mul-if2
 mul-if2 c = rw (c .power .ensures) (omega (arith, mod-lt (c .before .before .args .m) (ten-pos (c .before .before .args .k)), ten-mono (c .before .before .args .k) 18 (omega arith)))
 
--- src/lib.rt:193:17
 add-limited : tie.Need-add-limited
 add-limited c = omega (arith, div-le-self (c .before .before .before .args .m) (c .before .power .result))
 
--- src/lib.rt:193:9
 limited-requires : tie.Need-limited-requires
 limited-requires c κs = search needs
 
--- src/lib.rt:195:9
 limited-requires-2 : tie.Need-limited-requires-2
 limited-requires-2 c κs = search needs
 
--- src/lib.rt:182:1
 returns-2 : tie.Need-returns-2
 returns-2 c = rw (← c .before .before .power .ensures, round-up _ _ (rw (c .before .before .power .ensures) (ten-pos _)) (c .before .if2 .taken)) (c .limited .ensures)
 
--- src/lib.rt:182:1
 returns-3 : tie.Need-returns-3
 returns-3 c = rw (← c .before .before .power .ensures, round-down _ _ (rw (c .before .before .power .ensures) (ten-pos _)) (c .before .if2 .left)) (c .limited2 .ensures)
 

@@ -1,34 +1,26 @@
-use Rattle.entry.proofs.ValueLaws.{scaled-up, scaled-down}
-use Rattle.entry.specs.Numbers.{sized}
+-- `entry::to_thousandths` meets its contract. Assumes nothing.
 use mathlib.Core.Path.{sym, ap, _∙_}
 use borrow.Author.Needs.{needs}
+use Rattle.entry.specs.Numbers.{sized}
+use Rattle.entry.proofs.ValueLaws.{scaled-up, scaled-down}
 use Rattle.entry.proofs.to_thousandths.Statement.{statement}
 use Rattle.entry.proofs.to_thousandths.Tie as tie
-use Rattle.entry.proofs.to_thousandths.Reads as reads
-use Rattle.entry.proofs.to_thousandths.Lts as lts
-use Rattle.entry.proofs.shifted.Reads as shifted-reads
 
--- src/lib.rt:216:23
 add-shifted : tie.Need-add-shifted
 add-shifted c = search needs
 
--- src/lib.rt:216:9
 shifted-requires : tie.Need-shifted-requires
 shifted-requires c κs = search needs
 
--- src/lib.rt:218:20
 add-shifted-2 : tie.Need-add-shifted-2
 add-shifted-2 c = search needs
 
--- src/lib.rt:218:9
 shifted-requires-2 : tie.Need-shifted-requires-2
 shifted-requires-2 c κs = search needs
 
--- src/lib.rt:211:1
 returns : tie.Need-returns
 returns c = rw (c .before .if1 .taken) (c .shifted .ensures ∙ ap sized (sym (scaled-down _ _ _)))
 
--- src/lib.rt:211:1
 returns-2 : tie.Need-returns-2
 returns-2 c = rw (c .before .if1 .left) (c .shifted2 .ensures ∙ ap sized (sym (scaled-up _ _ _)))
 
