@@ -25,11 +25,11 @@ abbrev pub isSemi : ℕ → Bool
 isSemi b = eqb b 59
 
 -- the entry that a list begins with: its bytes up to a `;` or the end
-unfoldable pub here : List ℕ → List ℕ
+abbrev pub here : List ℕ → List ℕ
 here t = cut isSemi t .before
 
 -- the answer for an entry of n bytes
-unfoldable pub entryRead : ℕ → Outcome Entry → EntryRead
+abbrev pub entryRead : ℕ → Outcome Entry → EntryRead
 entryRead n (ok e) = Read (cutItem n e)
 entryRead n (no i p) = Refused (refusal i p)
 
