@@ -9,3 +9,5 @@ pub mod FrontBridge
 pub mod EntryBridge
 pub mod EntryLaws
 pub mod CutLaws
+pub mod DecimalLaws
+pub mod WriteLaws

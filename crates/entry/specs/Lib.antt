@@ -2,3 +2,4 @@ pub mod Items
 pub mod Digits
 pub mod Numbers
 pub mod Parts
+pub mod Fields
