@@ -47,12 +47,12 @@ pub entry-here : (a b : ℕ) (s : List ℤ) (k : ℕ) → entryBytes a b (fields
 unfolding fields.glyphAt glyphAt
 entry-here a b s k = refl
 
--- the bytes of parts with these separators owed before the first
+-- the bytes of these entries, with n separators owed before the first
 unfoldable pub owed : ℕ → List (List ℕ) → List ℕ
 owed n [] = []
 owed n (x ∷ l) = led n x ++ owed (owing n x) l
 
--- the same, from the parts without the empty ones at the end
+-- the same, of entries of which the empty ones at the end are dropped
 abbrev kept : ℕ → List (List ℕ) → List ℕ
 kept n r = cond (empty r) [] (semis n ++ join 59 r)
 
@@ -80,6 +80,7 @@ kept-none (x ∷ r) = refl
 
 -- ── the entries at a place ──
 
+-- the entries from these places of the clusters' and the glyphs' numbers on
 unfoldable pub writtenAt : List ℤ → List ℤ → ℕ → ℕ → ℕ → List (List ℕ)
 writtenAt cs gs lack i k = written lack (clustersOf (drop i cs)) (glyphsOf (drop k gs))
 
@@ -88,6 +89,7 @@ unfolding indicesOf writtenAt
 indices-start cs gs = sym (owed-kept 0 (written 0 (clustersOf cs) (glyphsOf gs)) ∙ kept-none (trim (written 0 (clustersOf cs) (glyphsOf gs))))
 
 module _ (cs gs : List ℤ) (n lack i k : ℕ) where
+  -- what is left to store
   abbrev rest : List ℕ
   rest = owed n (writtenAt cs gs lack i k)
 
@@ -124,6 +126,7 @@ pub entry-stored : (n : ℕ) (x : List ℕ) (ls : List (List ℕ)) {old whole l 
 entry-stored n x ls {at = at} {p = p} e f g d =
     left-next (left-as (e ∙ ap (λ (z : ℕ). led n x ++ owed z ls) (sym (d ∙ owes-is n at p x (g .behind)))) f) g
 
+-- 80 bytes an entry and a separator bound the place
 pub owes-bound : (at p n k r : ℕ) → r ≡ cond (ltb at p) 1 (n + 1) → at ≤ p → p ≤ at + n + 80 → at + n ≤ 21 * k → p + r ≤ 21 * (k + 4)
 owes-bound at p n k r h a b e =
     cases (ltb at p)
