@@ -47,7 +47,7 @@ here-good s b c j r h l g =
     let (q, p, e) = bind-ok (decode 0 j (drop j s)) _ r (sym d ∙ h) in
     record { others = q; next = p; is = ok-path (unitsOf c ++ q) r e; xml = x .xml }
 
-one-is : (c : ℕ) → c ≤ 65535 → unitsOf c ≡ c ∷ []
+pub one-is : (c : ℕ) → c ≤ 65535 → unitsOf c ≡ c ∷ []
 unfolding unitsOf
 one-is c h = rw (le-leb c 65535 h)
 

@@ -7,6 +7,8 @@ ghost use Rattle.label.specs.Outcome.{ok};
 ghost use Rattle.label.specs.Text.{within, lead, trail, scalar, xmlChar, isHigh, isLow, decode};
 ghost use Rattle.text.specs.Chars.{charAt, counted};
 ghost use Rattle.text.specs.Moves.{unitsFrom, Moves};
+ghost use Rattle.text.specs.Texts.{unitsWithin, textRead};
+ghost use Rattle.label.specs.Limits.{maxTextBytes};
 ghost use Rattle.text.specs.Units.{unitOk, nextHalf, unitLength, markLength};
 ghost use Rattle.label.specs.Sound.{properUnits};
 ghost use Rattle.label.specs.Write.{utf8, paired, unitBytes, unitsBytes, textOf};
@@ -209,9 +211,9 @@ pub enum Counted {
     Refused(usize, usize),
 }
 
-// How many units the text has, or 2 or 3 with its place.
+// How many units the text has, `{}` included, or 2 or 3 with its place.
 pub fn count_units(s: &[u8]) -> Counted
-    requires { ⌜ length (now s) ≤ 16384 ⌝ }
+    requires { ⌜ length (now s) ≤ maxTextBytes ⌝ }
     ensures { λ r. ⌜ r ≡ counted (decode 0 0 (now (s .entry))) ⌝ }
 {
     let mut i = 0;
@@ -235,6 +237,60 @@ pub fn count_units(s: &[u8]) -> Counted
         }
     }
     Counted::Units(n)
+}
+
+// The units of a text's run: how many, and the byte where they start, which is behind `{}`.
+pub struct TextUnits {
+    pub count: usize,
+    pub start: usize,
+}
+
+pub enum TextRead {
+    Units(TextUnits),
+    Refused(label::Refusal),
+}
+
+// A byte, or 0 past the end.
+fn byte_or_zero(s: &[u8], i: usize) -> u8
+    ensures { λ r. ⌜ r ≡ getD (now (s .entry)) i 0 ⌝ }
+{
+    if i < s.len() { s[i] } else { 0 }
+}
+
+// So many units from that byte on, or 5.
+fn limited(count: usize, start: usize) -> TextRead
+    ensures { λ r. ⌜ r ≡ unitsWithin count start ⌝ }
+{
+    if count <= label::Limits::UNITS {
+        TextRead::Units(TextUnits { count, start })
+    } else {
+        TextRead::Refused(label::Refusal {
+            number: 5,
+            place: 0,
+        })
+    }
+}
+
+// The units of a text's run, or the first refusal of 2 to 5.
+pub fn survey_text(text: &[u8]) -> TextRead
+    requires { ⌜ length (now text) ≤ maxTextBytes ⌝ }
+    ensures { λ r. ⌜ r ≡ textRead (now (text .entry)) ⌝ }
+{
+    match count_units(text) {
+        Counted::Units(n) => {
+            if byte_or_zero(text, 0) != 0x7b {
+                return limited(n, 0);
+            }
+            if byte_or_zero(text, 1) != 0x7d {
+                return TextRead::Refused(label::Refusal {
+                    number: 4,
+                    place: 0,
+                });
+            }
+            limited(n - 2, 2)
+        }
+        Counted::Refused(number, place) => TextRead::Refused(label::Refusal { number, place }),
+    }
 }
 
 pub enum Moved {
