@@ -1,10 +1,12 @@
 // UTF-8 text to code units: the rows of Unicode's Table 3-7, XML 1.0's Char, and the moves over a text that the reader makes.
 ghost use mathlib.Core.Path.{_≡_};
 ghost use mathlib.Core.Bool.{true, false};
-ghost use Prim.Native.Nat.{_+_, _-_, _*_, _%_, _≤_, _<_};
+ghost use Prim.Native.Nat.{_+_, _-_, _*_, _/_, _%_, _≤_, _<_};
 ghost use lib.ListN.{length, getD, drop};
+ghost use lib.Seq.{sets};
 ghost use Rattle.label.specs.Outcome.{ok};
-ghost use Rattle.label.specs.Text.{within, lead, trail, scalar, xmlChar, isHigh, isLow, decode};
+ghost use Rattle.label.specs.Text.{within, lead, trail, scalar, xmlChar, isHigh, isLow, unitsOf, decode};
+ghost use Rattle.label.specs.Calls.{filled};
 ghost use Rattle.text.specs.Chars.{charAt, counted};
 ghost use Rattle.text.specs.Moves.{unitsFrom, Moves};
 ghost use Rattle.text.specs.Texts.{unitsWithin, textRead};
@@ -290,6 +292,62 @@ pub fn survey_text(text: &[u8]) -> TextRead
             limited(n - 2, 2)
         }
         Counted::Refused(number, place) => TextRead::Refused(label::Refusal { number, place }),
+    }
+}
+
+// The halves of a pair: the high ten bits of what the character is above U+FFFF, and the low ten.
+fn high_half(c: u32) -> u16
+    requires { ⌜ (65536 ≤ c) × (c ≤ 1114111) ⌝ }
+    ensures { λ r. ⌜ r ≡ 55296 + (c - 65536) / 1024 ⌝ }
+{
+    let v = c - 0x10000;
+    (v >> 10) as u16 | 0xd800
+}
+
+fn low_half(c: u32) -> u16
+    requires { ⌜ 65536 ≤ c ⌝ }
+    ensures { λ r. ⌜ r ≡ 56320 + (c - 65536) % 1024 ⌝ }
+{
+    let v = c - 0x10000;
+    (v & 0x3ff) as u16 | 0xdc00
+}
+
+// Stores the units of a character from place n on, and returns the place behind them.
+fn put_char(out: &mut [u16], n: usize, c: u32) -> usize
+    requires { ⌜ (c ≤ 1114111) × (n + length (unitsOf c) ≤ length (now out)) ⌝ }
+    ensures { λ r. ⌜ (r ≡ n + length (unitsOf c)) × (now (out .exit) ≡ sets (now (out .entry)) n (unitsOf c)) ⌝ }
+{
+    if c <= 0xffff {
+        out[n] = c as u16;
+        return n + 1;
+    }
+    let m = n + 1;
+    out[n] = high_half(c);
+    out[m] = low_half(c);
+    n + 2
+}
+
+// Stores the units of the text from byte `from` on, where it has no fault, at the start of `out`.
+pub fn fill_units(text: &[u8], from: usize, out: &mut [u16])
+    requires { ⌜ decode 0 from (drop from (now text)) ≡ ok (unitsFrom (now text) from) ⌝ }
+    requires { ⌜ length (unitsFrom (now text) from) ≤ length (now out) ⌝ }
+    ensures { λ _. ⌜ now (out .exit) ≡ filled (unitsFrom (now (text .entry)) from) (now (out .entry)) ⌝ }
+{
+    let mut i = from;
+    let mut n = 0;
+    while i < text.len() {
+        match char_at(text, i) {
+            Char::Good { code, next } => {
+                n = put_char(out, n, code);
+                i = next;
+            }
+            Char::Ill => {
+                return;
+            }
+            Char::Outside => {
+                return;
+            }
+        }
     }
 }
 
