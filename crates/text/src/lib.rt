@@ -7,7 +7,7 @@ ghost use lib.Seq.{sets};
 ghost use Rattle.label.specs.Outcome.{ok};
 ghost use Rattle.label.specs.Text.{within, lead, trail, scalar, xmlChar, isHigh, isLow, unitsOf, decode};
 ghost use Rattle.label.specs.Calls.{filled};
-ghost use Rattle.text.specs.Chars.{charAt, counted};
+ghost use Rattle.text.specs.Chars.{pickChar, charAt, counted};
 ghost use Rattle.text.specs.Moves.{unitsFrom, Moves};
 ghost use Rattle.text.specs.Texts.{unitsWithin, textRead};
 ghost use Rattle.label.specs.Limits.{maxTextBytes};
@@ -127,67 +127,77 @@ pub enum Char {
     Outside,
 }
 
-fn wide(b: u8) -> u32
-    ensures { λ r. ⌜ r ≡ b ⌝ }
-{
-    b as u32
-}
-
 // XML 1.0's Char.
 pub fn is_xml(c: u32) -> bool
     ensures { λ r. ⌜ r ≡ xmlChar c ⌝ }
 {
-    if c == 9 {
+    if c < 0x20 {
+        return words::either(words::either(c == 9, c == 10), c == 13);
+    }
+    if c <= 0xd7ff {
         return true;
     }
-    if c == 10 {
-        return true;
-    }
-    if c == 13 {
-        return true;
-    }
-    if c < 32 {
+    if c < 0xe000 {
         return false;
     }
-    if c <= 55295 {
+    if c <= 0xfffd {
         return true;
     }
-    if c < 57344 {
+    if c < 0x10000 {
         return false;
     }
-    if c <= 65533 {
-        return true;
-    }
-    if c < 65536 {
-        return false;
-    }
-    c <= 1114111
+    c <= 0x10ffff
 }
 
-// The number of the character at `at`, which has `more` bytes after its first.
+// Six more bits, those of a byte after the first.
+fn with_six(c: u32, b: u8) -> u32
+    requires { ⌜ c < 32768 ⌝ }
+    ensures { λ r. ⌜ r ≡ c * 64 + b % 64 ⌝ }
+{
+    (c << 6) | (b as u32 & 0x3f)
+}
+
+// The number of the character at `at`, which has `more` bytes after its first, from the bytes' bits.
 pub fn scalar_at(s: &[u8], at: usize, more: usize) -> u32
     requires { ⌜ at + more < length (now s) ⌝ }
     ensures { λ r. ⌜ r ≡ scalar more (getD (now (s .entry)) at 0) (drop (at + 1) (now (s .entry))) ⌝ }
 {
+    let b = words::wide(s[at]);
     if more == 0 {
-        return wide(s[at]);
+        return b;
     }
     if more == 1 {
-        return wide(s[at]) % 32 * 64 + wide(s[at + 1]) % 64;
+        return with_six(b & 0x1f, s[at + 1]);
     }
     if more == 2 {
-        return wide(s[at]) % 16 * 4096 + wide(s[at + 1]) % 64 * 64 + wide(s[at + 2]) % 64;
+        let c = with_six(b & 0x0f, s[at + 1]);
+        return with_six(c, s[at + 2]);
     }
-    wide(s[at]) % 8 * 262144
-        + wide(s[at + 1]) % 64 * 4096
-        + wide(s[at + 2]) % 64 * 64
-        + wide(s[at + 3]) % 64
+    let c = with_six(b & 0x07, s[at + 1]);
+    let d = with_six(c, s[at + 2]);
+    with_six(d, s[at + 3])
 }
 
+// A character of one byte, in front of place `next`.
+fn one_byte(b: u8, next: usize) -> Char
+    ensures { λ r. ⌜ r ≡ pickChar (xmlChar b) (Char.Good b next) Char.Outside ⌝ }
+{
+    let code = b as u32;
+    if is_xml(code) {
+        Char::Good { code, next }
+    } else {
+        Char::Outside
+    }
+}
+
+// The character at `at`, where it is well-formed and may stand, and the place behind it.
 pub fn char_at(s: &[u8], at: usize) -> Char
     requires { ⌜ at < length (now s) ⌝ }
     ensures { λ r. ⌜ r ≡ charAt (now (s .entry)) at ⌝ }
 {
+    if s[at] < 0x80 {
+        return one_byte(s[at], at + 1);
+    }
     let row = row_of(s[at]);
     let fits = row.fits;
     let more = row.more;
