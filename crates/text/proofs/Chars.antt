@@ -1,11 +1,11 @@
 -- Laws of the character at a place, and of the walk over a text's characters.
 -- Assumes nothing.
-use Prim.Native.Nat.{ℕ, zero, suc, _+_, _*_, _-_, _%_, _^_, _≤_, _<_}
+use Prim.Native.Nat.{ℕ, zero, suc, _+_, _*_, _-_, _/_, _%_, _^_, _≤_, _<_}
 use native.Mathlib.Omega.{arith}
 use native.Mathlib.Nat.{add-zero}
 use native.Mathlib.Numerals.{add-one}
 use mathlib.Core.Path.{_≡_, refl, sym, _∙_, ap}
-use mathlib.Core.Bool.{Bool, true, false, _||_, false≢true, and-false}
+use mathlib.Core.Bool.{Bool, true, false, cond, _||_, false≢true, and-false}
 use mathlib.Core.List.{List, [], _∷_, _++_, append-nil}
 use borrow.Author.Tests.{ne-eqb, le-leb, lt-leb}
 use lib.Bits.{bitAnd, bitOr, and-mask, mask-lt, or-shifted}
@@ -16,14 +16,20 @@ use lib.Seq.{getD-drop, drop-cons}
 use Rattle.label.specs.Outcome.{Outcome, ok}
 use Rattle.label.specs.Text.{within, lead, starts, trail, scalar, xmlChar, unitsOf, decode}
 use Rattle.label.specs.declared.Row.{Row}
-use Rattle.text.specs.Chars.{charAt, counted, pickChar}
+use Rattle.text.specs.Chars.{charAt, counted}
 use Rattle.text.specs.declared.Counted.{Counted}
 use Rattle.text.specs.declared.Counted.the-variants.{Units, Refused}
 use Rattle.text.specs.declared.Char.{Char}
 use Rattle.text.specs.declared.Char.the-variants.{Good, Ill, Outside}
-use Rattle.label.proofs.Texts.{row-1}
+use Rattle.label.proofs.Texts.{within-lo, within-hi, row-1}
 use Rattle.label.proofs.Basics.{and-r, clash}
 use Rattle.label.proofs.Cursors.{onto, onto-nil, onto-onto, decode-good, decode-ill, decode-outside, decode-end}
+
+-- ── the rows of Table 3-7 ──
+
+-- the row of a range of first bytes, by the code's flag of that range
+pub by-range : {lo hi : ℕ} {r : Row} → ((b : ℕ) → lo ≤ b → b ≤ hi → lead b ≡ r) → (b : ℕ) {x : Bool} → x ≡ within lo hi b → x ≡ true → r ≡ lead b
+by-range {lo} {hi} law b e t = sym (law b (within-lo lo hi b (sym e ∙ t)) (within-hi lo hi b (sym e ∙ t)))
 
 -- ── the bytes after a character's first ──
 
@@ -151,7 +157,7 @@ trail-fits s i n l h p t = omega (arith, rw length-drop at (trail-inside n l h (
 
 -- ── the character at a place ──
 
-pub char-one : (s : List ℕ) (i : ℕ) {x : Char} → x ≡ pickChar (xmlChar (getD s i 0)) (Good (getD s i 0) (i + 1)) Outside → getD s i 0 < 128 → x ≡ charAt s i
+pub char-one : (s : List ℕ) (i : ℕ) {x : Char} → x ≡ cond (xmlChar (getD s i 0)) (Good (getD s i 0) (i + 1)) Outside → getD s i 0 < 128 → x ≡ charAt s i
 unfolding charAt starts trail scalar
 char-one s i e h = rw (row-1 (getD s i 0) (omega arith) (omega arith), add-zero (i + 1)) e
 
@@ -197,7 +203,7 @@ pub record GoodAt (s : List ℕ) (i c j : ℕ) : Type 0 where
 
 char-case : (s : List ℕ) (i : ℕ) (x : Char) → charAt s i ≡ x → (t u : Bool) → starts (getD s i 0) (drop (suc i) s) ≡ t
     → xmlChar (scalar (lead (getD s i 0) .more) (getD s i 0) (drop (suc i) s)) ≡ u
-    → pickChar t (pickChar u (Good (scalar (lead (getD s i 0) .more) (getD s i 0) (drop (suc i) s)) (suc i + lead (getD s i 0) .more)) Outside) Ill ≡ x
+    → cond t (cond u (Good (scalar (lead (getD s i 0) .more) (getD s i 0) (drop (suc i) s)) (suc i + lead (getD s i 0) .more)) Outside) Ill ≡ x
 unfolding charAt
 char-case s i x h t u p q = rw (← p, ← q) (rw (add-one i) at h)
 
@@ -268,19 +274,19 @@ reached-next s i n c j l r h =
       count = rw (length-append, r .count);
     }
 
-one-unit : (c : ℕ) → c ≤ 65535 → length (unitsOf c) ≡ 1
+pub one-is : (c : ℕ) → c ≤ 65535 → unitsOf c ≡ c ∷ []
 unfolding unitsOf
-one-unit c h = rw (le-leb c 65535 h)
+one-is c h = rw (le-leb c 65535 h)
 
-two-units : (c : ℕ) → 65535 < c → length (unitsOf c) ≡ 2
+pub two-are : (c : ℕ) → 65535 < c → unitsOf c ≡ (55296 + (c - 65536) / 1024) ∷ (56320 + (c - 65536) % 1024) ∷ []
 unfolding unitsOf
-two-units c h = rw (lt-leb c 65535 h)
+two-are c h = rw (lt-leb c 65535 h)
 
 pub reached-one : (s : List ℕ) (i n c j : ℕ) → i < length s → Reached s i n → charAt s i ≡ Good c j → c ≤ 65535 → Reached s j (n + 1)
-reached-one s i n c j l r h k = rw (one-unit c k) at (reached-next s i n c j l r h)
+reached-one s i n c j l r h k = rw (one-is c k) at (reached-next s i n c j l r h)
 
 pub reached-two : (s : List ℕ) (i n c j : ℕ) → i < length s → Reached s i n → charAt s i ≡ Good c j → 65535 < c → Reached s j (n + 2)
-reached-two s i n c j l r h k = rw (two-units c k) at (reached-next s i n c j l r h)
+reached-two s i n c j l r h k = rw (two-are c k) at (reached-next s i n c j l r h)
 
 pub reached-ill : (s : List ℕ) (i n : ℕ) → i < length s → Reached s i n → charAt s i ≡ Ill → Refused 2 i ≡ counted (decode 0 0 s)
 reached-ill s i n l r h = ap counted (sym (ap (λ (o : Outcome (List ℕ)). onto (r .us) o) (decode-ill s i l (char-is-ill s i h))) ∙ r .so-far)

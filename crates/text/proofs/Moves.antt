@@ -5,7 +5,7 @@ use native.Mathlib.Omega.{arith}
 use mathlib.Core.Path.{_≡_, refl, sym, _∙_, ap}
 use mathlib.Core.Bool.{true}
 use mathlib.Core.List.{List, [], _∷_, _++_}
-use borrow.Author.Tests.{le-leb, lt-leb}
+use borrow.Author.Tests.{le-leb}
 use lib.Dec.{leb, leb·zero, leb·suc-suc, leb·suc-zero}
 use lib.ListN.{length, drop}
 use Rattle.label.specs.Outcome.{ok}
@@ -20,7 +20,7 @@ use Rattle.label.proofs.Walks.{ok-path}
 use Rattle.label.proofs.Texts.{proper-first, within-is}
 use Rattle.label.proofs.Sounds.{decode-proper}
 use Rattle.label.proofs.Cursors.{onto, decode-good, decode-ill, decode-outside, decode-end}
-use Rattle.text.proofs.Chars.{GoodAt, char-is-good, char-is-ill, char-is-outside}
+use Rattle.text.proofs.Chars.{GoodAt, one-is, two-are, char-is-good, char-is-ill, char-is-outside}
 
 -- what is left: at byte b the units r, of which a are still to pass
 pub record Left (s : List ℕ) (at count b a : ℕ) : Type 0 where
@@ -47,14 +47,6 @@ here-good s b c j r h l g =
     rw (x .code, x .next) (decode-good s b l (x .start) (rw (x .code) at (x .xml))) in
     let (q, p, e) = bind-ok (decode 0 j (drop j s)) _ r (sym d ∙ h) in
     record { others = q; next = p; is = ok-path (unitsOf c ++ q) r e; xml = x .xml }
-
-pub one-is : (c : ℕ) → c ≤ 65535 → unitsOf c ≡ c ∷ []
-unfolding unitsOf
-one-is c h = rw (le-leb c 65535 h)
-
-pub two-are : (c : ℕ) → 65535 < c → unitsOf c ≡ (55296 + (c - 65536) / 1024) ∷ (56320 + (c - 65536) % 1024) ∷ []
-unfolding unitsOf
-two-are c h = rw (lt-leb c 65535 h)
 
 past-one : (a u : ℕ) (q r : List ℕ) → u ∷ q ≡ r
     → (leb (suc a) (length r) ≡ leb (suc a - 1) (length q)) × (whole (suc a) r ≡ whole (suc a - 1) q) × (drop (suc a) r ≡ drop (suc a - 1) q)

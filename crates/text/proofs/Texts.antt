@@ -18,7 +18,7 @@ use Rattle.label.proofs.Texts.{within-lo, within-hi, row-1}
 use Rattle.label.proofs.Walks.{ok-path}
 use Rattle.label.proofs.Sounds.{TextIs, text-ok}
 use Rattle.text.specs.Chars.{counted}
-use Rattle.text.proofs.Moves.{one-is}
+use Rattle.text.proofs.Chars.{one-is}
 use Rattle.text.specs.Texts.{unitsStart, unitsRead, textRead, unitsWithin}
 use Rattle.text.specs.declared.Counted.the-variants as C
 use Rattle.text.specs.declared.TextRead.the-variants.{Units, Refused}

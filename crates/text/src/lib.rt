@@ -1,21 +1,23 @@
-// UTF-8 text to code units: the rows of Unicode's Table 3-7, XML 1.0's Char, and the moves over a text that the reader makes.
+// The text of a label: UTF-8 by the rows of Unicode's Table 3-7 to code units and back, XML 1.0's Char, and the moves over a text that the reader makes.
 ghost use mathlib.Core.Path.{_≡_};
-ghost use mathlib.Core.Bool.{true, false};
+ghost use mathlib.Core.Bool.{true, false, cond};
 ghost use Prim.Native.Nat.{_+_, _-_, _*_, _/_, _%_, _≤_, _<_};
 ghost use lib.ListN.{length, getD, drop};
 ghost use lib.Seq.{sets};
+ghost use Rattle.label.specs.Limits.{maxTextBytes};
 ghost use Rattle.label.specs.Outcome.{ok};
 ghost use Rattle.label.specs.Text.{within, lead, trail, scalar, xmlChar, isHigh, isLow, unitsOf, decode};
-ghost use Rattle.label.specs.Calls.{filled};
-ghost use Rattle.text.specs.Chars.{pickChar, charAt, counted};
-ghost use Rattle.text.specs.Moves.{unitsFrom, Moves};
-ghost use Rattle.text.specs.Texts.{unitsWithin, textRead};
-ghost use Rattle.label.specs.Limits.{maxTextBytes};
-ghost use Rattle.text.specs.Units.{unitOk, nextHalf, unitLength, markLength};
 ghost use Rattle.label.specs.Sound.{properUnits};
 ghost use Rattle.label.specs.Write.{utf8, paired, unitBytes, unitsBytes, textOf};
+ghost use Rattle.label.specs.Calls.{filled};
 ghost use Rattle.words.specs.Puts.{Put};
+ghost use Rattle.text.specs.Chars.{charAt, counted};
+ghost use Rattle.text.specs.Texts.{unitsWithin, textRead};
+ghost use Rattle.text.specs.Moves.{unitsFrom, Moves};
+ghost use Rattle.text.specs.Units.{unitOk, nextHalf, unitLength, markLength};
 use label::Row;
+
+// ── units and bytes ──
 
 // A high half or a low half of a pair.
 pub fn is_high(u: u16) -> bool
@@ -37,6 +39,15 @@ pub fn unit_or_zero(us: &[u16], i: usize) -> u16
     if i < us.len() { us[i] } else { 0 }
 }
 
+// A byte, or 0 past the end.
+fn byte_or_zero(s: &[u8], i: usize) -> u8
+    ensures { λ r. ⌜ r ≡ getD (now (s .entry)) i 0 ⌝ }
+{
+    if i < s.len() { s[i] } else { 0 }
+}
+
+// ── Table 3-7 ──
+
 // lo <= b <= hi
 fn is_within(lo: u8, hi: u8, b: u8) -> bool
     ensures { λ r. ⌜ r ≡ within lo hi b ⌝ }
@@ -56,7 +67,7 @@ fn row(more: usize, lo: u8, hi: u8) -> Row
 }
 
 // The row of Table 3-7 that a first byte chooses: nine rows, in the table's order.
-pub fn row_of(b: u8) -> Row
+fn row_of(b: u8) -> Row
     ensures { λ r. ⌜ r ≡ lead b ⌝ }
 {
     if is_within(0, 0x7f, b) {
@@ -95,7 +106,7 @@ pub fn row_of(b: u8) -> Row
 }
 
 // The n bytes from `at` on are there, the first from lo to hi, the others from 128 to 191.
-pub fn follows(s: &[u8], at: usize, n: usize, lo: u8, hi: u8) -> bool
+fn follows(s: &[u8], at: usize, n: usize, lo: u8, hi: u8) -> bool
     requires { ⌜ at ≤ length (now s) ⌝ }
     ensures { λ r. ⌜ r ≡ trail n lo hi (drop at (now (s .entry))) ⌝ }
 {
@@ -121,6 +132,9 @@ pub fn follows(s: &[u8], at: usize, n: usize, lo: u8, hi: u8) -> bool
     true
 }
 
+// ── characters ──
+
+// A character and the place behind it; or no well-formed one; or one that may not stand.
 pub enum Char {
     Good { code: u32, next: usize },
     Ill,
@@ -158,7 +172,7 @@ fn with_six(c: u32, b: u8) -> u32
 }
 
 // The number of the character at `at`, which has `more` bytes after its first, from the bytes' bits.
-pub fn scalar_at(s: &[u8], at: usize, more: usize) -> u32
+fn scalar_at(s: &[u8], at: usize, more: usize) -> u32
     requires { ⌜ at + more < length (now s) ⌝ }
     ensures { λ r. ⌜ r ≡ scalar more (getD (now (s .entry)) at 0) (drop (at + 1) (now (s .entry))) ⌝ }
 {
@@ -180,7 +194,7 @@ pub fn scalar_at(s: &[u8], at: usize, more: usize) -> u32
 
 // A character of one byte, in front of place `next`.
 fn one_byte(b: u8, next: usize) -> Char
-    ensures { λ r. ⌜ r ≡ pickChar (xmlChar b) (Char.Good b next) Char.Outside ⌝ }
+    ensures { λ r. ⌜ r ≡ cond (xmlChar b) (Char.Good b next) Char.Outside ⌝ }
 {
     let code = b as u32;
     if is_xml(code) {
@@ -218,13 +232,16 @@ pub fn char_at(s: &[u8], at: usize) -> Char
     }
 }
 
+// ── a text's units ──
+
+// How many units, or the number and place of a refusal.
 pub enum Counted {
     Units(usize),
     Refused(usize, usize),
 }
 
 // How many units the text has, `{}` included, or 2 or 3 with its place.
-pub fn count_units(s: &[u8]) -> Counted
+fn count_units(s: &[u8]) -> Counted
     requires { ⌜ length (now s) ≤ maxTextBytes ⌝ }
     ensures { λ r. ⌜ r ≡ counted (decode 0 0 (now (s .entry))) ⌝ }
 {
@@ -262,13 +279,6 @@ pub enum TextRead {
     Refused(label::Refusal),
 }
 
-// A byte, or 0 past the end.
-fn byte_or_zero(s: &[u8], i: usize) -> u8
-    ensures { λ r. ⌜ r ≡ getD (now (s .entry)) i 0 ⌝ }
-{
-    if i < s.len() { s[i] } else { 0 }
-}
-
 // So many units from that byte on, or 5.
 fn limited(count: usize, start: usize) -> TextRead
     ensures { λ r. ⌜ r ≡ unitsWithin count start ⌝ }
@@ -304,6 +314,8 @@ pub fn survey_text(text: &[u8]) -> TextRead
         Counted::Refused(number, place) => TextRead::Refused(label::Refusal { number, place }),
     }
 }
+
+// ── storing a text's units ──
 
 // The halves of a pair: the high ten bits of what the character is above U+FFFF, and the low ten.
 fn high_half(c: u32) -> u16
@@ -361,6 +373,9 @@ pub fn fill_units(text: &[u8], from: usize, out: &mut [u16])
     }
 }
 
+// ── moves over a text ──
+
+// The byte behind the units passed; or fewer units are left; or they end between the halves of a pair.
 pub enum Moved {
     To(usize),
     Past,
