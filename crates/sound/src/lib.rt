@@ -86,12 +86,10 @@ fn opens_at(bare: bool, us: &[u16], at: usize, a: usize, b: usize, named: bool) 
         return words::both(words::both(a == 0, b == 1), named);
     }
     let counts = words::both(1 <= a, 1 <= b);
+    let inside = words::both(counts, a <= us.len() - at);
     let split = text::is_low(text::unit_or_zero(us, at + a));
     let index = words::either(named, words::both(a == 1, b == 1));
-    words::both(
-        words::both(words::both(counts, a <= us.len() - at), !split),
-        index,
-    )
+    words::both(words::both(inside, !split), index)
 }
 
 // Whether the clusters use up the units and the glyphs, and each glyph keeps the limits. `lack`: glyphs that the open cluster still lacks.
