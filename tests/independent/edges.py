@@ -74,8 +74,9 @@ def size_edges():
         for text in (b'', b'{}', b'\xff', b'\0', b'{A', b'AB', GRIN.encode()):
             yield text, many
         for first, filler, last in (
-                (b'', b'0', b'5'), (b'', b'9', b''), (b'', b';', b''), (b'5,', b'0', b''), (b'5,1e', b'0', b''), (b'(', b'9', b')5'),
-                (b'(1:', b'9', b')5'), (b'(', b'0', b'1)5'), (b'5,.', b'1', b''), (b'', b'(', b''), (b'', b',', b'')):
+                (b'', b'0', b'5'), (b'', b'9', b''), (b'', b';', b''), (b'5,', b'0', b''), (b'5,1e', b'0', b''),
+                (b'(', b'9', b')5'), (b'(1:', b'9', b')5'), (b'(', b'0', b'1)5'), (b'5,.', b'1', b''), (b'', b'(', b''),
+                (b'', b',', b'')):
             yield b'A', first + filler * (size - len(first + last)) + last
         yield b'', many[:-1] + b'x'
 
@@ -130,8 +131,9 @@ def entry_edges():
     """7 to 14: each good and bad entry in several surroundings, counts of any size, pairs."""
     for entry in BAD_ENTRIES + GOOD_ENTRIES:
         for text, before, after in (
-                ('A', '', ''), ('A', '5;', ''), ('ABCDE', '5;', ''), ('ABCDE', '', ';5'), ('AB', '(1:2)5;', ''), ('ABC', '(1:3)5;', ';6'),
-                ('AB', '(2:2)5,1;', ';x'), ('', '', ''), ('', '5;', ';6'), (GRIN, '', ''), ('A' + GRIN, '5;', ''), (GRIN + 'A', '(2)9;', '')):
+                ('A', '', ''), ('A', '5;', ''), ('ABCDE', '5;', ''), ('ABCDE', '', ';5'), ('AB', '(1:2)5;', ''),
+                ('ABC', '(1:3)5;', ';6'), ('AB', '(2:2)5,1;', ';x'), ('', '', ''), ('', '5;', ';6'), (GRIN, '', ''),
+                ('A' + GRIN, '5;', ''), (GRIN + 'A', '(2)9;', '')):
             yield text.encode(), before.encode() + entry + after.encode()
     for number in range(65520, 65550):
         yield b'A', b'%d' % number
@@ -225,7 +227,8 @@ def run_edges():
 
 def fault_edges():
     """(text, indices, number, place): every number, and places on both sides of each end."""
-    for text, indices in ((b'', b''), (b'A', b''), (b'', b';'), (b'{a', b'(1:2)5;'), (b'AB\xff', b'5;;x,1;'), (b'A' * 20000, b';' * 300000)):
+    for text, indices in ((b'', b''), (b'A', b''), (b'', b';'), (b'{a', b'(1:2)5;'), (b'AB\xff', b'5;;x,1;'),
+                          (b'A' * 20000, b';' * 300000)):
         for number in (*range(41), 258, 263, 65538, 2 ** 32 - 1):
             for place in (0, 1, 2, 3, 4, 5, 19999, 20000, 300000, 300001, 2 ** 32, 2 ** 32 + 1, SIZE_MAX):
                 if len(text) < 9 or number in (1, 2, 4, 5, 7, 13, 14, 15):

@@ -1,3 +1,4 @@
+use native.Mathlib.Omega.{arith}
 use borrow.Author.Tests.{le-leb, lt-leb}
 use Rattle.text.specs.Texts.{unitsWithin}
 use Rattle.text.proofs.limited.Statement.{statement}
@@ -7,11 +8,11 @@ use Rattle.text.proofs.limited.Lts as lts
 
 returns : tie.Need-returns
 unfolding unitsWithin
-returns c = rw (le-leb _ _ (c .if1 .taken))
+returns c = rw (le-leb (c .before .args .count) 4096 (omega arith))
 
 returns-2 : tie.Need-returns-2
 unfolding unitsWithin
-returns-2 c = rw (lt-leb _ _ (c .if1 .left))
+returns-2 c = rw (lt-leb (c .before .args .count) 4096 (omega arith))
 
 pub limited-spec : {M : Type 1} → statement M
 limited-spec = tie.close (tie.spec returns returns-2)

@@ -1,3 +1,4 @@
+use native.Mathlib.Omega.{arith}
 use Rattle.text.proofs.Texts.{survey-refused, survey-plain, survey-braced, survey-marked, marked-two}
 use mathlib.Core.Path.{sym, _∙_}
 use borrow.Author.Needs.{needs}
@@ -31,7 +32,7 @@ returns-2 : tie.Need-returns-2
 returns-2 c = survey-braced (c .before .before .before .before .before .before .before .before .before .args .text .now) _ (sym (c .before .before .before .before .before .before .before .count-units .ensures) ∙ c .before .before .before .before .before .n .given .1) (c .before .before .before .byte-or-zero .ensures) (c .before .before .if1 .left) (c .before .byte-or-zero2 .ensures) (c .if2 .taken)
 
 sub-limited : tie.Need-sub-limited
-sub-limited c = marked-two (c .before .before .before .before .before .before .before .before .before .args .text .now) _ (sym (c .before .before .before .before .before .before .before .count-units .ensures) ∙ c .before .before .before .before .before .n .given .1) (c .before .before .before .byte-or-zero .ensures) (c .before .before .if1 .left) (c .before .byte-or-zero2 .ensures) (c .if2 .left)
+sub-limited c = omega (arith, marked-two (c .before .before .before .before .before .before .before .before .before .args .text .now) _ (sym (c .before .before .before .before .before .before .before .count-units .ensures) ∙ c .before .before .before .before .before .n .given .1) (c .before .before .before .byte-or-zero .ensures) (c .before .before .if1 .left) (c .before .byte-or-zero2 .ensures) (c .if2 .left))
 
 limited-requires-2 : tie.Need-limited-requires-2
 limited-requires-2 c κs = search needs
