@@ -12,3 +12,4 @@ pub mod Outputs
 pub mod Picks
 pub mod Wires
 pub mod Checks
+pub mod Sizes

@@ -1,17 +1,23 @@
-// UTF-8 text to code units: the rows of Unicode's Table 3-7, XML 1.0's Char, and the moves over a text that the reader makes.
+// The text of a label: UTF-8 by the rows of Unicode's Table 3-7 to code units and back, XML 1.0's Char, and the moves over a text that the reader makes.
 ghost use mathlib.Core.Path.{_≡_};
-ghost use mathlib.Core.Bool.{true, false};
-ghost use Prim.Native.Nat.{_+_, _-_, _*_, _%_, _≤_, _<_};
+ghost use mathlib.Core.Bool.{true, false, cond};
+ghost use Prim.Native.Nat.{_+_, _-_, _*_, _/_, _%_, _≤_, _<_};
 ghost use lib.ListN.{length, getD, drop};
+ghost use lib.Seq.{sets};
+ghost use Rattle.label.specs.Limits.{maxTextBytes};
 ghost use Rattle.label.specs.Outcome.{ok};
-ghost use Rattle.label.specs.Text.{within, lead, trail, scalar, xmlChar, isHigh, isLow, decode};
-ghost use Rattle.text.specs.Chars.{charAt, counted};
-ghost use Rattle.text.specs.Moves.{unitsFrom, Moves};
-ghost use Rattle.text.specs.Units.{unitOk, nextHalf, unitLength, markLength};
+ghost use Rattle.label.specs.Text.{within, lead, trail, scalar, xmlChar, isHigh, isLow, unitsOf, decode};
 ghost use Rattle.label.specs.Sound.{properUnits};
 ghost use Rattle.label.specs.Write.{utf8, paired, unitBytes, unitsBytes, textOf};
+ghost use Rattle.label.specs.Calls.{filled};
 ghost use Rattle.words.specs.Puts.{Put};
+ghost use Rattle.text.specs.Chars.{charAt, counted};
+ghost use Rattle.text.specs.Texts.{unitsWithin, textRead};
+ghost use Rattle.text.specs.Moves.{unitsFrom, Moves};
+ghost use Rattle.text.specs.Units.{unitOk, nextHalf, unitLength, markLength};
 use label::Row;
+
+// ── units and bytes ──
 
 // A high half or a low half of a pair.
 pub fn is_high(u: u16) -> bool
@@ -33,6 +39,15 @@ pub fn unit_or_zero(us: &[u16], i: usize) -> u16
     if i < us.len() { us[i] } else { 0 }
 }
 
+// A byte, or 0 past the end.
+fn byte_or_zero(s: &[u8], i: usize) -> u8
+    ensures { λ r. ⌜ r ≡ getD (now (s .entry)) i 0 ⌝ }
+{
+    if i < s.len() { s[i] } else { 0 }
+}
+
+// ── Table 3-7 ──
+
 // lo <= b <= hi
 fn is_within(lo: u8, hi: u8, b: u8) -> bool
     ensures { λ r. ⌜ r ≡ within lo hi b ⌝ }
@@ -52,7 +67,7 @@ fn row(more: usize, lo: u8, hi: u8) -> Row
 }
 
 // The row of Table 3-7 that a first byte chooses: nine rows, in the table's order.
-pub fn row_of(b: u8) -> Row
+fn row_of(b: u8) -> Row
     ensures { λ r. ⌜ r ≡ lead b ⌝ }
 {
     if is_within(0, 0x7f, b) {
@@ -91,7 +106,7 @@ pub fn row_of(b: u8) -> Row
 }
 
 // The n bytes from `at` on are there, the first from lo to hi, the others from 128 to 191.
-pub fn follows(s: &[u8], at: usize, n: usize, lo: u8, hi: u8) -> bool
+fn follows(s: &[u8], at: usize, n: usize, lo: u8, hi: u8) -> bool
     requires { ⌜ at ≤ length (now s) ⌝ }
     ensures { λ r. ⌜ r ≡ trail n lo hi (drop at (now (s .entry))) ⌝ }
 {
@@ -117,73 +132,86 @@ pub fn follows(s: &[u8], at: usize, n: usize, lo: u8, hi: u8) -> bool
     true
 }
 
+// ── characters ──
+
+// A character and the place behind it; or no well-formed one; or one that may not stand.
 pub enum Char {
     Good { code: u32, next: usize },
     Ill,
     Outside,
 }
 
-fn wide(b: u8) -> u32
-    ensures { λ r. ⌜ r ≡ b ⌝ }
-{
-    b as u32
-}
-
 // XML 1.0's Char.
 pub fn is_xml(c: u32) -> bool
     ensures { λ r. ⌜ r ≡ xmlChar c ⌝ }
 {
-    if c == 9 {
+    if c < 0x20 {
+        return words::either(words::either(c == 9, c == 10), c == 13);
+    }
+    if c <= 0xd7ff {
         return true;
     }
-    if c == 10 {
-        return true;
-    }
-    if c == 13 {
-        return true;
-    }
-    if c < 32 {
+    if c < 0xe000 {
         return false;
     }
-    if c <= 55295 {
+    if c <= 0xfffd {
         return true;
     }
-    if c < 57344 {
+    if c < 0x10000 {
         return false;
     }
-    if c <= 65533 {
-        return true;
-    }
-    if c < 65536 {
-        return false;
-    }
-    c <= 1114111
+    c <= 0x10ffff
 }
 
-// The number of the character at `at`, which has `more` bytes after its first.
-pub fn scalar_at(s: &[u8], at: usize, more: usize) -> u32
+// Six more bits, those of a byte after the first.
+fn with_six(c: u32, b: u8) -> u32
+    requires { ⌜ c < 32768 ⌝ }
+    ensures { λ r. ⌜ r ≡ c * 64 + b % 64 ⌝ }
+{
+    (c << 6) | (b as u32 & 0x3f)
+}
+
+// The number of the character at `at`, which has `more` bytes after its first, from the bytes' bits.
+fn scalar_at(s: &[u8], at: usize, more: usize) -> u32
     requires { ⌜ at + more < length (now s) ⌝ }
     ensures { λ r. ⌜ r ≡ scalar more (getD (now (s .entry)) at 0) (drop (at + 1) (now (s .entry))) ⌝ }
 {
+    let b = words::wide(s[at]);
     if more == 0 {
-        return wide(s[at]);
+        return b;
     }
     if more == 1 {
-        return wide(s[at]) % 32 * 64 + wide(s[at + 1]) % 64;
+        return with_six(b & 0x1f, s[at + 1]);
     }
     if more == 2 {
-        return wide(s[at]) % 16 * 4096 + wide(s[at + 1]) % 64 * 64 + wide(s[at + 2]) % 64;
+        let c = with_six(b & 0x0f, s[at + 1]);
+        return with_six(c, s[at + 2]);
     }
-    wide(s[at]) % 8 * 262144
-        + wide(s[at + 1]) % 64 * 4096
-        + wide(s[at + 2]) % 64 * 64
-        + wide(s[at + 3]) % 64
+    let c = with_six(b & 0x07, s[at + 1]);
+    let d = with_six(c, s[at + 2]);
+    with_six(d, s[at + 3])
 }
 
+// A character of one byte, in front of place `next`.
+fn one_byte(b: u8, next: usize) -> Char
+    ensures { λ r. ⌜ r ≡ cond (xmlChar b) (Char.Good b next) Char.Outside ⌝ }
+{
+    let code = b as u32;
+    if is_xml(code) {
+        Char::Good { code, next }
+    } else {
+        Char::Outside
+    }
+}
+
+// The character at `at`, where it is well-formed and may stand, and the place behind it.
 pub fn char_at(s: &[u8], at: usize) -> Char
     requires { ⌜ at < length (now s) ⌝ }
     ensures { λ r. ⌜ r ≡ charAt (now (s .entry)) at ⌝ }
 {
+    if s[at] < 0x80 {
+        return one_byte(s[at], at + 1);
+    }
     let row = row_of(s[at]);
     let fits = row.fits;
     let more = row.more;
@@ -204,14 +232,17 @@ pub fn char_at(s: &[u8], at: usize) -> Char
     }
 }
 
+// ── a text's units ──
+
+// How many units, or the number and place of a refusal.
 pub enum Counted {
     Units(usize),
     Refused(usize, usize),
 }
 
-// How many units the text has, or 2 or 3 with its place.
-pub fn count_units(s: &[u8]) -> Counted
-    requires { ⌜ length (now s) ≤ 16384 ⌝ }
+// How many units the text has, `{}` included, or 2 or 3 with its place.
+fn count_units(s: &[u8]) -> Counted
+    requires { ⌜ length (now s) ≤ maxTextBytes ⌝ }
     ensures { λ r. ⌜ r ≡ counted (decode 0 0 (now (s .entry))) ⌝ }
 {
     let mut i = 0;
@@ -237,6 +268,114 @@ pub fn count_units(s: &[u8]) -> Counted
     Counted::Units(n)
 }
 
+// The units of a text's run: how many, and the byte where they start, which is behind `{}`.
+pub struct TextUnits {
+    pub count: usize,
+    pub start: usize,
+}
+
+pub enum TextRead {
+    Units(TextUnits),
+    Refused(label::Refusal),
+}
+
+// So many units from that byte on, or 5.
+fn limited(count: usize, start: usize) -> TextRead
+    ensures { λ r. ⌜ r ≡ unitsWithin count start ⌝ }
+{
+    if count <= label::Limits::UNITS {
+        TextRead::Units(TextUnits { count, start })
+    } else {
+        TextRead::Refused(label::Refusal {
+            number: 5,
+            place: 0,
+        })
+    }
+}
+
+// The units of a text's run, or the first refusal of 2 to 5.
+pub fn survey_text(text: &[u8]) -> TextRead
+    requires { ⌜ length (now text) ≤ maxTextBytes ⌝ }
+    ensures { λ r. ⌜ r ≡ textRead (now (text .entry)) ⌝ }
+{
+    match count_units(text) {
+        Counted::Units(n) => {
+            if byte_or_zero(text, 0) != 0x7b {
+                return limited(n, 0);
+            }
+            if byte_or_zero(text, 1) != 0x7d {
+                return TextRead::Refused(label::Refusal {
+                    number: 4,
+                    place: 0,
+                });
+            }
+            limited(n - 2, 2)
+        }
+        Counted::Refused(number, place) => TextRead::Refused(label::Refusal { number, place }),
+    }
+}
+
+// ── storing a text's units ──
+
+// The halves of a pair: the high ten bits of what the character is above U+FFFF, and the low ten.
+fn high_half(c: u32) -> u16
+    requires { ⌜ (65536 ≤ c) × (c ≤ 1114111) ⌝ }
+    ensures { λ r. ⌜ r ≡ 55296 + (c - 65536) / 1024 ⌝ }
+{
+    let v = c - 0x10000;
+    (v >> 10) as u16 | 0xd800
+}
+
+fn low_half(c: u32) -> u16
+    requires { ⌜ 65536 ≤ c ⌝ }
+    ensures { λ r. ⌜ r ≡ 56320 + (c - 65536) % 1024 ⌝ }
+{
+    let v = c - 0x10000;
+    (v & 0x3ff) as u16 | 0xdc00
+}
+
+// Stores the units of a character from place n on, and returns the place behind them.
+fn put_char(out: &mut [u16], n: usize, c: u32) -> usize
+    requires { ⌜ (c ≤ 1114111) × (n + length (unitsOf c) ≤ length (now out)) ⌝ }
+    ensures { λ r. ⌜ (r ≡ n + length (unitsOf c)) × (now (out .exit) ≡ sets (now (out .entry)) n (unitsOf c)) ⌝ }
+{
+    if c <= 0xffff {
+        out[n] = c as u16;
+        return n + 1;
+    }
+    let m = n + 1;
+    out[n] = high_half(c);
+    out[m] = low_half(c);
+    n + 2
+}
+
+// Stores the units of the text from byte `from` on, where it has no fault, at the start of `out`.
+pub fn fill_units(text: &[u8], from: usize, out: &mut [u16])
+    requires { ⌜ decode 0 from (drop from (now text)) ≡ ok (unitsFrom (now text) from) ⌝ }
+    requires { ⌜ length (unitsFrom (now text) from) ≤ length (now out) ⌝ }
+    ensures { λ _. ⌜ now (out .exit) ≡ filled (unitsFrom (now (text .entry)) from) (now (out .entry)) ⌝ }
+{
+    let mut i = from;
+    let mut n = 0;
+    while i < text.len() {
+        match char_at(text, i) {
+            Char::Good { code, next } => {
+                n = put_char(out, n, code);
+                i = next;
+            }
+            Char::Ill => {
+                return;
+            }
+            Char::Outside => {
+                return;
+            }
+        }
+    }
+}
+
+// ── moves over a text ──
+
+// The byte behind the units passed; or fewer units are left; or they end between the halves of a pair.
 pub enum Moved {
     To(usize),
     Past,

@@ -1,5 +1,3 @@
--- `label::follows` meets its contract: the definition at the cursor is the definition at the start.
--- Assumes nothing.
 use Prim.Native.Nat.{_≤_}
 use mathlib.Core.Path.{_≡_, _∙_, sym}
 use borrow.Author.Needs.{needs}
