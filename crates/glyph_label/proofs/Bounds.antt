@@ -1,21 +1,21 @@
 -- The numbers of every answer are below 2^32. Assumes nothing.
-use mathlib.Core.Path.{_≡_, refl, sym, ap, _∙_}
+use mathlib.Core.Path.{_≡_, refl}
 use mathlib.Core.Bool.{Bool, true, false, cond, not, _&&_, _||_}
 use mathlib.Core.List.{List, [], _∷_}
-use Prim.Native.Nat.{ℕ, zero, suc, _+_, _-_, _*_, _/_, _<_, _≤_}
+use Prim.Native.Nat.{ℕ, zero, suc, _+_, _-_, _*_, _/_, _≤_}
 use native.Mathlib.Omega.{arith}
 use borrow.Author.Tests.{leb-true}
 use lib.Dec.{leb, ltb, eqb}
 use lib.IntN.{ℤ}
-use lib.ListN.{length, drop, length-drop}
+use lib.ListN.{length, length-drop}
 use Rattle.label.specs.Limits.{maxTextBytes, maxIndicesBytes, maxUnits, maxGlyphs, maxIndex}
 use Rattle.label.specs.Outcome.{Outcome, ok, no, need, _>>=_, _>>_}
 use Rattle.label.specs.Bytes.{empty, value, onFirst, split}
-use Rattle.label.specs.Text.{lead, starts, scalar, xmlChar, unitsOf, decode, braced, marked, unmarked, textUnits}
-use Rattle.label.specs.Entry.{part, indexDigits, wellFormed, fieldFits, Entry, entryOf, entry, entries}
-use Rattle.label.specs.Run.{Run, Parts, fontGlyph, cluster, before, whole, tail, State, start, opens, takes, allowed, next, placed, step, walk, runFrom, read}
+use Rattle.label.specs.Text.{lead, starts, scalar, xmlChar, decode, braced, marked, unmarked, textUnits}
+use Rattle.label.specs.Entry.{part, indexDigits, wellFormed, fieldFits, Entry, entry, entries}
+use Rattle.label.specs.Run.{Run, whole, tail, State, start, opens, takes, allowed, next, placed, step, walk, runFrom, read}
 use Rattle.label.specs.Sound.{clustersOf, glyphsOf, wholeClusters, wholeGlyphs, soundRun, runOf, sound}
-use Rattle.label.specs.Write.{textOf, indicesOf, Label, normal, write}
+use Rattle.label.specs.Write.{Label, normal, write}
 use Rattle.label.specs.Pick.{holding, touched, turned, inside, pickUnits, pickGlyphs}
 use Rattle.label.specs.Calls.{counts, counted, readInto, lengths, writeInto}
 use Rattle.label.specs.Wire.{halves, words, noLeftOver, readBytes, writeBytes, pickUnitsBytes, pickGlyphsBytes}
@@ -29,7 +29,7 @@ use Rattle.label.proofs.Walks.{step-ok, ok-path, indices-back}
 use Rattle.label.proofs.Sounds.{text-ok, SoundRun, sound-parts, read-sound}
 use Rattle.sound.specs.Sounds.{unitSum}
 use Rattle.sound.proofs.Facts.{few-units, few-glyphs, units-add-up, glyphs-add-up}
-use Rattle.glyph_label.specs.Runs.{pickBytes, Small32, ReadingFits, WritingFits, StretchFits}
+use Rattle.glyph_label.specs.Runs.{pickBytes, ReadingFits, WritingFits, StretchFits}
 use Rattle.glyph_label.proofs.Sizes.{few-clusters}
 
 -- ── the places of 1 to 15 ──

@@ -1,14 +1,14 @@
 -- A run handed in as bytes: its numbers in arrays, and one law for each return of the writing and of the picks. Assumes nothing.
 use mathlib.Core.Path.{_≡_, refl, sym, ap, _∙_}
 use mathlib.Core.Bool.{Bool, true, false, _&&_}
-use mathlib.Core.List.{List, [], _∷_, _++_}
-use Prim.Native.Nat.{ℕ, _+_, _*_, _/_, _<_, _≤_}
+use mathlib.Core.List.{List}
+use Prim.Native.Nat.{ℕ, _/_}
 use lib.IntN.{ℤ}
 use lib.ListN.{length, take, drop}
 use lib.Seq.{take-at}
-use Rattle.label.specs.Outcome.{Outcome, ok, no, need, _>>=_, _>>_}
+use Rattle.label.specs.Outcome.{Outcome, no, need, _>>=_, _>>_}
 use Rattle.label.specs.Sound.{sound}
-use Rattle.label.specs.Write.{Label, write}
+use Rattle.label.specs.Write.{write}
 use Rattle.label.specs.Pick.{pickUnits, pickGlyphs}
 use Rattle.label.specs.Calls.{refusal, writingOutcome, writeInto, lengths, filled, textAfter, indicesAfter}
 use Rattle.label.specs.Wire.{halves, words, noLeftOver, writeBytes, pickUnitsBytes, pickGlyphsBytes}

@@ -1,6 +1,5 @@
 -- The answers for C: number 0 and the values, or a refusal's number and place with the other fields 0.
 -- Assumes nothing.
-use Prim.Native.Nat.{ℕ}
 use mathlib.Core.Bool.{cond}
 use Rattle.label.specs.Outcome.{Outcome, ok, no}
 use Rattle.label.specs.declared.Counts.{Counts}

@@ -6,16 +6,14 @@ use mathlib.Core.Bool.{Bool, true, false, _&&_}
 use mathlib.Core.List.{List}
 use lib.Dec.{leb, eqb}
 use lib.IntN.{ℤ}
-use lib.ListN.{length}
-use Rattle.label.specs.Outcome.{Outcome, ok, no, need, _>>_}
+use Rattle.label.specs.Outcome.{Outcome, ok, no}
 use Rattle.label.specs.Run.{Run, read}
 use Rattle.label.specs.Write.{Label}
-use Rattle.label.specs.Calls.{readingOutcome, writingOutcome, counted, lengths, filled, textAfter, indicesAfter}
+use Rattle.label.specs.Calls.{writingOutcome, counted, lengths, filled, textAfter, indicesAfter}
 use Rattle.label.specs.Wire.{halves, words, unitBytesAfter, clusterBytesAfter, glyphBytesAfter, pickUnitsBytes, pickGlyphsBytes}
 use Rattle.label.specs.declared.Counts.{Counts}
 use Rattle.label.specs.declared.Lengths.{Lengths}
 use Rattle.label.specs.declared.Stretch.{Stretch}
-use Rattle.label.specs.declared.Reading.{Reading}
 use Rattle.label.specs.declared.Writing.{Writing}
 use Rattle.glyph_label.specs.declared.Room.{Room}
 use Rattle.glyph_label.specs.declared.Room.the-variants.{Small, Medium, Large, Beyond}

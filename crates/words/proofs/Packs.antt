@@ -1,7 +1,7 @@
 -- A run's numbers packed into bytes and unpacked from them, one number a turn. Assumes nothing.
 use mathlib.Core.Path.{_≡_, refl, sym, ap, _∙_}
 use mathlib.Core.List.{List, [], _∷_, _++_}
-use Prim.Native.Nat.{ℕ, zero, suc, _+_, _-_, _*_, _/_, _%_, _<_, _≤_}
+use Prim.Native.Nat.{ℕ, suc, _+_, _-_, _*_, _/_, _%_, _<_, _≤_}
 use native.Mathlib.Nat.{add-zero, mod-eq-of-lt}
 use native.Mathlib.Numerals.{add-one, add-two, add-three}
 use native.Mathlib.Omega.{arith}
@@ -17,11 +17,11 @@ use Rattle.label.specs.Wire.{fromHalves, bitsOf, fourBytes, fromWords, halves, 
 use Rattle.label.proofs.Basics.{cases}
 use Rattle.words.specs.Words.{putHalf, halfAt, putWord, wordAt, putInt, intAt}
 use Rattle.words.specs.Puts.{puts, Put}
-use Rattle.words.proofs.Puts.{Left, left-next, left-as, left-end, put-as, put-room}
+use Rattle.words.proofs.Puts.{Left, left-next, left-as, left-end, put-room}
 
 -- ── the machine's numbers are the definitions' ──
 
-bits-are : (z : ℤ) → ofZ w32 z ≡ bitsOf z
+pub bits-are : (z : ℤ) → ofZ w32 z ≡ bitsOf z
 bits-are (pos n) = refl
 bits-are (negsuc n) = omega arith
 
@@ -29,7 +29,7 @@ bits-below : (z : ℤ) → mag z < 2147483648 → bitsOf z < 4294967296
 bits-below (pos n) h = omega arith
 bits-below (negsuc n) h = omega arith
 
-signed-is : (n : ℕ) → toZ w32 n ≡ signed n
+pub signed-is : (n : ℕ) → toZ w32 n ≡ signed n
 unfolding signed
 signed-is n = let e : 4294967296 - suc n ≡ 4294967295 - n = omega arith in cases (ltb n 2147483648) (λ t. rw t) (λ t. rw (t, e))
 

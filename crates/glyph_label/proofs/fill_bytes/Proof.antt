@@ -2,7 +2,6 @@ use Rattle.glyph_label.proofs.Sizes.{not-beyond}
 use Rattle.glyph_label.proofs.Bounds.{counts-few}
 use Rattle.glyph_label.specs.Runs.{RoomFor}
 use Prim.Native.Nat.{_*_}
-use native.Mathlib.Omega.{arith}
 use mathlib.Core.Path.{subst}
 use borrow.Author.Needs.{needs}
 use Rattle.glyph_label.proofs.fill_bytes.Statement.{statement}

@@ -1,5 +1,3 @@
-use mathlib.Core.Bool.{cond}
-use mathlib.Core.Path.{sym, ap}
 use Rattle.glyph_label.proofs.part_answer.Statement.{statement}
 use Rattle.glyph_label.proofs.part_answer.Tie as tie
 use Rattle.glyph_label.proofs.part_answer.Reads as reads

@@ -1,4 +1,3 @@
-use mathlib.Core.Path.{_∙_}
 use borrow.Author.Needs.{needs}
 use Rattle.glyph_label.proofs.pick_numbers.Statement.{statement}
 use Rattle.glyph_label.proofs.pick_numbers.Tie as tie

@@ -39,7 +39,7 @@ slice-aggregate-write-3 c = taken-count (words (c .before .before .before .befor
 
 -- src/lib.rt:394:5
 write-requires : tie.Need-write-requires
-write-requires c κs = ?
+write-requires c κs = search needs
 
 -- src/lib.rt:376:1
 same-length : tie.Need-same-length
