@@ -9,7 +9,7 @@ ghost use Rattle.label.specs.Sound.{size, indexFits, advanceFits, glyphFits, nu
 ghost use Rattle.words.specs.Places.{place};
 ghost use Rattle.sound.specs.Sounds.{glyphAt, opensAt};
 
-// ── the numbers of a glyph, from place k on ──
+// ── the limits of a glyph, whose four numbers begin at place k ──
 
 fn index_fits_at(s: &[i32], k: usize) -> bool
     requires { ⌜ k < length (now s) ⌝ }
@@ -45,6 +45,7 @@ fn glyph_fits_at(s: &[i32], k: usize) -> bool
 
 // ── whole clusters and glyphs ──
 
+// Two numbers a cluster, none of them below 0.
 fn whole_clusters(s: &[i32]) -> bool
     ensures { λ r. ⌜ r ≡ wholeClusters (now (s .entry)) ⌝ }
 {
@@ -60,6 +61,7 @@ fn whole_clusters(s: &[i32]) -> bool
     i == s.len()
 }
 
+// Four numbers a glyph, index and advance not below -1.
 fn whole_glyphs(s: &[i32]) -> bool
     ensures { λ r. ⌜ r ≡ wholeGlyphs (now (s .entry)) ⌝ }
 {

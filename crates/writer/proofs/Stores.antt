@@ -47,12 +47,12 @@ pub entry-here : (a b : ℕ) (s : List ℤ) (k : ℕ) → entryBytes a b (fields
 unfolding fields.glyphAt glyphAt
 entry-here a b s k = refl
 
--- the bytes of parts with these separators owed before the first
+-- the bytes of these entries, with n separators owed before the first
 unfoldable pub owed : ℕ → List (List ℕ) → List ℕ
 owed n [] = []
 owed n (x ∷ l) = led n x ++ owed (owing n x) l
 
--- the same, from the parts without the empty ones at the end
+-- the same, of entries of which the empty ones at the end are dropped
 abbrev kept : ℕ → List (List ℕ) → List ℕ
 kept n r = cond (empty r) [] (semis n ++ join 59 r)
 
@@ -80,6 +80,7 @@ kept-none (x ∷ r) = refl
 
 -- ── the entries at a place ──
 
+-- the entries from these places of the clusters' and the glyphs' numbers on
 unfoldable pub writtenAt : List ℤ → List ℤ → ℕ → ℕ → ℕ → List (List ℕ)
 writtenAt cs gs lack i k = written lack (clustersOf (drop i cs)) (glyphsOf (drop k gs))
 
@@ -87,12 +88,8 @@ pub indices-start : (cs gs : List ℤ) → indicesOf (clustersOf cs) (glyphsOf g
 unfolding indicesOf writtenAt
 indices-start cs gs = sym (owed-kept 0 (written 0 (clustersOf cs) (glyphsOf gs)) ∙ kept-none (trim (written 0 (clustersOf cs) (glyphsOf gs))))
 
-pub owes-is : (n at p : ℕ) (x : List ℕ) → p ≡ at + length (led n x) → cond (ltb at p) 1 (n + 1) ≡ owing n x
-unfolding led owing
-owes-is n at p [] e = rw (le-ltb at p (omega arith))
-owes-is n at p (a ∷ x) e = rw (lt-ltb at p (omega (arith, e, length-append (semis n) (a ∷ x))))
-
 module _ (cs gs : List ℤ) (n lack i k : ℕ) where
+  -- what is left to store
   abbrev rest : List ℕ
   rest = owed n (writtenAt cs gs lack i k)
 
@@ -112,26 +109,24 @@ module _ (cs gs : List ℤ) (n lack i k : ℕ) where
       by zero l = absurd (omega arith)
       by (suc m) l = let e : suc m - 1 ≡ m = omega arith in rw e
 
-  pub rest-opens : (a b : ℕ) → a ≡ nat (place cs i) → b ≡ nat (place cs (i + 1)) → 4 ≤ length gs - k → lack ≡ 0 → 2 ≤ length cs - i
-      → rest ≡ led n (entryBytes a b (glyphAt gs k)) ++ owed (owing n (entryBytes a b (glyphAt gs k))) (writtenAt cs gs (b - 1) (i + 2) (k + 4))
+  pub rest-opens : {a b d : ℕ} → a ≡ nat (place cs i) → b ≡ nat (place cs (i + 1)) → d ≡ b - 1 → 4 ≤ length gs - k → lack ≡ 0 → 2 ≤ length cs - i
+      → rest ≡ led n (entryBytes a b (glyphAt gs k)) ++ owed (owing n (entryBytes a b (glyphAt gs k))) (writtenAt cs gs d (i + 2) (k + 4))
   unfolding writtenAt written owed clusterAt
-  rest-opens a b p q h l e = rw (p, q, glyphs-at gs k h, clusters-at cs i e, l, written)
+  rest-opens p q d h l e = rw (d, p, q, glyphs-at gs k h, clusters-at cs i e, l, written)
 
-  -- a turn
-  pub again-further : {old whole l m : List ℕ} {at p r : ℕ} → Left old whole l 0 at rest → 4 ≤ length gs - k → 0 < lack
-      → Put l at (led n (entryBytes 1 1 (glyphAt gs k))) p m → r ≡ cond (ltb at p) 1 (n + 1)
-      → Left old whole m 0 p (owed r (writtenAt cs gs (lack - 1) i (k + 4)))
-  again-further {at = at} {p = p} {r = r} f h l g e =
-      let x = entryBytes 1 1 (glyphAt gs k) in
-      left-next (left-as (rest-further h l ∙ ap (λ (z : ℕ). led n x ++ owed z (writtenAt cs gs (lack - 1) i (k + 4))) (sym (e ∙ owes-is n at p x (g .behind)))) f) g
+-- ── a turn of the loop: an entry x was stored from `at` up to p, and r separators are owed after it ──
 
-  pub again-opens : (a b : ℕ) {old whole l m : List ℕ} {at p r d : ℕ} → a ≡ nat (place cs i) → b ≡ nat (place cs (i + 1)) → Left old whole l 0 at rest → 4 ≤ length gs - k → lack ≡ 0 → 2 ≤ length cs - i
-      → Put l at (led n (entryBytes a b (glyphAt gs k))) p m → r ≡ cond (ltb at p) 1 (n + 1) → d ≡ b - 1
-      → Left old whole m 0 p (owed r (writtenAt cs gs d (i + 2) (k + 4)))
-  again-opens a b {at = at} {p = p} {r = r} {d = d} pa pb f h l j g e q =
-      let x = entryBytes a b (glyphAt gs k) in
-      rw q (left-next (left-as (rest-opens a b pa pb h l j ∙ ap (λ (z : ℕ). led n x ++ owed z (writtenAt cs gs (b - 1) (i + 2) (k + 4))) (sym (e ∙ owes-is n at p x (g .behind)))) f) g)
+owes-is : (n at p : ℕ) (x : List ℕ) → p ≡ at + length (led n x) → cond (ltb at p) 1 (n + 1) ≡ owing n x
+unfolding led owing
+owes-is n at p [] e = rw (le-ltb at p (omega arith))
+owes-is n at p (a ∷ x) e = rw (lt-ltb at p (omega (arith, e, length-append (semis n) (a ∷ x))))
 
+pub entry-stored : (n : ℕ) (x : List ℕ) (ls : List (List ℕ)) {old whole l m s : List ℕ} {at p r : ℕ} → s ≡ led n x ++ owed (owing n x) ls → Left old whole l 0 at s
+    → Put l at (led n x) p m → r ≡ cond (ltb at p) 1 (n + 1) → Left old whole m 0 p (owed r ls)
+entry-stored n x ls {at = at} {p = p} e f g d =
+    left-next (left-as (e ∙ ap (λ (z : ℕ). led n x ++ owed z ls) (sym (d ∙ owes-is n at p x (g .behind)))) f) g
+
+-- 80 bytes an entry and a separator bound the place
 pub owes-bound : (at p n k r : ℕ) → r ≡ cond (ltb at p) 1 (n + 1) → at ≤ p → p ≤ at + n + 80 → at + n ≤ 21 * k → p + r ≤ 21 * (k + 4)
 owes-bound at p n k r h a b e =
     cases (ltb at p)

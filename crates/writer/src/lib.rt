@@ -116,7 +116,8 @@ pub fn write(
     ensures text { λ r. ⌜ now (text .exit) ≡ textAfter (writeInto (length (now (text .entry))) (length (now (indices .entry))) (now (units .entry)) (now (clusters .entry)) (now (glyphs .entry))) (now (text .entry)) ⌝ }
     ensures indices { λ r. ⌜ now (indices .exit) ≡ indicesAfter (writeInto (length (now (text .entry))) (length (now (indices .entry))) (now (units .entry)) (now (clusters .entry)) (now (glyphs .entry))) (now (indices .entry)) ⌝ }
 {
-    if !sound::is_sound(units, clusters, glyphs) {
+    let is_sound = sound::is_sound(units, clusters, glyphs);
+    if !is_sound {
         return refused(19, 0);
     }
     let text_bytes = text::text_length(units);

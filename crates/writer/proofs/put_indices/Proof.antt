@@ -1,4 +1,4 @@
-use Rattle.writer.proofs.Stores.{owed, writtenAt, indices-start, again-further, again-opens, rest-none, rest-end, owes-bound}
+use Rattle.writer.proofs.Stores.{owed, writtenAt, indices-start, rest-further, rest-opens, rest-none, rest-end, entry-stored, owes-bound}
 use Rattle.words.proofs.Puts.{Left, left-start, left-as, left-end}
 use Rattle.label.specs.Sound.{clustersOf, glyphsOf}
 use Rattle.label.specs.Write.{indicesOf}
@@ -44,7 +44,7 @@ loop-again : tie.Need-loop-again Inv-loop μ-loop
 loop-again c =
     let a = c .before .before .before .before .before .before .before .before .before .args in
     let l = c .before .before .before .before .before .before .before .loop in (
-      again-further (a .cs .now) (a .gs .now) (l .owed) (l .lack) (l .i) (l .k) (l .inv .0) (c .before .before .before .before .before .before .loop-test .taken) (c .before .before .before .before .before .if1 .taken) (c .before .before .before .put-next .ensures .0) (c .owes .ensures .0),
+      entry-stored _ _ _ (rest-further (a .cs .now) (a .gs .now) (l .owed) (l .lack) (l .i) (l .k) (c .before .before .before .before .before .before .loop-test .taken) (c .before .before .before .before .before .if1 .taken)) (l .inv .0) (c .before .before .before .put-next .ensures .0) (c .owes .ensures .0),
       owes-bound (l .at) _ (l .owed) (l .k) _ (c .owes .ensures .0) (omega arith) (c .before .before .before .put-next .ensures .1) (l .inv .1),
       omega arith,
       omega arith,
@@ -95,8 +95,9 @@ loop-less-2 c = search needs
 loop-again-2 : tie.Need-loop-again-2 Inv-loop μ-loop
 loop-again-2 c =
     let a = c .before .before .before .before .before .before .before .before .before .before .before .before .before .before .args in
-    let l = c .before .before .before .before .before .before .before .before .before .before .before .before .loop in (
-      again-opens (a .cs .now) (a .gs .now) (l .owed) (l .lack) (l .i) (l .k) _ _ (c .before .before .before .before .before .before .before .before .nat-at .ensures) (c .before .before .before .before .before .before .before .nat-at2 .ensures) (l .inv .0) (c .before .before .before .before .before .before .before .before .before .before .before .loop-test .taken) (omega arith) (c .before .before .before .before .before .before .before .before .before .if2 .left) (c .before .before .before .before .before .put-next2 .ensures .0) (c .before .before .owes2 .ensures .0) (c .less-one .ensures ∙ ap (λ (z : ℕ). z - 1) (c .before .widened .ensures .0)),
+    let l = c .before .before .before .before .before .before .before .before .before .before .before .before .loop in
+    let d = c .less-one .ensures ∙ ap (λ (z : ℕ). z - 1) (c .before .widened .ensures .0) in (
+      entry-stored _ _ _ (rest-opens (a .cs .now) (a .gs .now) (l .owed) (l .lack) (l .i) (l .k) (c .before .before .before .before .before .before .before .before .nat-at .ensures) (c .before .before .before .before .before .before .before .nat-at2 .ensures) d (c .before .before .before .before .before .before .before .before .before .before .before .loop-test .taken) (omega arith) (c .before .before .before .before .before .before .before .before .before .if2 .left)) (l .inv .0) (c .before .before .before .before .before .put-next2 .ensures .0) (c .before .before .owes2 .ensures .0),
       owes-bound (l .at) _ (l .owed) (l .k) _ (c .before .before .owes2 .ensures .0) (omega arith) (c .before .before .before .before .before .put-next2 .ensures .1) (l .inv .1),
       omega arith,
       omega arith,
