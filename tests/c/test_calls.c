@@ -57,8 +57,9 @@ static output new_output(size_t size) {
     o.before = malloc(size + 2 * GUARD);
     if (!o.all || !o.before)
         abort();
+    uint32_t seed = random_below(256);
     for (size_t i = 0; i < size + 2 * GUARD; i++)
-        o.all[i] = (uint8_t)random_below(256);
+        o.all[i] = (uint8_t)(seed + 7 * i);
     memcpy(o.before, o.all, size + 2 * GUARD);
     o.bytes = o.all + GUARD;
     return o;
@@ -186,10 +187,11 @@ static glyph_label_writing write_into(const char *what, const run *r, size_t t, 
     return w;
 }
 
-/* A run from any hand: it is written, and read back as it was; or it is refused with 19, by the picks too. */
+/* A run from any hand: it is written, and read back as it was; or it is refused with 19, by the picks too. A sound one has at most 3 bytes of text
+ * a unit, and 57 of indices a glyph. */
 static int try_run(const char *what, const run *r) {
     uint8_t *text, *indices;
-    glyph_label_writing w = write_into(what, r, 16384, 262144, &text, &indices);
+    glyph_label_writing w = write_into(what, r, 2 * r->units_len + 2, 4 * r->glyphs_len, &text, &indices);
     glyph_label_stretch to_units = glyph_label_units_of(RUN(*r), 0, 1), to_glyphs = glyph_label_glyphs_of(RUN(*r), 0, 1);
     if (w.number != 0) {
         check(is_writing(w, 19, 0, 0, 0), "%s: refused with %u %u", what, w.number, w.place);
@@ -392,7 +394,7 @@ static run read_run(const char *text, const char *indices) {
 }
 
 static void test_picks(void) {
-    static const char *const labels[][2] = {{"ABCDEFG\xF0\x9F\x98\x80H", "1;(2:3)2;3;4;;(1:2)5;6;(2)7;8;(2:2)9;10"}, {"", "5;6;7"}, {"A", "5"}};
+    static const char *const labels[][2] = {{"ABCDEFG\xF0\x9F\x98\x80HI", "1;(2:3)2;3;4;;(1:2)5;6;(2)7;(2)8;(2:2)9;10"}, {"", "5;6;7"}, {"A", "5"}};
     for (size_t k = 0; k < 3; k++) {
         run r = read_run(labels[k][0], labels[k][1]);
         size_t n = r.glyphs_len / 16 + 2;
@@ -509,15 +511,16 @@ static run random_run(void) {
     return r;
 }
 
-/* A run whose bytes, and sizes, are any. */
+/* A run from random bytes, many of them 0, of sizes that need not be whole. */
 static run wild_run(void) {
-    run r = new_run(random_below(7), random_below(20), random_below(36));
+    size_t n = 1 + random_below(3), more = random_below(3) ? 0 : 1;
+    run r = new_run(2 * n + more * random_below(4), 8 * n + more * random_below(9), 16 * n + more * random_below(17));
     for (size_t k = 0; k < r.units_len; k++)
-        r.units[k] = (uint8_t)(random_below(2) ? random_below(256) : 0);
+        r.units[k] = (uint8_t)(random_below(20) == 0 ? random_below(256) : k % 2 == 0 ? 0x20 + random_below(90) : 0);
     for (size_t k = 0; k < r.clusters_len; k++)
-        r.clusters[k] = (uint8_t)(random_below(9) == 0 ? random_below(256) : k % 4 == 0);
+        r.clusters[k] = (uint8_t)(random_below(60) == 0 ? random_below(256) : k % 4 == 0);
     for (size_t k = 0; k < r.glyphs_len; k++)
-        r.glyphs[k] = (uint8_t)(random_below(9) == 0 ? random_below(256) : 0);
+        r.glyphs[k] = (uint8_t)(random_below(3) == 0 && k % 4 != 3 ? random_below(256) : 0);
     return r;
 }
 
@@ -545,7 +548,7 @@ static int random_label(void) {
 }
 
 int main(int argc, char **argv) {
-    unsigned long rounds = argc < 2 ? 20000 : strtoul(argv[1], NULL, 10), written = 0, wild = 0, accepted = 0;
+    unsigned long rounds = argc < 2 ? 200000 : strtoul(argv[1], NULL, 10), written = 0, wild = 0, accepted = 0;
     for (size_t k = 0; k < sizeof rows / sizeof rows[0]; k++)
         test_row(&rows[k]);
     test_null();
@@ -563,7 +566,7 @@ int main(int argc, char **argv) {
         free_run(&r);
         free_run(&w);
     }
-    check(written > 0 && written < rounds && accepted > 0 && accepted < rounds, "random cases of both kinds");
+    check(written > 0 && written < rounds && accepted > 0 && accepted < rounds, "random labels and runs, good and bad");
     printf("%lu checks, %lu failed; of %lu random runs %lu were sound, of as many from random bytes %lu, of as many labels %lu were accepted\n",
            checks, failures, rounds, written, wild, accepted);
     return failures != 0;

@@ -177,9 +177,10 @@ written-short : (us : List ℕ) (cs gs : List ℤ) → sound us cs gs ≡ true
     → (length (normal (runOf us cs gs) .text) ≤ 16384) × (length (normal (runOf us cs gs) .indices) ≤ 262144)
 unfolding sound
 written-short us cs gs h =
-    let s : SoundRun (runOf us cs gs) = sound-parts (runOf us cs gs) (and-r (wholeClusters cs && wholeGlyphs gs) (soundRun (runOf us cs gs)) h) in
-    (text-back us (s .proper) .short (s .few-units),
-    indices-back (empty us) us (clustersOf cs) (glyphsOf gs) (proper-first us (s .proper)) (s .few-units) (s .few-glyphs) (s .fit) .short)
+    let s : SoundRun (runOf us cs gs) = sound-parts (runOf us cs gs) (and-r (wholeClusters cs && wholeGlyphs gs) (soundRun (runOf us cs gs)) h) in (
+      text-back us (s .proper) .short (s .few-units),
+      indices-back (empty us) us (clustersOf cs) (glyphsOf gs) (proper-first us (s .proper)) (s .few-units) (s .few-glyphs) (s .fit) .short,
+    )
 
 pub writing-fits : (t i : ℕ) (us cs gs : List ℕ) → WritingFits (lengths (writeBytes t i us cs gs))
 unfolding writeBytes writeInto write

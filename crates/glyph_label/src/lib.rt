@@ -240,7 +240,15 @@ fn fill_small(
     let mut cs = [0i32; 64];
     let mut gs = [0i32; 128];
     fill_through(
-        text, indices, n, &mut us, &mut cs, &mut gs, units, clusters, glyphs,
+        text,
+        indices,
+        n,
+        &mut us,
+        &mut cs,
+        &mut gs,
+        units,
+        clusters,
+        glyphs,
     );
 }
 
@@ -260,7 +268,15 @@ fn fill_medium(
     let mut cs = [0i32; 1024];
     let mut gs = [0i32; 2048];
     fill_through(
-        text, indices, n, &mut us, &mut cs, &mut gs, units, clusters, glyphs,
+        text,
+        indices,
+        n,
+        &mut us,
+        &mut cs,
+        &mut gs,
+        units,
+        clusters,
+        glyphs,
     );
 }
 
@@ -280,7 +296,15 @@ fn fill_large(
     let mut cs = [0i32; 8192];
     let mut gs = [0i32; 16384];
     fill_through(
-        text, indices, n, &mut us, &mut cs, &mut gs, units, clusters, glyphs,
+        text,
+        indices,
+        n,
+        &mut us,
+        &mut cs,
+        &mut gs,
+        units,
+        clusters,
+        glyphs,
     );
 }
 
@@ -405,7 +429,14 @@ fn write_small(
     let mut cs = [0i32; 64];
     let mut gs = [0i32; 128];
     write_through(
-        units, clusters, glyphs, &mut us, &mut cs, &mut gs, text, indices,
+        units,
+        clusters,
+        glyphs,
+        &mut us,
+        &mut cs,
+        &mut gs,
+        text,
+        indices,
     )
 }
 
@@ -424,7 +455,14 @@ fn write_medium(
     let mut cs = [0i32; 1024];
     let mut gs = [0i32; 2048];
     write_through(
-        units, clusters, glyphs, &mut us, &mut cs, &mut gs, text, indices,
+        units,
+        clusters,
+        glyphs,
+        &mut us,
+        &mut cs,
+        &mut gs,
+        text,
+        indices,
     )
 }
 
@@ -443,7 +481,14 @@ fn write_large(
     let mut cs = [0i32; 8192];
     let mut gs = [0i32; 16384];
     write_through(
-        units, clusters, glyphs, &mut us, &mut cs, &mut gs, text, indices,
+        units,
+        clusters,
+        glyphs,
+        &mut us,
+        &mut cs,
+        &mut gs,
+        text,
+        indices,
     )
 }
 
@@ -542,7 +587,15 @@ fn pick_small(
     let mut cs = [0i32; 64];
     let mut gs = [0i32; 128];
     pick_through(
-        units, clusters, glyphs, &mut us, &mut cs, &mut gs, turn, first, end,
+        units,
+        clusters,
+        glyphs,
+        &mut us,
+        &mut cs,
+        &mut gs,
+        turn,
+        first,
+        end,
     )
 }
 
@@ -562,7 +615,15 @@ fn pick_medium(
     let mut cs = [0i32; 1024];
     let mut gs = [0i32; 2048];
     pick_through(
-        units, clusters, glyphs, &mut us, &mut cs, &mut gs, turn, first, end,
+        units,
+        clusters,
+        glyphs,
+        &mut us,
+        &mut cs,
+        &mut gs,
+        turn,
+        first,
+        end,
     )
 }
 
@@ -582,7 +643,15 @@ fn pick_large(
     let mut cs = [0i32; 8192];
     let mut gs = [0i32; 16384];
     pick_through(
-        units, clusters, glyphs, &mut us, &mut cs, &mut gs, turn, first, end,
+        units,
+        clusters,
+        glyphs,
+        &mut us,
+        &mut cs,
+        &mut gs,
+        turn,
+        first,
+        end,
     )
 }
 
