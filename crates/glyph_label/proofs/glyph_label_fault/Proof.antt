@@ -3,20 +3,13 @@ use mathlib.Core.Path.{ap, _∙_}
 use borrow.Author.Needs.{needs}
 use Rattle.glyph_label.proofs.glyph_label_fault.Statement.{statement}
 use Rattle.glyph_label.proofs.glyph_label_fault.Tie as tie
-use Rattle.glyph_label.proofs.glyph_label_fault.Reads as reads
-use Rattle.glyph_label.proofs.glyph_label_fault.Lts as lts
-use Rattle.glyph_label.proofs.part_answer.Reads as part-answer-reads
-use Rattle.reader.proofs.find_part.Reads as find-part-reads
 
--- src/lib.rt:640:17
 find-part-requires : tie.Need-find-part-requires
 find-part-requires c κs = ?
 
--- src/lib.rt:640:5
 part-answer-requires : tie.Need-part-answer-requires
 part-answer-requires c κs = search needs
 
--- src/lib.rt:631:1
 returns : tie.Need-returns
 returns c = c .part-answer .ensures ∙ ap partAnswer (c .before .find-part .ensures)
 

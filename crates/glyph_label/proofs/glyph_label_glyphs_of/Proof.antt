@@ -6,20 +6,15 @@ use mathlib.Core.Path.{sym, ap, subst, _∙_}
 use borrow.Author.Needs.{needs}
 use Rattle.glyph_label.proofs.glyph_label_glyphs_of.Statement.{statement}
 use Rattle.glyph_label.proofs.glyph_label_glyphs_of.Tie as tie
-use Rattle.glyph_label.proofs.glyph_label_glyphs_of.Reads as reads
-use Rattle.glyph_label.proofs.glyph_label_glyphs_of.Lts as lts
-use Rattle.glyph_label.proofs.pick_bytes.Reads as pick-bytes-reads
-use Rattle.glyph_label.proofs.stretch_answer.Reads as stretch-answer-reads
 
--- src/lib.rt:625:20
 pick-bytes-requires : tie.Need-pick-bytes-requires
 pick-bytes-requires c κs = search needs
 
--- src/lib.rt:625:5
 stretch-answer-requires : tie.Need-stretch-answer-requires
-stretch-answer-requires c κs = subst StretchFits (sym (c .pick-bytes .ensures)) (stretch-fits true (c .before .before .before .before .args .units .now) (c .before .before .before .before .args .clusters .now) (c .before .before .before .before .args .glyphs .now) (c .before .before .before .before .args .first) (c .before .before .before .before .args .end))
+stretch-answer-requires c κs =
+    let a = c .before .before .before .before .args in
+    subst StretchFits (sym (c .pick-bytes .ensures)) (stretch-fits true (a .units .now) (a .clusters .now) (a .glyphs .now) (a .first) (a .end))
 
--- src/lib.rt:615:1
 returns : tie.Need-returns
 returns c = c .stretch-answer .ensures ∙ ap stretchAnswer (c .before .pick-bytes .ensures)
 

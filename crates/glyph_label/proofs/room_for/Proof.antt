@@ -3,35 +3,25 @@ use mathlib.Core.Path.{sym, _∙_}
 use borrow.Author.Needs.{needs}
 use Rattle.glyph_label.proofs.room_for.Statement.{statement}
 use Rattle.glyph_label.proofs.room_for.Tie as tie
-use Rattle.glyph_label.proofs.room_for.Reads as reads
-use Rattle.glyph_label.proofs.room_for.Lts as lts
-use Rattle.glyph_label.proofs.is_within.Reads as is-within-reads
 
--- src/lib.rt:154:8
 is-within-requires : tie.Need-is-within-requires
 is-within-requires c κs = search needs
 
--- src/lib.rt:155:9
 returns : tie.Need-returns
 returns c = holds 32 _ _ _ (sym (c .before .is-within .ensures) ∙ c .if1 .taken)
 
--- src/lib.rt:157:8
 is-within-requires-2 : tie.Need-is-within-requires-2
 is-within-requires-2 c κs = search needs
 
--- src/lib.rt:158:9
 returns-2 : tie.Need-returns-2
 returns-2 c = holds 512 _ _ _ (sym (c .before .is-within2 .ensures) ∙ c .if2 .taken)
 
--- src/lib.rt:160:8
 is-within-requires-3 : tie.Need-is-within-requires-3
 is-within-requires-3 c κs = search needs
 
--- src/lib.rt:161:9
 returns-3 : tie.Need-returns-3
 returns-3 c = holds 4096 _ _ _ (sym (c .before .is-within3 .ensures) ∙ c .if3 .taken)
 
--- src/lib.rt:151:1
 returns-4 : tie.Need-returns-4
 returns-4 c = sym (c .before .is-within3 .ensures) ∙ c .if3 .left
 

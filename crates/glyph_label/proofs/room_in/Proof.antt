@@ -4,24 +4,16 @@ use mathlib.Core.Path.{sym, _∙_}
 use borrow.Author.Needs.{needs}
 use Rattle.glyph_label.proofs.room_in.Statement.{statement}
 use Rattle.glyph_label.proofs.room_in.Tie as tie
-use Rattle.glyph_label.proofs.room_in.Reads as reads
-use Rattle.glyph_label.proofs.room_in.Lts as lts
-use Rattle.glyph_label.proofs.room_for.Reads as room-for-reads
-use Rattle.glyph_label.proofs.whole_bytes.Reads as whole-bytes-reads
 
--- src/lib.rt:178:9
 whole-bytes-requires : tie.Need-whole-bytes-requires
 whole-bytes-requires c κs = search needs
 
--- src/lib.rt:179:9
 returns : tie.Need-returns
 returns c = rw (sym (c .before .whole-bytes .ensures) ∙ not-true _ (c .if1 .taken))
 
--- src/lib.rt:181:5
 room-for-requires : tie.Need-room-for-requires
 room-for-requires c κs = search needs
 
--- src/lib.rt:175:1
 returns-2 : tie.Need-returns-2
 returns-2 c = in-room (c .before .before .before .args .units) (c .before .before .before .args .clusters) (c .before .before .before .args .glyphs) (c .room-for .result) (sym (c .before .before .whole-bytes .ensures) ∙ not-false _ (c .before .if1 .left)) (c .room-for .ensures)
 

@@ -7,38 +7,28 @@ use native.Mathlib.Omega.{arith}
 use borrow.Author.Needs.{needs}
 use Rattle.glyph_label.proofs.stretch_answer.Statement.{statement}
 use Rattle.glyph_label.proofs.stretch_answer.Tie as tie
-use Rattle.glyph_label.proofs.stretch_answer.Reads as reads
-use Rattle.glyph_label.proofs.stretch_answer.Lts as lts
 
--- src/lib.rt:100:29
 enum-known-r : tie.Need-enum-known-r
 enum-known-r c = search needs
 
--- src/lib.rt:103:20
 cast-t5 : tie.Need-cast-t5
 cast-t5 c = omega (arith, subst (λ (a : Pick). StretchFits (pickOutcome a)) (c .before .before .r .given .1) (c .before .before .before .before .pre))
 
--- src/lib.rt:104:18
 cast-t6 : tie.Need-cast-t6
 cast-t6 c = omega (arith, subst (λ (a : Pick). StretchFits (pickOutcome a)) (c .before .before .before .r .given .1) (c .before .before .before .before .before .pre))
 
--- src/lib.rt:106:30
 enum-known-r-2 : tie.Need-enum-known-r-2
 enum-known-r-2 c = search needs
 
--- src/lib.rt:107:21
 cast-t7 : tie.Need-cast-t7
 cast-t7 c = omega (arith, subst (λ (a : Pick). StretchFits (pickOutcome a)) (c .before .before .r2 .given .1) (c .before .before .before .before .pre))
 
--- src/lib.rt:108:20
 cast-t8 : tie.Need-cast-t8
 cast-t8 c = omega (arith, subst (λ (a : Pick). StretchFits (pickOutcome a)) (c .before .before .before .r2 .given .1) (c .before .before .before .before .before .pre))
 
--- src/lib.rt:95:1
 returns : tie.Need-returns
 returns c = sym (ap (λ (a : Pick). stretchAnswer (pickOutcome a)) (c .before .before .before .r .given .1))
 
--- src/lib.rt:95:1
 returns-2 : tie.Need-returns-2
 returns-2 c = sym (ap (λ (a : Pick). stretchAnswer (pickOutcome a)) (c .before .before .before .r2 .given .1))
 

@@ -2,39 +2,28 @@ use Rattle.words.specs.Words.{halfAt}
 use borrow.Author.Needs.{needs}
 use Rattle.words.proofs.get_u16.Statement.{statement}
 use Rattle.words.proofs.get_u16.Tie as tie
-use Rattle.words.proofs.get_u16.Reads as reads
-use Rattle.words.proofs.get_u16.Lts as lts
-use Rattle.words.proofs.half.Reads as half-reads
 
--- src/lib.rt:175:18
 shared-slice-read-half : tie.Need-shared-slice-read-half
 shared-slice-read-half c = search needs
 
--- src/lib.rt:175:9
 half-requires : tie.Need-half-requires
 half-requires c κs = search needs
 
--- src/lib.rt:176:22
 add-half : tie.Need-add-half
 add-half c = search needs
 
--- src/lib.rt:176:18
 shared-slice-read-half-2 : tie.Need-shared-slice-read-half-2
 shared-slice-read-half-2 c = search needs
 
--- src/lib.rt:176:9
 half-requires-2 : tie.Need-half-requires-2
 half-requires-2 c κs = search needs
 
--- src/lib.rt:177:9
 mul-result : tie.Need-mul-result
 mul-result c = search needs
 
--- src/lib.rt:177:5
 add-result : tie.Need-add-result
 add-result c = search needs
 
--- src/lib.rt:171:1
 returns : tie.Need-returns
 unfolding halfAt
 returns c = rw (c .before .before .half .ensures .0, c .half2 .ensures .0)

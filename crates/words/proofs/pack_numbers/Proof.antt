@@ -9,9 +9,6 @@ use native.Mathlib.Omega.{arith}
 use borrow.Author.Needs.{needs}
 use Rattle.words.proofs.pack_numbers.Statement.{statement}
 use Rattle.words.proofs.pack_numbers.Tie as tie
-use Rattle.words.proofs.pack_numbers.Reads as reads
-use Rattle.words.proofs.pack_numbers.Lts as lts
-use Rattle.words.proofs.put_i32.Reads as put-i32-reads
 
 abbrev Inv-loop : tie.InvT-loop
 Inv-loop src out₀ i₀ out i = Left out₀ (fromWords src) out 0 (4 * i) (fromWords (drop i src)) × (i ≤ length src)
@@ -19,43 +16,33 @@ Inv-loop src out₀ i₀ out i = Left out₀ (fromWords src) out 0 (4 * i) (from
 abbrev μ-loop : tie.MeasureT-loop
 μ-loop src out₀ i₀ out i = length src - i
 
--- src/lib.rt:199:5
 loop-holds : tie.Need-loop-holds Inv-loop μ-loop
 loop-holds c = (left-start, search needs)
 
--- src/lib.rt:200:17
 mul-v : tie.Need-mul-v Inv-loop μ-loop
 mul-v c = search needs
 
--- src/lib.rt:200:17
 shared-slice-copy-out-v : tie.Need-shared-slice-copy-out-v Inv-loop μ-loop
 shared-slice-copy-out-v c = search needs
 
--- src/lib.rt:201:18
 mul-at : tie.Need-mul-at Inv-loop μ-loop
 mul-at c = search needs
 
--- src/lib.rt:202:9
 put-i32-requires : tie.Need-put-i32-requires Inv-loop μ-loop
 put-i32-requires c κs = omega (arith, c .before .before .before .loop .inv .0 .same)
 
--- src/lib.rt:203:9
 add-i : tie.Need-add-i Inv-loop μ-loop
 add-i c = search needs
 
--- src/lib.rt:199:5
 loop-less : tie.Need-loop-less Inv-loop μ-loop
 loop-less c = search needs
 
--- src/lib.rt:199:5
 loop-again : tie.Need-loop-again Inv-loop μ-loop
 loop-again c = (rw (c .before .before .put-i32 .ensures) (numbers-packed _ _ (c .before .before .before .before .before .before .loop .inv .0) (c .before .before .before .before .before .loop-test .taken) (c .before .before .before .before .v .given) (back (getD (c .before .before .before .before .before .before .before .before .args .src .now) (c .before .before .before .before .before .before .loop .i) (pos 0)) (c .before .before .before .before .v .given))), omega arith)
 
--- src/lib.rt:194:1
 same-length : tie.Need-same-length Inv-loop μ-loop
 same-length c = c .before .loop .inv .0 .same
 
--- src/lib.rt:194:1
 returns : tie.Need-returns Inv-loop μ-loop
 returns c = numbers-all _ _ (c .before .loop .inv .0) (c .loop-test .left) (c .before .before .before .pre)
 

@@ -7,9 +7,6 @@ use native.Mathlib.Omega.{arith}
 use borrow.Author.Needs.{needs}
 use Rattle.words.proofs.pack_units.Statement.{statement}
 use Rattle.words.proofs.pack_units.Tie as tie
-use Rattle.words.proofs.pack_units.Reads as reads
-use Rattle.words.proofs.pack_units.Lts as lts
-use Rattle.words.proofs.put_u16.Reads as put-u16-reads
 
 abbrev Inv-loop : tie.InvT-loop
 Inv-loop src out₀ i₀ out i = Left out₀ (fromHalves src) out 0 (2 * i) (fromHalves (drop i src)) × (i ≤ length src)
@@ -17,43 +14,33 @@ Inv-loop src out₀ i₀ out i = Left out₀ (fromHalves src) out 0 (2 * i) (fro
 abbrev μ-loop : tie.MeasureT-loop
 μ-loop src out₀ i₀ out i = length src - i
 
--- src/lib.rt:187:5
 loop-holds : tie.Need-loop-holds Inv-loop μ-loop
 loop-holds c = (left-start, search needs)
 
--- src/lib.rt:188:18
 mul-at : tie.Need-mul-at Inv-loop μ-loop
 mul-at c = search needs
 
--- src/lib.rt:189:26
 mul-put-u16 : tie.Need-mul-put-u16 Inv-loop μ-loop
 mul-put-u16 c = search needs
 
--- src/lib.rt:189:26
 shared-slice-read-put-u16 : tie.Need-shared-slice-read-put-u16 Inv-loop μ-loop
 shared-slice-read-put-u16 c = search needs
 
--- src/lib.rt:189:9
 put-u16-requires : tie.Need-put-u16-requires Inv-loop μ-loop
 put-u16-requires c κs = omega (arith, c .before .before .before .loop .inv .0 .same)
 
--- src/lib.rt:190:9
 add-i : tie.Need-add-i Inv-loop μ-loop
 add-i c = search needs
 
--- src/lib.rt:187:5
 loop-less : tie.Need-loop-less Inv-loop μ-loop
 loop-less c = search needs
 
--- src/lib.rt:187:5
 loop-again : tie.Need-loop-again Inv-loop μ-loop
 loop-again c = (rw (c .before .before .put-u16 .ensures) (units-packed _ _ (c .before .before .before .before .before .before .loop .inv .0) (c .before .before .before .before .before .loop-test .taken)), omega arith)
 
--- src/lib.rt:182:1
 same-length : tie.Need-same-length Inv-loop μ-loop
 same-length c = c .before .loop .inv .0 .same
 
--- src/lib.rt:182:1
 returns : tie.Need-returns Inv-loop μ-loop
 returns c = units-all _ _ (c .before .loop .inv .0) (c .loop-test .left) (c .before .before .before .before .pre)
 

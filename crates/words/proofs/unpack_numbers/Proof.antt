@@ -8,9 +8,6 @@ use native.Mathlib.Omega.{arith}
 use borrow.Author.Needs.{needs}
 use Rattle.words.proofs.unpack_numbers.Statement.{statement}
 use Rattle.words.proofs.unpack_numbers.Tie as tie
-use Rattle.words.proofs.unpack_numbers.Reads as reads
-use Rattle.words.proofs.unpack_numbers.Lts as lts
-use Rattle.words.proofs.get_i32.Reads as get-i32-reads
 
 abbrev Inv-loop : tie.InvT-loop
 Inv-loop src out₀ k₀ i₀ out k i = Laid out₀ (words src) out i (words (drop k src)) × (k ≤ length src) × (i + (length src - k) / 4 ≡ length src / 4)
@@ -18,47 +15,36 @@ Inv-loop src out₀ k₀ i₀ out k i = Laid out₀ (words src) out i (words (dr
 abbrev μ-loop : tie.MeasureT-loop
 μ-loop src out₀ k₀ i₀ out k i = length src - k
 
--- src/lib.rt:227:5
 loop-holds : tie.Need-loop-holds Inv-loop μ-loop
 loop-holds c = (laid-start, search needs, omega arith)
 
--- src/lib.rt:227:16
 sub-loop : tie.Need-sub-loop Inv-loop μ-loop
 sub-loop c = search needs
 
--- src/lib.rt:228:13
 get-i32-requires : tie.Need-get-i32-requires Inv-loop μ-loop
 get-i32-requires c κs = search needs
 
--- src/lib.rt:229:9
 mul-v : tie.Need-mul-v Inv-loop μ-loop
 mul-v c = search needs
 
--- src/lib.rt:229:9
 slice-set-from-v : tie.Need-slice-set-from-v Inv-loop μ-loop
 slice-set-from-v c = search needs
 
--- src/lib.rt:230:9
 add-k : tie.Need-add-k Inv-loop μ-loop
 add-k c = search needs
 
--- src/lib.rt:231:9
 add-i : tie.Need-add-i Inv-loop μ-loop
 add-i c = search needs
 
--- src/lib.rt:227:5
 loop-less : tie.Need-loop-less Inv-loop μ-loop
 loop-less c = search needs
 
--- src/lib.rt:227:5
 loop-again : tie.Need-loop-again Inv-loop μ-loop
 loop-again c = (laid-next _ _ (c .before .before .loop .inv .0) (words-at (c .before .before .before .before .args .src .now) (c .before .before .loop .k) (c .before .loop-test .taken) (back (c .get-i32 .result) (c .get-i32 .ok) ∙ c .get-i32 .ensures)), omega arith, omega arith)
 
--- src/lib.rt:221:1
 same-length : tie.Need-same-length Inv-loop μ-loop
 same-length c = c .before .loop .inv .0 .same
 
--- src/lib.rt:221:1
 returns : tie.Need-returns Inv-loop μ-loop
 returns c = laid-end (c .before .loop .inv .0) (words-end (c .before .before .before .args .src .now) (c .before .loop .k) (c .loop-test .left)) (omega (arith, words-length (c .before .before .before .args .src .now)))
 

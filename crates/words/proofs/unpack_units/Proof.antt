@@ -7,9 +7,6 @@ use native.Mathlib.Omega.{arith}
 use borrow.Author.Needs.{needs}
 use Rattle.words.proofs.unpack_units.Statement.{statement}
 use Rattle.words.proofs.unpack_units.Tie as tie
-use Rattle.words.proofs.unpack_units.Reads as reads
-use Rattle.words.proofs.unpack_units.Lts as lts
-use Rattle.words.proofs.get_u16.Reads as get-u16-reads
 
 abbrev Inv-loop : tie.InvT-loop
 Inv-loop src out₀ k₀ i₀ out k i = Laid out₀ (halves src) out i (halves (drop k src)) × (k ≤ length src) × (i + (length src - k) / 2 ≡ length src / 2)
@@ -17,47 +14,36 @@ Inv-loop src out₀ k₀ i₀ out k i = Laid out₀ (halves src) out i (halves (
 abbrev μ-loop : tie.MeasureT-loop
 μ-loop src out₀ k₀ i₀ out k i = length src - k
 
--- src/lib.rt:213:5
 loop-holds : tie.Need-loop-holds Inv-loop μ-loop
 loop-holds c = (laid-start, search needs, omega arith)
 
--- src/lib.rt:213:16
 sub-loop : tie.Need-sub-loop Inv-loop μ-loop
 sub-loop c = search needs
 
--- src/lib.rt:214:13
 get-u16-requires : tie.Need-get-u16-requires Inv-loop μ-loop
 get-u16-requires c κs = search needs
 
--- src/lib.rt:215:9
 mul-out : tie.Need-mul-out Inv-loop μ-loop
 mul-out c = search needs
 
--- src/lib.rt:215:9
 slice-write-out : tie.Need-slice-write-out Inv-loop μ-loop
 slice-write-out c = search needs
 
--- src/lib.rt:216:9
 add-k : tie.Need-add-k Inv-loop μ-loop
 add-k c = search needs
 
--- src/lib.rt:217:9
 add-i : tie.Need-add-i Inv-loop μ-loop
 add-i c = search needs
 
--- src/lib.rt:213:5
 loop-less : tie.Need-loop-less Inv-loop μ-loop
 loop-less c = search needs
 
--- src/lib.rt:213:5
 loop-again : tie.Need-loop-again Inv-loop μ-loop
 loop-again c = (laid-next _ _ (c .before .before .loop .inv .0) (halves-at (c .before .before .before .before .before .args .src .now) (c .before .before .loop .k) (c .before .loop-test .taken) (c .get-u16 .ensures)), omega arith, omega arith)
 
--- src/lib.rt:207:1
 same-length : tie.Need-same-length Inv-loop μ-loop
 same-length c = c .before .loop .inv .0 .same
 
--- src/lib.rt:207:1
 returns : tie.Need-returns Inv-loop μ-loop
 returns c = laid-end (c .before .loop .inv .0) (halves-end (c .before .before .before .before .args .src .now) (c .before .loop .k) (c .loop-test .left)) (omega (arith, halves-length (c .before .before .before .before .args .src .now)))
 
