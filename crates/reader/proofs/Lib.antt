@@ -1,0 +1,5 @@
+pub mod Entries
+pub mod Placing
+pub mod Walking
+pub mod Endings
+pub mod Stores
