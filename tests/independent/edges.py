@@ -66,15 +66,17 @@ def slips():
 def size_edges():
     """1, with what would be refused later."""
     for size in (16383, 16384, 16385, 20000):
-        for text in (b'A' * size, (b'{}' + b'A' * size)[:size], b'{' + b'A' * (size - 1), b'A' * (size - 1) + b'\xff', b'\1' * size):
+        for text in (b'A' * size, (b'{}' + b'A' * size)[:size], b'{' + b'A' * (size - 1), b'A' * (size - 1) + b'\xff',
+                     b'\1' * size):
             yield text, b'5'
     for size in (262143, 262144, 262145):
         many = (b'5;' * size)[:size]
         for text in (b'', b'{}', b'\xff', b'\0', b'{A', b'AB', GRIN.encode()):
             yield text, many
-        for first, filler, last in ((b'', b'0', b'5'), (b'', b'9', b''), (b'', b';', b''), (b'5,', b'0', b''), (b'5,1e', b'0', b''),
-                                    (b'(', b'9', b')5'), (b'(1:', b'9', b')5'), (b'(', b'0', b'1)5'), (b'5,.', b'1', b''), (b'', b'(', b''),
-                                    (b'', b',', b'')):
+        for first, filler, last in (
+                (b'', b'0', b'5'), (b'', b'9', b''), (b'', b';', b''), (b'5,', b'0', b''), (b'5,1e', b'0', b''),
+                (b'(', b'9', b')5'), (b'(1:', b'9', b')5'), (b'(', b'0', b'1)5'), (b'5,.', b'1', b''), (b'', b'(', b''),
+                (b'', b',', b'')):
             yield b'A', first + filler * (size - len(first + last)) + last
         yield b'', many[:-1] + b'x'
 
@@ -117,6 +119,8 @@ def count_edges():
         yield b'AB', b'(1:%d)5' % count + b';6' * (count - 1) + b';x'
         yield b'A' * 10, b'(1:%d)5' % (count - 9) + b';6' * (count - 10)        # `count` glyphs with the tail
     yield b'A' * 4096, b';'.join([b'5'] * 5000)
+    yield b'A', b'(1:5000)5' + b';6' * 4500                                     # 14 before 15
+    yield b'AB' + GRIN.encode(), b'(1:4500)5' + b';6' * 4499                    # 13 in the tail before 15
     yield b'', b';'.join([b'5'] * 5000 + [b'x'])
     for text in (b'', b'{}'):
         yield text, b''
@@ -127,8 +131,9 @@ def entry_edges():
     """7 to 14: each good and bad entry in several surroundings, counts of any size, pairs."""
     for entry in BAD_ENTRIES + GOOD_ENTRIES:
         for text, before, after in (
-                ('A', '', ''), ('ABCDE', '5;', ''), ('ABCDE', '', ';5'), ('AB', '(1:2)5;', ''), ('ABC', '(1:3)5;', ';6'), ('', '', ''),
-                ('', '5;', ';6'), (GRIN, '', ''), ('A' + GRIN, '5;', ''), (GRIN + 'A', '(2)9;', ''), ('A', '5;', ''), ('AB', '(2:2)5,1;', ';x')):
+                ('A', '', ''), ('A', '5;', ''), ('ABCDE', '5;', ''), ('ABCDE', '', ';5'), ('AB', '(1:2)5;', ''),
+                ('ABC', '(1:3)5;', ';6'), ('AB', '(2:2)5,1;', ';x'), ('', '', ''), ('', '5;', ';6'), (GRIN, '', ''),
+                ('A' + GRIN, '5;', ''), (GRIN + 'A', '(2)9;', '')):
             yield text.encode(), before.encode() + entry + after.encode()
     for number in range(65520, 65550):
         yield b'A', b'%d' % number
@@ -147,21 +152,22 @@ def number_edges():
     """9: digit counts, exponents and sizes from both sides of the limits, in each field."""
     numbers = []
     for e in range(-99, 100):
-        numbers += [f'{digits}e{e}' for digits in ('1', '5', '0', '.5', '9' * 18, '0' * 17 + '1', '.' + '0' * 17 + '1', '4' + '9' * 17,
-                                                   '123456789.123456789')]
-        for m in ('1', '5', '4', '15', '999999999', '1000000000', '1000000001', '4999999999', '9999999994', '9999999995', '10000000004',
-                  '10000000005', '100000000000000000'):
+        for digits in ('1', '5', '0', '.5', '9' * 18, '0' * 17 + '1', '.' + '0' * 17 + '1', '4' + '9' * 17, '123456789.123456789'):
+            numbers.append(f'{digits}e{e}')
+        for m in '''1 5 4 15 999999999 1000000000 1000000001 4999999999 9999999994 9999999995 10000000004 10000000005
+                    100000000000000000'''.split():
             if abs(len(m) + e - 7) <= 8:
                 numbers.append(f'{m}E{e:+03d}')
     for k in range(20):
         z = '0' * k
-        numbers += [z + digits for digits in '''1 1000000 1000000.0004 1000000.0005 1000000.00049999999 1000000.00050000000 999999.9995
-                                                .0005 .0004 1e06'''.split()]
+        for digits in '''1 1000000 1000000.0004 1000000.0005 1000000.00049999999 1000000.00050000000 999999.9995 .0005 .0004
+                         1e06'''.split():
+            numbers.append(z + digits)
         numbers += [f'1{z}', f'1.{z}5', f'.{z}5', f'.{z}5e20', f'1e{z}6', f'1{z}e{6 - k}', f'1{z}5e{5 - k}', f'.{z}1e{7 + k}',
                     f'.{z}10000000004e{7 + k}', f'.{z}10000000005e{7 + k}']
     nine = '9' * 9
-    numbers += f'''{nine * 2} {nine * 2}9 .{nine * 2} .{nine * 2}9 {nine}.{nine} {nine}.{nine}9 1e-99 1e-100 1e99 1e100 0e99 0e100 0e099
-                   .000e+99 1e+06 1e+006'''.split()
+    numbers += f'''{nine * 2} {nine * 2}9 .{nine * 2} .{nine * 2}9 {nine}.{nine} {nine}.{nine}9 1e-99 1e-100 1e99 1e100 0e99 0e100
+                   0e099 .000e+99 1e+06 1e+006'''.split()
     for number in numbers:
         yield b'A', b'5,' + number.encode()
     for number in numbers[::7] + '1000000 1000000.0004 1000000.0005 .0004 .0005 0 1e6 1000000.0005000000'.split():
@@ -183,19 +189,22 @@ def run_edges():
     a, named, font = [0x41], [5, 10, 0, 0], list(labels.WHOLLY_FONT)
     yield from (([], [], []), (a, [1, 1], named), (a, [1, 1], font), ([], [0, 1], named), ([], [0, 1, 0, 1], named * 2))
     yield from ((a * k, [1, 1] * k, (named + font * (k - 1))[:4 * k]) for k in range(1, 5))
-    yield from (([], [1, 1], named), (a, [], named), (a, [1, 1], []), (a, [1], named), (a, [1, 1], named[:3]), (a, [1, 1], named * 2),
-                (a * 2, [1, 1], named), (a, [1, 1, 1], named), (a, [1, 1, 0, 1], named * 2), (a, [0, 1, 1, 1], named * 2),
-                (a, [1, 1, 1, 0], named), (a, [1, 2, 0, -1], named), (a, [2, 1, -1, 0], named), ([], [0, 1], font), ([], [0, 2], named * 2),
-                ([], [1, 1, -1, 0], named), ([], [0, 1], named[:3]), ([], [0, 0], []), ([], [0, 0, 0, 1], named), (a, [1, 0], []),
-                (a, [MAX, 1, MAX, 1, 3, 1], named * 3), (a, [1, MAX, 1, MAX, 1, 3], named), (a, [MIN, 1, MIN, 1, 1, 1], named * 3))
+    yield from (
+        ([], [1, 1], named), (a, [], named), (a, [1, 1], []), (a, [1], named), (a, [1, 1], named[:3]), (a, [1, 1], named * 2),
+        (a * 2, [1, 1], named), (a, [1, 1, 1], named), (a, [1, 1, 0, 1], named * 2), (a, [0, 1, 1, 1], named * 2),
+        (a, [1, 1, 1, 0], named), (a, [1, 2, 0, -1], named), (a, [2, 1, -1, 0], named), ([], [0, 1], font), ([], [0, 2], named * 2),
+        ([], [1, 1, -1, 0], named), ([], [0, 1], named[:3]), ([], [0, 0], []), ([], [0, 0, 0, 1], named), (a, [1, 0], []),
+        (a, [MAX, 1, MAX, 1, 3, 1], named * 3), (a, [1, MAX, 1, MAX, 1, 3], named), (a, [MIN, 1, MIN, 1, 1, 1], named * 3))
     for clusters, glyphs in (([2, 1], 1), ([1, 2, 1, 1], 3), ([1, 1, 1, 2], 3), ([2, 2], 2), ([2, 3], 3), ([1, 1, 1, 1], 2)):
         yield a * 2, clusters, named * glyphs
         for k in range(glyphs):
             for other in (font, [FONT, 0, 0, 0], [FONT, FONT, 0, -1], [0, FONT, 0, 0]):
                 yield a * 2, clusters, named * k + other + named * (glyphs - k - 1)
-    for units in ([0xD83D, 0xDE00], [0xDE00, 0xD83D], [0xD83D], [0xDE00], [0xD83D, 0x41], [0x41, 0xDE00], [0xD83D, 0xD83D, 0xDE00],
-                  [0xD83F, 0xDFFE], [0x41, 0xD83D, 0xDE00], [0xD83D, 0xDE00, 0x42], [0xD83D, 0xDE00, 0xDE00], [0xD83D, 0xDE00] * 2):
-        for clusters in ([len(units), 1], [1, 1] * len(units), [1, 1, len(units) - 1, 1], [len(units) - 1, 1, 1, 1], [2, 1] * (len(units) // 2)):
+    high, low = 0xD83D, 0xDE00
+    for units in ([high, low], [low, high], [high], [low], [high, 0x41], [0x41, low], [high, high, low], [0xD83F, 0xDFFE],
+                  [0x41, high, low], [high, low, 0x42], [high, low, low], [high, low, high, low]):
+        n = len(units)
+        for clusters in ([n, 1], [1, 1] * n, [1, 1, n - 1, 1], [n - 1, 1, 1, 1], [2, 1] * (n // 2)):
             yield units, clusters, named * (len(clusters) // 2)
     for unit in [*range(0x30), *ODD_UNITS]:
         yield [unit], [1, 1], named
@@ -211,5 +220,16 @@ def run_edges():
         yield a, [1, count], named * count
         yield a * count, [1, 2, 2, 1] + [1, 1] * (count - 3), named * count
         yield a * count, [1, 2] + [1, 1] * (count - 1), named * (count + 1)
-        yield [0xD83D, 0xDE00] * (count // 2), [2, 1] * (count // 2), named * (count // 2)
+        yield [high, low] * (count // 2), [2, 1] * (count // 2), named * (count // 2)
     yield longest_writing()
+
+# ---- Faults ------------------------------------------------------------------------------------------
+
+def fault_edges():
+    """(text, indices, number, place): every number, and places on both sides of each end."""
+    for text, indices in ((b'', b''), (b'A', b''), (b'', b';'), (b'{a', b'(1:2)5;'), (b'AB\xff', b'5;;x,1;'),
+                          (b'A' * 20000, b';' * 300000)):
+        for number in (*range(41), 258, 263, 65538, 2 ** 32 - 1):
+            for place in (0, 1, 2, 3, 4, 5, 19999, 20000, 300000, 300001, 2 ** 32, 2 ** 32 + 1, SIZE_MAX):
+                if len(text) < 9 or number in (1, 2, 4, 5, 7, 13, 14, 15):
+                    yield text, indices, number, place

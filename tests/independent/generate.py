@@ -137,13 +137,14 @@ def nearly_run(rng):
 
 def random_run(rng):
     """Small clusters without a plan, with about as many units and glyphs as they say."""
-    clusters = [n for _ in range(rng.randint(0, 4)) for n in rng.choice(((1, 1), (1, 1), (2, 1), (1, 2), (2, 2), (0, 1), (1, 0), (3, 1)))]
+    shapes = (1, 1), (1, 1), (2, 1), (1, 2), (2, 2), (0, 1), (1, 0), (3, 1)
+    clusters = [n for _ in range(rng.randint(0, 4)) for n in rng.choice(shapes)]
     if rng.random() < .1:
         clusters.append(rng.choice(ODD_NUMBERS))
-    units, glyphs = (min(max(0, sum(clusters[side::2])), 8) if rng.random() < .9 else rng.randint(0, 5) for side in (0, 1))
-    record = lambda: [rng.choice((5, 5, 5, FONT)), rng.choice((FONT, 0, 7)), 0, rng.choice((0, -5))]
-    return ([rng.choice((0x41, 0x42, 0x7B, 0xD83D, 0xDE00)) if rng.random() < .5 else 0x43 for _ in range(units)], clusters,
-            [n for _ in range(glyphs) for n in record()])
+    counts = [min(max(0, sum(clusters[side::2])), 8) if rng.random() < .9 else rng.randint(0, 5) for side in (0, 1)]
+    units = [rng.choice((0x41, 0x42, 0x7B, 0xD83D, 0xDE00)) if rng.random() < .5 else 0x43 for _ in range(counts[0])]
+    glyphs = [(rng.choice((5, 5, 5, FONT)), rng.choice((FONT, 0, 7)), 0, rng.choice((0, -5))) for _ in range(counts[1])]
+    return units, clusters, [n for record in glyphs for n in record]
 
 def large_run(rng):
     """About as many units or glyphs as the limits allow, or one more."""
@@ -188,6 +189,8 @@ def spelled_label(rng, run):
 def valid_label(rng):
     return spelled_label(rng, sound_run(rng))
 
+ANY_BYTE, INDICES_BYTES = range(256), b'0123456789;;,,..::(())+-eE5 {}\0\r\tx\x80'
+
 def damaged(rng, data, alphabet):
     """One byte put in, left out or changed, the end cut off, or a stretch doubled."""
     at, byte, r = rng.randrange(len(data) + 1), bytes((rng.choice(alphabet),)), rng.random()
@@ -204,9 +207,9 @@ def damaged_label(rng):
     text, indices = valid_label(rng)
     for _ in range(1 if rng.random() < .8 else 2):
         if rng.random() < .3:
-            text = damaged(rng, text, rng.choice((b'\x80\xbf\xc2\xe0\xed\xef\xf0\xf4\xff', b'{}A\0\x1f', range(256))))
+            text = damaged(rng, text, rng.choice((b'\x80\xbf\xc2\xe0\xed\xef\xf0\xf4\xff', b'{}A\0\x1f', ANY_BYTE)))
         else:
-            indices = damaged(rng, indices, b'0123456789;;,,..::(())+-eE5 {}\0\r\tx\x80' if rng.random() < .95 else range(256))
+            indices = damaged(rng, indices, INDICES_BYTES if rng.random() < .95 else ANY_BYTE)
     return text, indices
 
 def clean_text(rng):
@@ -237,7 +240,8 @@ def number_label(rng):
         point = rng.choice((None, None, 0, rng.randint(0, len(digits))))
         number = digits if point is None else digits[:point] + '.' + digits[point:]
         if rng.random() < .7:
-            number += rng.choice('eE') + rng.choice(('', '+', '-')) + str(rng.randint(0, 99)).rjust(rng.choice((1, 1, 1, 2, 3)), '0')
+            exponent = str(rng.randint(0, 99)).rjust(rng.choice((1, 1, 1, 2, 3)), '0')
+            number += rng.choice('eE') + rng.choice(('', '+', '-')) + exponent
     return b'A', ('5,' + ',' * rng.randint(0, 2) + rng.choice(('', '', '+', '-')) + number).encode()
 
 def utf8_label(rng):

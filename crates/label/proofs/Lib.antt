@@ -11,3 +11,5 @@ pub mod Cursors
 pub mod Outputs
 pub mod Picks
 pub mod Wires
+pub mod Checks
+pub mod Sizes

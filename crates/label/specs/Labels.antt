@@ -1,91 +1,135 @@
--- The paper's labels 1 to 11, in a single theorem over a list of rows.
+-- "Labels to prove and to run": labels 1 to 11 of document 01 in a single theorem over a list of rows, the worked examples of ECMA-388 likewise, and the
+-- example of `relabel`. Each is computed from the definitions.
 -- Assumes nothing.
-use Prim.Native.Nat.{ℕ, zero, suc, _<_}
-use mathlib.Core.Path.{_≡_, refl, ap, _∙_, sym}
-use mathlib.Core.Bool.{Bool, true, false, cond}
+use Prim.Native.Nat.{ℕ}
+use Prim.Native.Char.{Char, code}
+use Prim.Native.String.{String, [] as none, _∷_ as _then_}
+use mathlib.Core.Path.{_≡_, refl}
 use mathlib.Core.List.{List, [], _∷_, _++_, map}
 use lib.IntN.{ℤ, pos, negsuc}
-use lib.ListN.{length, getD}
 use Rattle.label.specs.Outcome.{Outcome, ok, no}
 use Rattle.label.specs.Bytes.{split, cut, allDigits, valueFrom, joinRest, join, trim, decimalFrom, decimal}
 use Rattle.label.specs.Text.{lead, trail, starts, scalar, xmlChar, unitsOf, decode, textUnits}
 use Rattle.label.specs.Entry.{unsigned, isDecimals, isNumber, mantissaDigits, fractionDigits, exponentDigits, nearest, scaled, thousandths, numberFits, isIndexPart, indexDigits, mapUnits, mapGlyphs, isAdvance, isOffset, wellFormed, fieldFits, indexOf, advanceOf, offsetOf, entryOf, entry, entries}
-use Rattle.label.specs.Run.{Run, tail, placed, step, walk, runFrom, read}
-use Rattle.label.specs.Write.{utf8, unitBytes, unitsBytes, textOf, fraction, valueBytes, advanceBytes, offsetBytes, mapBytes, indexBytes, entryBytes, written, indicesOf}
-use Rattle.label.specs.Sound.{flatClusters, flatGlyphs}
+use Rattle.label.specs.Run.{Run, cluster, fontGlyph, tail, placed, step, walk, runFrom, read}
+use Rattle.label.specs.Write.{utf8, unitBytes, unitsBytes, textOf, fraction, valueBytes, advanceBytes, offsetBytes, mapBytes, indexBytes, entryBytes, written, indicesOf, Label, normal}
 use Rattle.label.specs.Relabel.{relabel, relabelRead}
+use Rattle.label.specs.declared.Index.the-variants.{Named, Font}
+use Rattle.label.specs.declared.Advance.the-variants.{Given, Own}
+use Rattle.label.specs.declared.Glyph.{Glyph}
+use Rattle.label.specs.declared.Cluster.{Cluster}
 
--- what the paper says of a label: the run's three lists of numbers and the normal writing's two of bytes, or the number and the place
+-- ── how the rows are written ──
+
+-- a text of ASCII as its bytes, which are its code units too
+unfoldable pub ascii : String → List ℕ
+ascii none = []
+ascii (c then s) = code c ∷ ascii s
+
+-- what a label comes to: the run and its normal writing, or the number and the place
 pub data Said : Type 0 where
-  accepted : List ℕ → List ℤ → List ℤ → List ℕ → List ℕ → Said
+  accepted : Run → Label → Said
   refused : ℕ → ℕ → Said
 
 abbrev pub said : Outcome Run → Said
-said (ok r) = accepted (r .units) (flatClusters (r .clusters)) (flatGlyphs (r .glyphs)) (textOf (r .units)) (indicesOf (r .clusters) (r .glyphs))
+said (ok r) = accepted r (normal r)
 said (no n p) = refused n p
 
-pub record Row : Type 0 where
+pub record LabelRow : Type 0 where
   pub text : List ℕ
   pub indices : List ℕ
   pub answer : Said
 
-abbrev row : List ℕ → List ℕ → Said → Row
+abbrev row : List ℕ → List ℕ → Said → LabelRow
 row t i a = record { text = t; indices = i; answer = a }
 
-unfoldable pub rows : List Row
-rows =
-    row (102 ∷ 108 ∷ []) (40 ∷ 50 ∷ 58 ∷ 49 ∷ 41 ∷ 49 ∷ 57 ∷ 50 ∷ [])
-    (accepted (102 ∷ 108 ∷ []) (pos 2 ∷ pos 1 ∷ []) (pos 192 ∷ negsuc 0 ∷ pos 0 ∷ pos 0 ∷ []) (102 ∷ 108 ∷ []) (40 ∷ 50 ∷ 41 ∷ 49 ∷ 57 ∷ 50 ∷ [])) ∷
-    row (224 ∷ 184 ∷ 179 ∷ []) (40 ∷ 49 ∷ 58 ∷ 50 ∷ 41 ∷ 49 ∷ 50 ∷ 52 ∷ 59 ∷ 49 ∷ 56 ∷ 49 ∷ [])
-    (accepted (3635 ∷ []) (pos 1 ∷ pos 2 ∷ []) (pos 124 ∷ negsuc 0 ∷ pos 0 ∷ pos 0 ∷ pos 181 ∷ negsuc 0 ∷ pos 0 ∷ pos 0 ∷ []) (224 ∷ 184 ∷ 179 ∷ []) (40 ∷ 49 ∷ 58 ∷ 50 ∷ 41 ∷ 49 ∷ 50 ∷ 52 ∷ 59 ∷ 49 ∷ 56 ∷ 49 ∷ [])) ∷
-    row (224 ∷ 174 ∷ 170 ∷ 224 ∷ 175 ∷ 139 ∷ []) (40 ∷ 50 ∷ 58 ∷ 51 ∷ 41 ∷ 51 ∷ 52 ∷ 59 ∷ 55 ∷ 54 ∷ 59 ∷ 56 ∷ 56 ∷ [])
-    (accepted (2986 ∷ 3019 ∷ []) (pos 2 ∷ pos 3 ∷ []) (pos 34 ∷ negsuc 0 ∷ pos 0 ∷ pos 0 ∷ pos 76 ∷ negsuc 0 ∷ pos 0 ∷ pos 0 ∷ pos 88 ∷ negsuc 0 ∷ pos 0 ∷ pos 0 ∷ []) (224 ∷ 174 ∷ 170 ∷ 224 ∷ 175 ∷ 139 ∷ []) (40 ∷ 50 ∷ 58 ∷ 51 ∷ 41 ∷ 51 ∷ 52 ∷ 59 ∷ 55 ∷ 54 ∷ 59 ∷ 56 ∷ 56 ∷ [])) ∷
-    row (65 ∷ []) (59 ∷ [])
-    (refused 12 1) ∷
-    row (65 ∷ 66 ∷ []) (59 ∷ [])
-    (accepted (65 ∷ 66 ∷ []) (pos 1 ∷ pos 1 ∷ pos 1 ∷ pos 1 ∷ []) (negsuc 0 ∷ negsuc 0 ∷ pos 0 ∷ pos 0 ∷ negsuc 0 ∷ negsuc 0 ∷ pos 0 ∷ pos 0 ∷ []) (65 ∷ 66 ∷ []) []) ∷
-    row (123 ∷ 125 ∷ []) []
-    (refused 6 0) ∷
-    row (123 ∷ 97 ∷ []) []
-    (refused 4 0) ∷
-    row (123 ∷ 125 ∷ 123 ∷ 97 ∷ []) []
-    (accepted (123 ∷ 97 ∷ []) (pos 1 ∷ pos 1 ∷ pos 1 ∷ pos 1 ∷ []) (negsuc 0 ∷ negsuc 0 ∷ pos 0 ∷ pos 0 ∷ negsuc 0 ∷ negsuc 0 ∷ pos 0 ∷ pos 0 ∷ []) (123 ∷ 125 ∷ 123 ∷ 97 ∷ []) []) ∷
-    row (65 ∷ []) (53 ∷ 44 ∷ 45 ∷ 49 ∷ [])
-    (refused 7 0) ∷
-    row (65 ∷ []) (53 ∷ 44 ∷ 46 ∷ 48 ∷ 48 ∷ 48 ∷ 53 ∷ [])
-    (accepted (65 ∷ []) (pos 1 ∷ pos 1 ∷ []) (pos 5 ∷ pos 1 ∷ pos 0 ∷ pos 0 ∷ []) (65 ∷ []) (53 ∷ 44 ∷ 46 ∷ 48 ∷ 48 ∷ 49 ∷ [])) ∷
-    row (65 ∷ []) (53 ∷ 44 ∷ 46 ∷ 48 ∷ 48 ∷ 48 ∷ 52 ∷ [])
-    (accepted (65 ∷ []) (pos 1 ∷ pos 1 ∷ []) (pos 5 ∷ pos 0 ∷ pos 0 ∷ pos 0 ∷ []) (65 ∷ []) (53 ∷ 44 ∷ 48 ∷ [])) ∷
-    row (65 ∷ []) (53 ∷ 44 ∷ 49 ∷ 101 ∷ 54 ∷ [])
-    (accepted (65 ∷ []) (pos 1 ∷ pos 1 ∷ []) (pos 5 ∷ pos 1000000000 ∷ pos 0 ∷ pos 0 ∷ []) (65 ∷ []) (53 ∷ 44 ∷ 49 ∷ 48 ∷ 48 ∷ 48 ∷ 48 ∷ 48 ∷ 48 ∷ [])) ∷
-    row (65 ∷ []) (53 ∷ 44 ∷ 49 ∷ 48 ∷ 48 ∷ 48 ∷ 48 ∷ 48 ∷ 48 ∷ 46 ∷ 48 ∷ 48 ∷ 48 ∷ 52 ∷ [])
-    (accepted (65 ∷ []) (pos 1 ∷ pos 1 ∷ []) (pos 5 ∷ pos 1000000000 ∷ pos 0 ∷ pos 0 ∷ []) (65 ∷ []) (53 ∷ 44 ∷ 49 ∷ 48 ∷ 48 ∷ 48 ∷ 48 ∷ 48 ∷ 48 ∷ [])) ∷
-    row (65 ∷ []) (53 ∷ 44 ∷ 49 ∷ 48 ∷ 48 ∷ 48 ∷ 48 ∷ 48 ∷ 48 ∷ 46 ∷ 48 ∷ 48 ∷ 48 ∷ 53 ∷ [])
-    (refused 9 0) ∷
-    row (65 ∷ []) (48 ∷ 54 ∷ 53 ∷ 53 ∷ 51 ∷ 53 ∷ [])
-    (accepted (65 ∷ []) (pos 1 ∷ pos 1 ∷ []) (pos 65535 ∷ negsuc 0 ∷ pos 0 ∷ pos 0 ∷ []) (65 ∷ []) (54 ∷ 53 ∷ 53 ∷ 51 ∷ 53 ∷ [])) ∷
-    row (65 ∷ []) (54 ∷ 53 ∷ 53 ∷ 51 ∷ 54 ∷ [])
-    (refused 8 0) ∷
-    row (65 ∷ 66 ∷ []) (40 ∷ 50 ∷ 58 ∷ 50 ∷ 41 ∷ 53 ∷ [])
-    (refused 14 0) ∷
-    row (65 ∷ 66 ∷ []) (40 ∷ 50 ∷ 58 ∷ 50 ∷ 41 ∷ 53 ∷ 59 ∷ [])
-    (refused 11 1) ∷
-    row (65 ∷ 66 ∷ []) (40 ∷ 48 ∷ 41 ∷ 53 ∷ [])
-    (refused 10 0) ∷
-    row (240 ∷ 159 ∷ 152 ∷ 128 ∷ []) []
-    (refused 13 1) ∷
-    row (240 ∷ 159 ∷ 152 ∷ 128 ∷ []) (40 ∷ 50 ∷ 41 ∷ 57 ∷ [])
-    (accepted (55357 ∷ 56832 ∷ []) (pos 2 ∷ pos 1 ∷ []) (pos 9 ∷ negsuc 0 ∷ pos 0 ∷ pos 0 ∷ []) (240 ∷ 159 ∷ 152 ∷ 128 ∷ []) (40 ∷ 50 ∷ 41 ∷ 57 ∷ [])) ∷
-    row [] (53 ∷ 59 ∷ 54 ∷ [])
-    (accepted [] (pos 0 ∷ pos 1 ∷ pos 0 ∷ pos 1 ∷ []) (pos 5 ∷ negsuc 0 ∷ pos 0 ∷ pos 0 ∷ pos 6 ∷ negsuc 0 ∷ pos 0 ∷ pos 0 ∷ []) [] (53 ∷ 59 ∷ 54 ∷ [])) ∷
+-- accepted: units, clusters, glyphs; normal text, normal indices
+abbrev reads : List ℕ → List Cluster → List Glyph → List ℕ → List ℕ → Said
+reads us cs gs t i = accepted (record { units = us; clusters = cs; glyphs = gs }) (record { text = t; indices = i })
+
+-- a glyph with this index and nothing else given; with an advance too
+abbrev glyph : ℕ → Glyph
+glyph n = record { index = Named n; advance = Own; u = pos 0; v = pos 0 }
+
+abbrev advanced : ℕ → ℕ → Glyph
+advanced n a = record { index = Named n; advance = Given a; u = pos 0; v = pos 0 }
+
+abbrev one : Cluster
+one = cluster 1 1
+
+-- ── document 01, labels 1 to 11 ──
+
+unfoldable pub paperRows : List LabelRow
+paperRows =
+    -- 1. U+0066 U+006C, `(2:1)192`: one cluster 2:1; normal `(2)192`
+    row (ascii "fl") (ascii "(2:1)192") (reads (0x66 ∷ 0x6c ∷ []) (cluster 2 1 ∷ []) (glyph 192 ∷ []) (ascii "fl") (ascii "(2)192")) ∷
+    -- 2. U+0E33, `(1:2)124;181`: one cluster 1:2
+    row (0xe0 ∷ 0xb8 ∷ 0xb3 ∷ []) (ascii "(1:2)124;181")
+    (reads (0x0e33 ∷ []) (cluster 1 2 ∷ []) (glyph 124 ∷ glyph 181 ∷ []) (0xe0 ∷ 0xb8 ∷ 0xb3 ∷ []) (ascii "(1:2)124;181")) ∷
+    -- 3. U+0BAA U+0BCB, `(2:3)34;76;88`: one cluster 2:3
+    row (0xe0 ∷ 0xae ∷ 0xaa ∷ 0xe0 ∷ 0xaf ∷ 0x8b ∷ []) (ascii "(2:3)34;76;88")
+    (reads (0x0baa ∷ 0x0bcb ∷ []) (cluster 2 3 ∷ []) (glyph 34 ∷ glyph 76 ∷ glyph 88 ∷ []) (0xe0 ∷ 0xae ∷ 0xaa ∷ 0xe0 ∷ 0xaf ∷ 0x8b ∷ [])
+    (ascii "(2:3)34;76;88")) ∷
+    -- 4. `A`, `;`: 12, place 1. `AB`, `;`: accepted, normal indices of zero bytes
+    row (ascii "A") (ascii ";") (refused 12 1) ∷
+    row (ascii "AB") (ascii ";") (reads (ascii "AB") (one ∷ one ∷ []) (fontGlyph ∷ fontGlyph ∷ []) (ascii "AB") []) ∷
+    -- 5. `{}`, nothing: 6. `{a`: 4. `{}{a`: text `{a`, normal `{}{a`
+    row (ascii "{}") [] (refused 6 0) ∷
+    row (ascii "{a") [] (refused 4 0) ∷
+    row (ascii "{}{a") [] (reads (ascii "{a") (one ∷ one ∷ []) (fontGlyph ∷ fontGlyph ∷ []) (ascii "{}{a") []) ∷
+    -- 6. `A`, `5,-1`: 7. `A`, `5,.0005`: advance 1; `5,.0004`: advance 0, normal `5,0`
+    row (ascii "A") (ascii "5,-1") (refused 7 0) ∷
+    row (ascii "A") (ascii "5,.0005") (reads (ascii "A") (one ∷ []) (advanced 5 1 ∷ []) (ascii "A") (ascii "5,.001")) ∷
+    row (ascii "A") (ascii "5,.0004") (reads (ascii "A") (one ∷ []) (advanced 5 0 ∷ []) (ascii "A") (ascii "5,0")) ∷
+    -- 7. `A`, `5,1e6`: 1,000,000,000. `5,1000000.0004`: the same. `5,1000000.0005`: 9
+    row (ascii "A") (ascii "5,1e6") (reads (ascii "A") (one ∷ []) (advanced 5 1_000_000_000 ∷ []) (ascii "A") (ascii "5,1000000")) ∷
+    row (ascii "A") (ascii "5,1000000.0004") (reads (ascii "A") (one ∷ []) (advanced 5 1_000_000_000 ∷ []) (ascii "A") (ascii "5,1000000")) ∷
+    row (ascii "A") (ascii "5,1000000.0005") (refused 9 0) ∷
+    -- 8. `A`, `065535`: normal `65535`. `65536`: 8
+    row (ascii "A") (ascii "065535") (reads (ascii "A") (one ∷ []) (glyph 65535 ∷ []) (ascii "A") (ascii "65535")) ∷
+    row (ascii "A") (ascii "65536") (refused 8 0) ∷
+    -- 9. `AB`, `(2:2)5`: 14, place 0. `(2:2)5;`: 11, place 1. `(0)5`: 10
+    row (ascii "AB") (ascii "(2:2)5") (refused 14 0) ∷
+    row (ascii "AB") (ascii "(2:2)5;") (refused 11 1) ∷
+    row (ascii "AB") (ascii "(0)5") (refused 10 0) ∷
+    -- 10. U+1F600, nothing: 13, place 1. With `(2)9`: accepted
+    row (0xf0 ∷ 0x9f ∷ 0x98 ∷ 0x80 ∷ []) [] (refused 13 1) ∷
+    row (0xf0 ∷ 0x9f ∷ 0x98 ∷ 0x80 ∷ []) (ascii "(2)9")
+    (reads (0xd83d ∷ 0xde00 ∷ []) (cluster 2 1 ∷ []) (glyph 9 ∷ []) (0xf0 ∷ 0x9f ∷ 0x98 ∷ 0x80 ∷ []) (ascii "(2)9")) ∷
+    -- 11. No text, `5;6`: two clusters 0:1
+    row [] (ascii "5;6") (reads [] (cluster 0 1 ∷ cluster 0 1 ∷ []) (glyph 5 ∷ glyph 6 ∷ []) [] (ascii "5;6")) ∷
+    []
+
+-- ── ECMA-388, Examples 12-3 to 12-6 ──
+
+unfoldable pub standardRows : List LabelRow
+standardRows =
+    -- 12-3, one to many: U+0E20 U+0E31 U+0E33 U+0021
+    row (0xe0 ∷ 0xb8 ∷ 0xa0 ∷ 0xe0 ∷ 0xb8 ∷ 0xb1 ∷ 0xe0 ∷ 0xb8 ∷ 0xb3 ∷ 0x21 ∷ []) (ascii "153;106,,,16;(1:2)124;198;4")
+    (reads (0x0e20 ∷ 0x0e31 ∷ 0x0e33 ∷ 0x21 ∷ []) (one ∷ one ∷ cluster 1 2 ∷ one ∷ [])
+    (glyph 153 ∷ record { index = Named 106; advance = Own; u = pos 0; v = pos 16_000 } ∷ glyph 124 ∷ glyph 198 ∷ glyph 4 ∷ [])
+    (0xe0 ∷ 0xb8 ∷ 0xa0 ∷ 0xe0 ∷ 0xb8 ∷ 0xb1 ∷ 0xe0 ∷ 0xb8 ∷ 0xb3 ∷ 0x21 ∷ []) (ascii "153;106,,,16;(1:2)124;198;4")) ∷
+    -- 12-4, many to many: U+0BAA U+0BCB U+0BA4 U+0BC1
+    row (0xe0 ∷ 0xae ∷ 0xaa ∷ 0xe0 ∷ 0xaf ∷ 0x8b ∷ 0xe0 ∷ 0xae ∷ 0xa4 ∷ 0xe0 ∷ 0xaf ∷ 0x81 ∷ []) (ascii "(2:3)94;76;88;(2:1)162")
+    (reads (0x0baa ∷ 0x0bcb ∷ 0x0ba4 ∷ 0x0bc1 ∷ []) (cluster 2 3 ∷ cluster 2 1 ∷ []) (glyph 94 ∷ glyph 76 ∷ glyph 88 ∷ glyph 162 ∷ [])
+    (0xe0 ∷ 0xae ∷ 0xaa ∷ 0xe0 ∷ 0xaf ∷ 0x8b ∷ 0xe0 ∷ 0xae ∷ 0xa4 ∷ 0xe0 ∷ 0xaf ∷ 0x81 ∷ []) (ascii "(2:3)94;76;88;(2)162")) ∷
+    -- 12-5, "the seventh glyph in the Unicode string has an advance width of 40"
+    row (ascii "fathoms") (ascii ";;;;;;,40")
+    (reads (ascii "fathoms") (one ∷ one ∷ one ∷ one ∷ one ∷ one ∷ one ∷ [])
+    (fontGlyph ∷ fontGlyph ∷ fontGlyph ∷ fontGlyph ∷ fontGlyph ∷ fontGlyph ∷ record { index = Font; advance = Given 40_000; u = pos 0; v = pos 0 } ∷ [])
+    (ascii "fathoms") (ascii ";;;;;;,40")) ∷
+    -- 12-6, "the sixth and seventh UTF-16 code units in the Unicode string should be replaced by a single glyph having an index of 191"
+    row (ascii "fathoms") (ascii ";;;;;(2:1)191")
+    (reads (ascii "fathoms") (one ∷ one ∷ one ∷ one ∷ one ∷ cluster 2 1 ∷ []) (fontGlyph ∷ fontGlyph ∷ fontGlyph ∷ fontGlyph ∷ fontGlyph ∷ glyph 191 ∷ [])
+    (ascii "fathoms") (ascii ";;;;;(2)191")) ∷
     []
 
 -- each row's label is answered as the row says
-pub labels : map (λ (r : Row). said (read (r .text) (r .indices))) rows ≡ map (λ (r : Row). r .answer) rows
-unfolding rows flatClusters flatGlyphs split cut allDigits valueFrom joinRest join trim decimalFrom decimal lead trail starts scalar xmlChar unitsOf decode textUnits unsigned isDecimals isNumber mantissaDigits fractionDigits exponentDigits nearest scaled thousandths numberFits isIndexPart indexDigits mapUnits mapGlyphs isAdvance isOffset wellFormed fieldFits indexOf advanceOf offsetOf entryOf entry entries tail placed step walk runFrom read utf8 unitBytes unitsBytes textOf fraction valueBytes advanceBytes offsetBytes mapBytes indexBytes entryBytes written indicesOf
+pub labels : map (λ (r : LabelRow). said (read (r .text) (r .indices))) (paperRows ++ standardRows) ≡ map (λ (r : LabelRow). r .answer) (paperRows ++ standardRows)
+unfolding paperRows standardRows ascii split cut allDigits valueFrom joinRest join trim decimalFrom decimal lead trail starts scalar xmlChar unitsOf decode textUnits unsigned isDecimals isNumber mantissaDigits fractionDigits exponentDigits nearest scaled thousandths numberFits isIndexPart indexDigits mapUnits mapGlyphs isAdvance isOffset wellFormed fieldFits indexOf advanceOf offsetOf entryOf entry entries tail placed step walk runFrom read utf8 unitBytes unitsBytes textOf fraction valueBytes advanceBytes offsetBytes mapBytes indexBytes entryBytes written indicesOf
 labels = refl
 
--- the paper's example of `relabel`
-pub relabelled : relabel (123 ∷ 125 ∷ 102 ∷ 108 ∷ 111 ∷ 119 ∷ 10 ∷ 40 ∷ 50 ∷ 58 ∷ 49 ∷ 41 ∷ 49 ∷ 57 ∷ 50 ∷ 59 ∷ 48 ∷ 55 ∷ 44 ∷ 43 ∷ 53 ∷ 53 ∷ 46 ∷ 53 ∷ 48 ∷ 44 ∷ 44 ∷ 48 ∷ 10 ∷ []) ≡ (111 ∷ 107 ∷ 32 ∷ 52 ∷ 32 ∷ 51 ∷ 32 ∷ 51 ∷ 10 ∷ 102 ∷ 108 ∷ 111 ∷ 119 ∷ 10 ∷ 40 ∷ 50 ∷ 41 ∷ 49 ∷ 57 ∷ 50 ∷ 59 ∷ 55 ∷ 44 ∷ 53 ∷ 53 ∷ 46 ∷ 53 ∷ 10 ∷ [])
-unfolding relabel relabelRead flatClusters flatGlyphs split cut allDigits valueFrom joinRest join trim decimalFrom decimal lead trail starts scalar xmlChar unitsOf decode textUnits unsigned isDecimals isNumber mantissaDigits fractionDigits exponentDigits nearest scaled thousandths numberFits isIndexPart indexDigits mapUnits mapGlyphs isAdvance isOffset wellFormed fieldFits indexOf advanceOf offsetOf entryOf entry entries tail placed step walk runFrom read utf8 unitBytes unitsBytes textOf fraction valueBytes advanceBytes offsetBytes mapBytes indexBytes entryBytes written indicesOf
+-- "From `{}flow` and `(2:1)192;07,+55.50,,0` it prints:"
+pub relabelled : relabel (ascii "{}flow\n(2:1)192;07,+55.50,,0\n") ≡ ascii "ok 4 3 3\nflow\n(2)192;7,55.5\n"
+unfolding relabel relabelRead ascii split cut allDigits valueFrom joinRest join trim decimalFrom decimal lead trail starts scalar xmlChar unitsOf decode textUnits unsigned isDecimals isNumber mantissaDigits fractionDigits exponentDigits nearest scaled thousandths numberFits isIndexPart indexDigits mapUnits mapGlyphs isAdvance isOffset wellFormed fieldFits indexOf advanceOf offsetOf entryOf entry entries tail placed step walk runFrom read utf8 unitBytes unitsBytes textOf fraction valueBytes advanceBytes offsetBytes mapBytes indexBytes entryBytes written indicesOf
 relabelled = refl

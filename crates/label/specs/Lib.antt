@@ -13,3 +13,4 @@ pub mod Wire
 pub mod Relabel
 pub mod Labels
 pub mod Demands
+pub mod Checks

@@ -23,30 +23,30 @@ no-row = record { fits = false; more = 0; lo = 0; hi = 0 }
 -- "Unicode's Table 3-7 decides UTF-8": its nine rows, each by the range of its first byte, with the range of its second byte
 unfoldable pub lead : ℕ → Row
 lead b =
-    -- U+0000..U+007F      00..7F
-    cond (within 0 127 b) (row 0 0 0)
-    -- U+0080..U+07FF      C2..DF  80..BF
-    (cond (within 194 223 b) (row 1 128 191)
-    -- U+0800..U+0FFF      E0      A0..BF  80..BF
-    (cond (within 224 224 b) (row 2 160 191)
-    -- U+1000..U+CFFF      E1..EC  80..BF  80..BF
-    (cond (within 225 236 b) (row 2 128 191)
-    -- U+D000..U+D7FF      ED      80..9F  80..BF
-    (cond (within 237 237 b) (row 2 128 159)
-    -- U+E000..U+FFFF      EE..EF  80..BF  80..BF
-    (cond (within 238 239 b) (row 2 128 191)
-    -- U+10000..U+3FFFF    F0      90..BF  80..BF  80..BF
-    (cond (within 240 240 b) (row 3 144 191)
-    -- U+40000..U+FFFFF    F1..F3  80..BF  80..BF  80..BF
-    (cond (within 241 243 b) (row 3 128 191)
-    -- U+100000..U+10FFFF  F4      80..8F  80..BF  80..BF
-    (cond (within 244 244 b) (row 3 128 143) no-row))))))))
+    -- U+0000..U+007F: 00..7F
+    cond (within 0x00 0x7f b) (row 0 0 0)
+    -- U+0080..U+07FF: C2..DF, 80..BF
+    (cond (within 0xc2 0xdf b) (row 1 0x80 0xbf)
+    -- U+0800..U+0FFF: E0, A0..BF, 80..BF
+    (cond (within 0xe0 0xe0 b) (row 2 0xa0 0xbf)
+    -- U+1000..U+CFFF: E1..EC, 80..BF, 80..BF
+    (cond (within 0xe1 0xec b) (row 2 0x80 0xbf)
+    -- U+D000..U+D7FF: ED, 80..9F, 80..BF
+    (cond (within 0xed 0xed b) (row 2 0x80 0x9f)
+    -- U+E000..U+FFFF: EE..EF, 80..BF, 80..BF
+    (cond (within 0xee 0xef b) (row 2 0x80 0xbf)
+    -- U+10000..U+3FFFF: F0, 90..BF, 80..BF, 80..BF
+    (cond (within 0xf0 0xf0 b) (row 3 0x90 0xbf)
+    -- U+40000..U+FFFFF: F1..F3, 80..BF, 80..BF, 80..BF
+    (cond (within 0xf1 0xf3 b) (row 3 0x80 0xbf)
+    -- U+100000..U+10FFFF: F4, 80..8F, 80..BF, 80..BF
+    (cond (within 0xf4 0xf4 b) (row 3 0x80 0x8f) no-row))))))))
 
 -- the bytes after the first: so many, the second byte from lo to hi, the others from 80 to BF
 unfoldable pub trail : ℕ → ℕ → ℕ → List ℕ → Bool
 trail zero lo hi bs = true
 trail (suc n) lo hi [] = false
-trail (suc n) lo hi (b ∷ bs) = within lo hi b && trail n 128 191 bs
+trail (suc n) lo hi (b ∷ bs) = within lo hi b && trail n 0x80 0xbf bs
 
 -- a well-formed character starts here
 unfoldable pub starts : ℕ → List ℕ → Bool
@@ -62,18 +62,18 @@ scalar (suc (suc (suc n))) b bs = b % 8 * 262144 + getD bs 0 0 % 64 * 4096 + get
 -- "XML 1.0's Char decides which characters may stand": #x9 | #xA | #xD | [#x20-#xD7FF] | [#xE000-#xFFFD] | [#x10000-#x10FFFF]
 unfoldable pub xmlChar : ℕ → Bool
 xmlChar c =
-    eqb c 9 || eqb c 10 || eqb c 13 || within 32 55295 c || within 57344 65533 c || within 65536 1114111 c
+    eqb c 0x9 || eqb c 0xa || eqb c 0xd || within 0x20 0xd7ff c || within 0xe000 0xfffd c || within 0x10000 0x10ffff c
 
 -- the high halves, U+D800 to U+DBFF, and the low halves, U+DC00 to U+DFFF
 abbrev pub isHigh : ℕ → Bool
-isHigh u = within 55296 56319 u
+isHigh u = within 0xd800 0xdbff u
 
 abbrev pub isLow : ℕ → Bool
-isLow u = within 56320 57343 u
+isLow u = within 0xdc00 0xdfff u
 
 -- "a character above U+FFFF gives a pair, high then low"
 unfoldable pub unitsOf : ℕ → List ℕ
-unitsOf c = cond (leb c 65535) (c ∷ []) ((55296 + (c - 65536) / 1024) ∷ (56320 + (c - 65536) % 1024) ∷ [])
+unitsOf c = cond (leb c 0xffff) (c ∷ []) ((0xd800 + (c - 0x10000) / 1024) ∷ (0xdc00 + (c - 0x10000) % 1024) ∷ [])
 
 -- "the text from its left (2 and 3, whichever comes first)": the units of the bytes, of which the first `skip` belong to a character already read;
 -- `at` is the place of the first byte

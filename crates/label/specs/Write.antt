@@ -23,14 +23,14 @@ use Rattle.label.specs.declared.Cluster.{Cluster}
 -- a character in UTF-8
 unfoldable pub utf8 : ℕ → List ℕ
 utf8 c =
-    cond (leb c 127) (c ∷ [])
-    (cond (leb c 2047) ((192 + c / 64) ∷ (128 + c % 64) ∷ [])
-    (cond (leb c 65535) ((224 + c / 4096) ∷ (128 + c / 64 % 64) ∷ (128 + c % 64) ∷ [])
-    ((240 + c / 262144) ∷ (128 + c / 4096 % 64) ∷ (128 + c / 64 % 64) ∷ (128 + c % 64) ∷ [])))
+    cond (leb c 0x7f) (c ∷ [])
+    (cond (leb c 0x7ff) ((0xc0 + c / 64) ∷ (0x80 + c % 64) ∷ [])
+    (cond (leb c 0xffff) ((0xe0 + c / 4096) ∷ (0x80 + c / 64 % 64) ∷ (0x80 + c % 64) ∷ [])
+    ((0xf0 + c / 262144) ∷ (0x80 + c / 4096 % 64) ∷ (0x80 + c / 64 % 64) ∷ (0x80 + c % 64) ∷ [])))
 
 -- the character of a pair
 abbrev pub paired : ℕ → ℕ → ℕ
-paired h l = 65536 + (h - 55296) * 1024 + (l - 56320)
+paired h l = 0x10000 + (h - 0xd800) * 1024 + (l - 0xdc00)
 
 -- the bytes of a unit and the one behind it: those of a pair stand at its high half
 unfoldable pub unitBytes : ℕ → ℕ → List ℕ

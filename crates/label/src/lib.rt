@@ -24,6 +24,7 @@ impl Limits {
 
     // Digits of a number before its exponent, and in it.
     pub const DIGITS: usize = 18;
+
     pub const EXPONENT_DIGITS: usize = 2;
 
     // The largest size of a value, in thousandths.

@@ -1,26 +1,35 @@
 -- Laws of the character at a place, and of the walk over a text's characters.
 -- Assumes nothing.
-use Prim.Native.Nat.{ℕ, zero, suc, _+_, _*_, _-_, _%_, _^_, _≤_, _<_}
+use Prim.Native.Nat.{ℕ, zero, suc, _+_, _*_, _-_, _/_, _%_, _^_, _≤_, _<_}
 use native.Mathlib.Omega.{arith}
-use native.Mathlib.Nat.{not-suc-le-zero, add-zero, add-suc, suc-add}
+use native.Mathlib.Nat.{add-zero}
 use native.Mathlib.Numerals.{add-one}
-use mathlib.Core.Path.{_≡_, refl, sym, _∙_, ap, subst}
-use mathlib.Core.Bool.{Bool, true, false, cond, not, _&&_, _||_, false≢true, and-false, and-true}
-use mathlib.Core.List.{List, [], _∷_, _++_, append-assoc, append-nil}
-use borrow.Author.Tests.{eq-eqb, ne-eqb, not-true, le-leb, lt-leb}
-use lib.Dec.{eqb, ltb, leb}
-use lib.ListN.{length, getD, take, drop, length-append, length-drop, drop-of-length-le}
-use lib.Seq.{getD-drop, drop-cons, drop-drop}
-use Rattle.label.specs.Outcome.{Outcome, ok, no, need, _>>=_, _>>_}
+use mathlib.Core.Path.{_≡_, refl, sym, _∙_, ap}
+use mathlib.Core.Bool.{Bool, true, false, cond, _||_, false≢true, and-false}
+use mathlib.Core.List.{List, [], _∷_, _++_, append-nil}
+use borrow.Author.Tests.{ne-eqb, le-leb, lt-leb}
+use lib.Bits.{bitAnd, bitOr, and-mask, mask-lt, or-shifted}
+use lib.Pow.{shl-exact}
+use lib.Dec.{eqb, leb}
+use lib.ListN.{length, getD, drop, length-append, length-drop, drop-of-length-le}
+use lib.Seq.{getD-drop, drop-cons}
+use Rattle.label.specs.Outcome.{Outcome, ok}
 use Rattle.label.specs.Text.{within, lead, starts, trail, scalar, xmlChar, unitsOf, decode}
 use Rattle.label.specs.declared.Row.{Row}
-use Rattle.text.specs.Chars.{charAt, counted, pickChar}
+use Rattle.text.specs.Chars.{charAt, counted}
 use Rattle.text.specs.declared.Counted.{Counted}
 use Rattle.text.specs.declared.Counted.the-variants.{Units, Refused}
 use Rattle.text.specs.declared.Char.{Char}
 use Rattle.text.specs.declared.Char.the-variants.{Good, Ill, Outside}
-use Rattle.label.proofs.Basics.{and-l, and-r, and-i, clash, cases}
+use Rattle.label.proofs.Texts.{within-lo, within-hi, row-1}
+use Rattle.label.proofs.Basics.{and-r, clash}
 use Rattle.label.proofs.Cursors.{onto, onto-nil, onto-onto, decode-good, decode-ill, decode-outside, decode-end}
+
+-- ── the rows of Table 3-7 ──
+
+-- the row of a range of first bytes, by the code's flag of that range
+pub by-range : {lo hi : ℕ} {r : Row} → ((b : ℕ) → lo ≤ b → b ≤ hi → lead b ≡ r) → (b : ℕ) {x : Bool} → x ≡ within lo hi b → x ≡ true → r ≡ lead b
+by-range {lo} {hi} law b e t = sym (law b (within-lo lo hi b (sym e ∙ t)) (within-hi lo hi b (sym e ∙ t)))
 
 -- ── the bytes after a character's first ──
 
@@ -53,22 +62,13 @@ trail-next s (suc k) l h i n p a b =
 
 -- ── XML's Char by tests in order ──
 
-pub xml-nine : (c : ℕ) → c ≡ 9 → xmlChar c ≡ true
+pub xml-low : (c : ℕ) → c < 32 → xmlChar c ≡ (eqb c 9 || eqb c 10 || eqb c 13)
 unfolding xmlChar
-xml-nine c e = rw e
-
-pub xml-ten : (c : ℕ) → c ≡ 10 → xmlChar c ≡ true
-unfolding xmlChar
-xml-ten c e = rw e
-
-pub xml-thirteen : (c : ℕ) → c ≡ 13 → xmlChar c ≡ true
-unfolding xmlChar
-xml-thirteen c e = rw e
-
-pub xml-low : (c : ℕ) → (c ≡ 9 → ⊥) → (c ≡ 10 → ⊥) → (c ≡ 13 → ⊥) → c < 32 → xmlChar c ≡ false
-unfolding xmlChar
-xml-low c a b d l =
-    rw (ne-eqb c 9 a, ne-eqb c 10 b, ne-eqb c 13 d, lt-leb 32 c l, lt-leb 57344 c (omega arith), lt-leb 65536 c (omega arith))
+xml-low c l = rw (lt-leb 32 c l, lt-leb 57344 c (omega arith), lt-leb 65536 c (omega arith)) (three-false (eqb c 9 || eqb c 10 || eqb c 13))
+  where
+    three-false : (b : Bool) → (b || false || false || false) ≡ b
+    three-false true = refl
+    three-false false = refl
 
 module _ (c : ℕ) (h : 32 ≤ c) where
   n9 : eqb c 9 ≡ false
@@ -102,30 +102,48 @@ module _ (c : ℕ) (h : 32 ≤ c) where
 
 -- ── a character's number ──
 
-pub scalar-one : (m b : ℕ) (s : List ℕ) (i : ℕ) → m ≡ 0 → scalar m b (drop (i + 1) s) ≡ b
-unfolding scalar
-scalar-one m b s i e = rw e
+-- a number of j bits shifted by k, with the k lowest bits of b below it
+pub shifted-or : (j k w a b : ℕ) → a < 2 ^ j → j + k ≤ w → bitOr (a * 2 ^ k % 2 ^ w) (bitAnd b (2 ^ k - 1)) ≡ a * 2 ^ k + b % 2 ^ k
+shifted-or j k w a b h l =
+    ap (λ (n : ℕ). bitOr n (bitAnd b (2 ^ k - 1))) (shl-exact j k w h l)
+    ∙ or-shifted a k (bitAnd b (2 ^ k - 1)) (mask-lt b k)
+    ∙ ap (λ (n : ℕ). a * 2 ^ k + n) (and-mask b k)
 
-pub scalar-two : (m b : ℕ) (s : List ℕ) (i : ℕ) → m ≡ 1 → scalar m b (drop (i + 1) s) ≡ b % 32 * 64 + getD s (i + 1) 0 % 64
-unfolding scalar
-scalar-two m b s i e = rw (e, getD-drop (i + 1) s 0 0, add-zero (i + 1))
+-- the character at place i, whose first byte is b, six bits at a time: c, d and r are the numbers made
+module _ (s : List ℕ) (i m : ℕ) {b : ℕ} (f : b ≡ getD s i 0) where
+  pub scalar-one : m ≡ 0 → b ≡ scalar m (getD s i 0) (drop (i + 1) s)
+  unfolding scalar
+  scalar-one e = rw e f
 
-pub scalar-three : (m b : ℕ) (s : List ℕ) (i : ℕ) → m ≡ 2 → scalar m b (drop (i + 1) s) ≡ b % 16 * 4096 + getD s (i + 1) 0 % 64 * 64 + getD s (i + 2) 0 % 64
-unfolding scalar
-scalar-three m b s i e =
-    let p : i + 1 + 1 ≡ i + 2 = omega arith in
-    rw (e, getD-drop (i + 1) s 0 0, getD-drop (i + 1) s 1 0, add-zero (i + 1), p)
+  pub scalar-two : {r : ℕ} → r ≡ bitAnd b 31 * 64 + getD s (i + 1) 0 % 64 → m ≡ 1 → r ≡ scalar m (getD s i 0) (drop (i + 1) s)
+  unfolding scalar
+  scalar-two p e = rw (e, getD-drop (i + 1) s 0 0, add-zero (i + 1), ← f, ← and-mask b 5) p
 
-pub scalar-four : (m b : ℕ) (s : List ℕ) (i : ℕ) → (m ≡ 0 → ⊥) → (m ≡ 1 → ⊥) → (m ≡ 2 → ⊥)
-    → scalar m b (drop (i + 1) s) ≡ b % 8 * 262144 + getD s (i + 1) 0 % 64 * 4096 + getD s (i + 2) 0 % 64 * 64 + getD s (i + 3) 0 % 64
-unfolding scalar
-scalar-four zero b s i n0 n1 n2 = absurd (n0 refl)
-scalar-four (suc zero) b s i n0 n1 n2 = absurd (n1 refl)
-scalar-four (suc (suc zero)) b s i n0 n1 n2 = absurd (n2 refl)
-scalar-four (suc (suc (suc m))) b s i n0 n1 n2 =
-    let p : i + 1 + 1 ≡ i + 2 = omega arith in
-    let q : i + 1 + 2 ≡ i + 3 = omega arith in
-    rw (getD-drop (i + 1) s 0 0, getD-drop (i + 1) s 1 0, getD-drop (i + 1) s 2 0, add-zero (i + 1), p, q)
+  pub scalar-three : {c r : ℕ} → c ≡ bitAnd b 15 * 64 + getD s (i + 1) 0 % 64 → r ≡ c * 64 + getD s (i + 2) 0 % 64 → m ≡ 2
+      → r ≡ scalar m (getD s i 0) (drop (i + 1) s)
+  unfolding scalar
+  scalar-three p q e =
+      let n : i + 1 + 1 ≡ i + 2 = omega arith in
+      rw (e, getD-drop (i + 1) s 0 0, getD-drop (i + 1) s 1 0, add-zero (i + 1), n, ← f, ← and-mask b 4) (omega arith)
+
+  pub scalar-four : {c d r : ℕ} → c ≡ bitAnd b 7 * 64 + getD s (i + 1) 0 % 64 → d ≡ c * 64 + getD s (i + 2) 0 % 64 → r ≡ d * 64 + getD s (i + 3) 0 % 64
+      → (m ≡ 0 → ⊥) → (m ≡ 1 → ⊥) → (m ≡ 2 → ⊥) → r ≡ scalar m (getD s i 0) (drop (i + 1) s)
+  unfolding scalar
+  scalar-four {c} {d} {r} p q t n0 n1 n2 =
+      four m n0 n1 n2
+      (rw (getD-drop (i + 1) s 0 0, getD-drop (i + 1) s 1 0, getD-drop (i + 1) s 2 0, add-zero (i + 1), n, o, ← f, ← and-mask b 3) (omega arith))
+    where
+      n : i + 1 + 1 ≡ i + 2
+      n = omega arith
+
+      o : i + 1 + 2 ≡ i + 3
+      o = omega arith
+
+      four : (m : ℕ) → (m ≡ 0 → ⊥) → (m ≡ 1 → ⊥) → (m ≡ 2 → ⊥) → r ≡ scalar 3 (getD s i 0) (drop (i + 1) s) → r ≡ scalar m (getD s i 0) (drop (i + 1) s)
+      four zero n0 n1 n2 e = absurd (n0 refl)
+      four (suc zero) n0 n1 n2 e = absurd (n1 refl)
+      four (suc (suc zero)) n0 n1 n2 e = absurd (n2 refl)
+      four (suc (suc (suc k))) n0 n1 n2 e = e
 
 -- the bytes that follow are there
 pub trail-inside : (n l h : ℕ) (s : List ℕ) → trail n l h s ≡ true → n ≤ length s
@@ -134,7 +152,14 @@ trail-inside zero l h s t = omega arith
 trail-inside (suc n) l h [] t = absurd (false≢true t)
 trail-inside (suc n) l h (b ∷ s) t = omega (arith, trail-inside n 128 191 s (and-r (within l h b) (trail n 128 191 s) t))
 
+pub trail-fits : (s : List ℕ) (i n l h : ℕ) → i < length s → trail n l h (drop (i + 1) s) ≡ true → i + 1 + n ≤ length s
+trail-fits s i n l h p t = omega (arith, rw length-drop at (trail-inside n l h (drop (i + 1) s) t))
+
 -- ── the character at a place ──
+
+pub char-one : (s : List ℕ) (i : ℕ) {x : Char} → x ≡ cond (xmlChar (getD s i 0)) (Good (getD s i 0) (i + 1)) Outside → getD s i 0 < 128 → x ≡ charAt s i
+unfolding charAt starts trail scalar
+char-one s i e h = rw (row-1 (getD s i 0) (omega arith) (omega arith), add-zero (i + 1)) e
 
 module _ (s : List ℕ) (i : ℕ) (r : Row) (e : r ≡ lead (getD s i 0)) where
   pub char-unfit : r .fits ≡ false → Ill ≡ charAt s i
@@ -178,7 +203,7 @@ pub record GoodAt (s : List ℕ) (i c j : ℕ) : Type 0 where
 
 char-case : (s : List ℕ) (i : ℕ) (x : Char) → charAt s i ≡ x → (t u : Bool) → starts (getD s i 0) (drop (suc i) s) ≡ t
     → xmlChar (scalar (lead (getD s i 0) .more) (getD s i 0) (drop (suc i) s)) ≡ u
-    → pickChar t (pickChar u (Good (scalar (lead (getD s i 0) .more) (getD s i 0) (drop (suc i) s)) (suc i + lead (getD s i 0) .more)) Outside) Ill ≡ x
+    → cond t (cond u (Good (scalar (lead (getD s i 0) .more) (getD s i 0) (drop (suc i) s)) (suc i + lead (getD s i 0) .more)) Outside) Ill ≡ x
 unfolding charAt
 char-case s i x h t u p q = rw (← p, ← q) (rw (add-one i) at h)
 
@@ -249,19 +274,19 @@ reached-next s i n c j l r h =
       count = rw (length-append, r .count);
     }
 
-one-unit : (c : ℕ) → c ≤ 65535 → length (unitsOf c) ≡ 1
+pub one-is : (c : ℕ) → c ≤ 65535 → unitsOf c ≡ c ∷ []
 unfolding unitsOf
-one-unit c h = rw (le-leb c 65535 h)
+one-is c h = rw (le-leb c 65535 h)
 
-two-units : (c : ℕ) → 65535 < c → length (unitsOf c) ≡ 2
+pub two-are : (c : ℕ) → 65535 < c → unitsOf c ≡ (55296 + (c - 65536) / 1024) ∷ (56320 + (c - 65536) % 1024) ∷ []
 unfolding unitsOf
-two-units c h = rw (lt-leb c 65535 h)
+two-are c h = rw (lt-leb c 65535 h)
 
 pub reached-one : (s : List ℕ) (i n c j : ℕ) → i < length s → Reached s i n → charAt s i ≡ Good c j → c ≤ 65535 → Reached s j (n + 1)
-reached-one s i n c j l r h k = rw (one-unit c k) at (reached-next s i n c j l r h)
+reached-one s i n c j l r h k = rw (one-is c k) at (reached-next s i n c j l r h)
 
 pub reached-two : (s : List ℕ) (i n c j : ℕ) → i < length s → Reached s i n → charAt s i ≡ Good c j → 65535 < c → Reached s j (n + 2)
-reached-two s i n c j l r h k = rw (two-units c k) at (reached-next s i n c j l r h)
+reached-two s i n c j l r h k = rw (two-are c k) at (reached-next s i n c j l r h)
 
 pub reached-ill : (s : List ℕ) (i n : ℕ) → i < length s → Reached s i n → charAt s i ≡ Ill → Refused 2 i ≡ counted (decode 0 0 s)
 reached-ill s i n l r h = ap counted (sym (ap (λ (o : Outcome (List ℕ)). onto (r .us) o) (decode-ill s i l (char-is-ill s i h))) ∙ r .so-far)

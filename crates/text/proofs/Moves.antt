@@ -2,26 +2,25 @@
 -- Assumes nothing.
 use Prim.Native.Nat.{ℕ, zero, suc, _+_, _-_, _/_, _%_, _≤_, _<_}
 use native.Mathlib.Omega.{arith}
-use native.Mathlib.Nat.{not-suc-le-zero}
-use mathlib.Core.Path.{_≡_, refl, sym, _∙_, ap, subst}
-use mathlib.Core.Bool.{Bool, true, false, not}
+use mathlib.Core.Path.{_≡_, refl, sym, _∙_, ap}
+use mathlib.Core.Bool.{true}
 use mathlib.Core.List.{List, [], _∷_, _++_}
-use borrow.Author.Tests.{le-leb, lt-leb, leb-true}
+use borrow.Author.Tests.{le-leb}
 use lib.Dec.{leb, leb·zero, leb·suc-suc, leb·suc-zero}
-use lib.ListN.{length, getD, drop}
-use Rattle.label.specs.Outcome.{Outcome, ok, no, _>>=_}
-use Rattle.label.specs.Text.{within, xmlChar, isLow, unitsOf, decode}
+use lib.ListN.{length, drop}
+use Rattle.label.specs.Outcome.{ok}
+use Rattle.label.specs.Text.{xmlChar, isLow, unitsOf, decode}
 use Rattle.text.specs.Chars.{charAt}
 use Rattle.label.specs.Run.{whole}
 use Rattle.text.specs.Moves.{unitsFrom, Moves}
 use Rattle.text.specs.declared.Char.the-variants.{Good, Ill, Outside}
 use Rattle.text.specs.declared.Moved.the-variants.{To, Past, Half}
-use Rattle.label.proofs.Basics.{clash, cases, bind-ok, no-ok}
+use Rattle.label.proofs.Basics.{bind-ok, no-ok}
 use Rattle.label.proofs.Walks.{ok-path}
-use Rattle.label.proofs.Texts.{proper-first, within-is, xml-range}
+use Rattle.label.proofs.Texts.{proper-first, within-is}
 use Rattle.label.proofs.Sounds.{decode-proper}
 use Rattle.label.proofs.Cursors.{onto, decode-good, decode-ill, decode-outside, decode-end}
-use Rattle.text.proofs.Chars.{GoodAt, char-is-good, char-is-ill, char-is-outside}
+use Rattle.text.proofs.Chars.{GoodAt, one-is, two-are, char-is-good, char-is-ill, char-is-outside}
 
 -- what is left: at byte b the units r, of which a are still to pass
 pub record Left (s : List ℕ) (at count b a : ℕ) : Type 0 where
@@ -34,27 +33,20 @@ pub record Left (s : List ℕ) (at count b a : ℕ) : Type 0 where
 pub left-start : (s : List ℕ) (at count : ℕ) → decode 0 at (drop at s) ≡ ok (unitsFrom s at) → Left s at count at count
 left-start s at count h = record { r = unitsFrom s at; here = h; same-fit = refl; same-whole = refl; same-rest = refl }
 
-record Here (s : List ℕ) (b c j : ℕ) (r : List ℕ) : Type 0 where
-  others : List ℕ
-  next : decode 0 j (drop j s) ≡ ok others
-  is : unitsOf c ++ others ≡ r
-  xml : xmlChar c ≡ true
+-- the character at b, and what is left behind it
+pub record Here (s : List ℕ) (b c j : ℕ) (r : List ℕ) : Type 0 where
+  pub others : List ℕ
+  pub next : decode 0 j (drop j s) ≡ ok others
+  pub is : unitsOf c ++ others ≡ r
+  pub xml : xmlChar c ≡ true
 
-here-good : (s : List ℕ) (b c j : ℕ) (r : List ℕ) → decode 0 b (drop b s) ≡ ok r → b < length s → charAt s b ≡ Good c j → Here s b c j r
+pub here-good : (s : List ℕ) (b c j : ℕ) (r : List ℕ) → decode 0 b (drop b s) ≡ ok r → b < length s → charAt s b ≡ Good c j → Here s b c j r
 here-good s b c j r h l g =
     let x : GoodAt s b c j = char-is-good s b c j g in
     let d : decode 0 b (drop b s) ≡ onto (unitsOf c) (decode 0 j (drop j s)) =
     rw (x .code, x .next) (decode-good s b l (x .start) (rw (x .code) at (x .xml))) in
     let (q, p, e) = bind-ok (decode 0 j (drop j s)) _ r (sym d ∙ h) in
     record { others = q; next = p; is = ok-path (unitsOf c ++ q) r e; xml = x .xml }
-
-one-is : (c : ℕ) → c ≤ 65535 → unitsOf c ≡ c ∷ []
-unfolding unitsOf
-one-is c h = rw (le-leb c 65535 h)
-
-two-are : (c : ℕ) → 65535 < c → unitsOf c ≡ (55296 + (c - 65536) / 1024) ∷ (56320 + (c - 65536) % 1024) ∷ []
-unfolding unitsOf
-two-are c h = rw (lt-leb c 65535 h)
 
 past-one : (a u : ℕ) (q r : List ℕ) → u ∷ q ≡ r
     → (leb (suc a) (length r) ≡ leb (suc a - 1) (length q)) × (whole (suc a) r ≡ whole (suc a - 1) q) × (drop (suc a) r ≡ drop (suc a - 1) q)
@@ -116,10 +108,17 @@ left-done s at count b a x n = (
   x .here ∙ ap ok (sym (x .same-rest ∙ rw n)),
 )
 
+-- in a text without a fault there is a character at each place that is reached
+pub no-ill : {A : Type 0} (s : List ℕ) (b : ℕ) (r : List ℕ) → decode 0 b (drop b s) ≡ ok r → b < length s → charAt s b ≡ Ill → A
+no-ill s b r h l g = no-ok 2 b r (sym (decode-ill s b l (char-is-ill s b g)) ∙ h)
+
+pub no-outside : {A : Type 0} (s : List ℕ) (b : ℕ) (r : List ℕ) → decode 0 b (drop b s) ≡ ok r → b < length s → charAt s b ≡ Outside → A
+no-outside s b r h l g =
+    let (p, q) = char-is-outside s b g in
+    no-ok 3 b r (sym (decode-outside s b l p q) ∙ h)
+
 pub left-no-ill : {A : Type 0} (s : List ℕ) (at count b a : ℕ) → Left s at count b a → b < length s → charAt s b ≡ Ill → A
-left-no-ill s at count b a x l g = no-ok 2 b (x .r) (sym (decode-ill s b l (char-is-ill s b g)) ∙ x .here)
+left-no-ill s at count b a x l g = no-ill s b (x .r) (x .here) l g
 
 pub left-no-outside : {A : Type 0} (s : List ℕ) (at count b a : ℕ) → Left s at count b a → b < length s → charAt s b ≡ Outside → A
-left-no-outside s at count b a x l g =
-    let (p, q) = char-is-outside s b g in
-    no-ok 3 b (x .r) (sym (decode-outside s b l p q) ∙ x .here)
+left-no-outside s at count b a x l g = no-outside s b (x .r) (x .here) l g

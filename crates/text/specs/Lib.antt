@@ -1,3 +1,4 @@
 pub mod Chars
 pub mod Moves
 pub mod Units
+pub mod Texts

@@ -1,8 +1,10 @@
--- The test of a run's units, as the code takes it: one unit at a time.
+-- A run's units one at a time, as the code takes them: the test of each, and how many bytes stand for it.
 -- Assumes nothing.
 use Prim.Native.Nat.{ℕ}
 use mathlib.Core.Bool.{Bool, false, cond, _||_}
-use Rattle.label.specs.Text.{isHigh, isLow, xmlChar}
+use mathlib.Core.List.{List}
+use lib.Dec.{leb}
+use Rattle.label.specs.Text.{isHigh, isLow, xmlChar, braced}
 
 -- a unit may stand here; `half`: the unit before is a high half
 unfoldable pub unitOk : Bool → ℕ → Bool
@@ -11,3 +13,11 @@ unitOk half u = cond half (isLow u) (isHigh u || xmlChar u)
 -- whether the unit behind it has to be a low half
 unfoldable pub nextHalf : Bool → ℕ → Bool
 nextHalf half u = cond half false (isHigh u)
+
+-- how many bytes stand for a unit: those of a pair at its high half
+unfoldable pub unitLength : ℕ → ℕ
+unitLength u = cond (leb u 127) 1 (cond (leb u 2047) 2 (cond (isHigh u) 4 (cond (isLow u) 0 3)))
+
+-- how many bytes `{}` has before the units
+unfoldable pub markLength : List ℕ → ℕ
+markLength us = cond (braced us) 2 0

@@ -1,15 +1,23 @@
-// UTF-8 text to code units: the rows of Unicode's Table 3-7, XML 1.0's Char, and the moves over a text that the reader makes.
+// The text of a label: UTF-8 by the rows of Unicode's Table 3-7 to code units and back, XML 1.0's Char, and the moves over a text that the reader makes.
 ghost use mathlib.Core.Path.{_≡_};
-ghost use mathlib.Core.Bool.{true, false};
-ghost use Prim.Native.Nat.{ℕ, _+_, _-_, _*_, _^_, _≤_, _<_};
-ghost use lib.ListN.{length, getD, take, drop};
+ghost use mathlib.Core.Bool.{true, false, cond};
+ghost use Prim.Native.Nat.{_+_, _-_, _*_, _/_, _%_, _≤_, _<_};
+ghost use lib.ListN.{length, getD, drop};
+ghost use lib.Seq.{sets};
+ghost use Rattle.label.specs.Limits.{maxTextBytes};
 ghost use Rattle.label.specs.Outcome.{ok};
-ghost use Rattle.label.specs.Text.{within, lead, trail, starts, scalar, xmlChar, isHigh, isLow, decode};
-ghost use Rattle.text.specs.Chars.{charAt, counted};
-ghost use Rattle.text.specs.Moves.{unitsFrom, Moves};
-ghost use Rattle.text.specs.Units.{unitOk, nextHalf};
+ghost use Rattle.label.specs.Text.{within, lead, trail, scalar, xmlChar, isHigh, isLow, unitsOf, decode};
 ghost use Rattle.label.specs.Sound.{properUnits};
+ghost use Rattle.label.specs.Write.{utf8, paired, unitBytes, unitsBytes, textOf};
+ghost use Rattle.label.specs.Calls.{filled};
+ghost use Rattle.words.specs.Puts.{Put};
+ghost use Rattle.text.specs.Chars.{charAt, counted};
+ghost use Rattle.text.specs.Texts.{unitsWithin, textRead};
+ghost use Rattle.text.specs.Moves.{unitsFrom, Moves};
+ghost use Rattle.text.specs.Units.{unitOk, nextHalf, unitLength, markLength};
 use label::Row;
+
+// ── units and bytes ──
 
 // A high half or a low half of a pair.
 pub fn is_high(u: u16) -> bool
@@ -31,6 +39,15 @@ pub fn unit_or_zero(us: &[u16], i: usize) -> u16
     if i < us.len() { us[i] } else { 0 }
 }
 
+// A byte, or 0 past the end.
+fn byte_or_zero(s: &[u8], i: usize) -> u8
+    ensures { λ r. ⌜ r ≡ getD (now (s .entry)) i 0 ⌝ }
+{
+    if i < s.len() { s[i] } else { 0 }
+}
+
+// ── Table 3-7 ──
+
 // lo <= b <= hi
 fn is_within(lo: u8, hi: u8, b: u8) -> bool
     ensures { λ r. ⌜ r ≡ within lo hi b ⌝ }
@@ -50,7 +67,7 @@ fn row(more: usize, lo: u8, hi: u8) -> Row
 }
 
 // The row of Table 3-7 that a first byte chooses: nine rows, in the table's order.
-pub fn row_of(b: u8) -> Row
+fn row_of(b: u8) -> Row
     ensures { λ r. ⌜ r ≡ lead b ⌝ }
 {
     if is_within(0, 0x7f, b) {
@@ -89,7 +106,7 @@ pub fn row_of(b: u8) -> Row
 }
 
 // The n bytes from `at` on are there, the first from lo to hi, the others from 128 to 191.
-pub fn follows(s: &[u8], at: usize, n: usize, lo: u8, hi: u8) -> bool
+fn follows(s: &[u8], at: usize, n: usize, lo: u8, hi: u8) -> bool
     requires { ⌜ at ≤ length (now s) ⌝ }
     ensures { λ r. ⌜ r ≡ trail n lo hi (drop at (now (s .entry))) ⌝ }
 {
@@ -115,73 +132,86 @@ pub fn follows(s: &[u8], at: usize, n: usize, lo: u8, hi: u8) -> bool
     true
 }
 
+// ── characters ──
+
+// A character and the place behind it; or no well-formed one; or one that may not stand.
 pub enum Char {
     Good { code: u32, next: usize },
     Ill,
     Outside,
 }
 
-fn wide(b: u8) -> u32
-    ensures { λ r. ⌜ r ≡ b ⌝ }
-{
-    b as u32
-}
-
 // XML 1.0's Char.
 pub fn is_xml(c: u32) -> bool
     ensures { λ r. ⌜ r ≡ xmlChar c ⌝ }
 {
-    if c == 9 {
+    if c < 0x20 {
+        return words::either(words::either(c == 9, c == 10), c == 13);
+    }
+    if c <= 0xd7ff {
         return true;
     }
-    if c == 10 {
-        return true;
-    }
-    if c == 13 {
-        return true;
-    }
-    if c < 32 {
+    if c < 0xe000 {
         return false;
     }
-    if c <= 55295 {
+    if c <= 0xfffd {
         return true;
     }
-    if c < 57344 {
+    if c < 0x10000 {
         return false;
     }
-    if c <= 65533 {
-        return true;
-    }
-    if c < 65536 {
-        return false;
-    }
-    c <= 1114111
+    c <= 0x10ffff
 }
 
-// The number of the character at `at`, which has `more` bytes after its first.
-pub fn scalar_at(s: &[u8], at: usize, more: usize) -> u32
+// Six more bits, those of a byte after the first.
+fn with_six(c: u32, b: u8) -> u32
+    requires { ⌜ c < 32768 ⌝ }
+    ensures { λ r. ⌜ r ≡ c * 64 + b % 64 ⌝ }
+{
+    (c << 6) | (b as u32 & 0x3f)
+}
+
+// The number of the character at `at`, which has `more` bytes after its first, from the bytes' bits.
+fn scalar_at(s: &[u8], at: usize, more: usize) -> u32
     requires { ⌜ at + more < length (now s) ⌝ }
     ensures { λ r. ⌜ r ≡ scalar more (getD (now (s .entry)) at 0) (drop (at + 1) (now (s .entry))) ⌝ }
 {
+    let b = words::wide(s[at]);
     if more == 0 {
-        return wide(s[at]);
+        return b;
     }
     if more == 1 {
-        return wide(s[at]) % 32 * 64 + wide(s[at + 1]) % 64;
+        return with_six(b & 0x1f, s[at + 1]);
     }
     if more == 2 {
-        return wide(s[at]) % 16 * 4096 + wide(s[at + 1]) % 64 * 64 + wide(s[at + 2]) % 64;
+        let c = with_six(b & 0x0f, s[at + 1]);
+        return with_six(c, s[at + 2]);
     }
-    wide(s[at]) % 8 * 262144
-        + wide(s[at + 1]) % 64 * 4096
-        + wide(s[at + 2]) % 64 * 64
-        + wide(s[at + 3]) % 64
+    let c = with_six(b & 0x07, s[at + 1]);
+    let d = with_six(c, s[at + 2]);
+    with_six(d, s[at + 3])
 }
 
+// A character of one byte, in front of place `next`.
+fn one_byte(b: u8, next: usize) -> Char
+    ensures { λ r. ⌜ r ≡ cond (xmlChar b) (Char.Good b next) Char.Outside ⌝ }
+{
+    let code = b as u32;
+    if is_xml(code) {
+        Char::Good { code, next }
+    } else {
+        Char::Outside
+    }
+}
+
+// The character at `at`, where it is well-formed and may stand, and the place behind it.
 pub fn char_at(s: &[u8], at: usize) -> Char
     requires { ⌜ at < length (now s) ⌝ }
     ensures { λ r. ⌜ r ≡ charAt (now (s .entry)) at ⌝ }
 {
+    if s[at] < 0x80 {
+        return one_byte(s[at], at + 1);
+    }
     let row = row_of(s[at]);
     let fits = row.fits;
     let more = row.more;
@@ -202,14 +232,17 @@ pub fn char_at(s: &[u8], at: usize) -> Char
     }
 }
 
+// ── a text's units ──
+
+// How many units, or the number and place of a refusal.
 pub enum Counted {
     Units(usize),
     Refused(usize, usize),
 }
 
-// How many units the text has, or 2 or 3 with its place.
-pub fn count_units(s: &[u8]) -> Counted
-    requires { ⌜ length (now s) ≤ 16384 ⌝ }
+// How many units the text has, `{}` included, or 2 or 3 with its place.
+fn count_units(s: &[u8]) -> Counted
+    requires { ⌜ length (now s) ≤ maxTextBytes ⌝ }
     ensures { λ r. ⌜ r ≡ counted (decode 0 0 (now (s .entry))) ⌝ }
 {
     let mut i = 0;
@@ -235,6 +268,114 @@ pub fn count_units(s: &[u8]) -> Counted
     Counted::Units(n)
 }
 
+// The units of a text's run: how many, and the byte where they start, which is behind `{}`.
+pub struct TextUnits {
+    pub count: usize,
+    pub start: usize,
+}
+
+pub enum TextRead {
+    Units(TextUnits),
+    Refused(label::Refusal),
+}
+
+// So many units from that byte on, or 5.
+fn limited(count: usize, start: usize) -> TextRead
+    ensures { λ r. ⌜ r ≡ unitsWithin count start ⌝ }
+{
+    if count <= label::Limits::UNITS {
+        TextRead::Units(TextUnits { count, start })
+    } else {
+        TextRead::Refused(label::Refusal {
+            number: 5,
+            place: 0,
+        })
+    }
+}
+
+// The units of a text's run, or the first refusal of 2 to 5.
+pub fn survey_text(text: &[u8]) -> TextRead
+    requires { ⌜ length (now text) ≤ maxTextBytes ⌝ }
+    ensures { λ r. ⌜ r ≡ textRead (now (text .entry)) ⌝ }
+{
+    match count_units(text) {
+        Counted::Units(n) => {
+            if byte_or_zero(text, 0) != 0x7b {
+                return limited(n, 0);
+            }
+            if byte_or_zero(text, 1) != 0x7d {
+                return TextRead::Refused(label::Refusal {
+                    number: 4,
+                    place: 0,
+                });
+            }
+            limited(n - 2, 2)
+        }
+        Counted::Refused(number, place) => TextRead::Refused(label::Refusal { number, place }),
+    }
+}
+
+// ── storing a text's units ──
+
+// The halves of a pair: the high ten bits of what the character is above U+FFFF, and the low ten.
+fn high_half(c: u32) -> u16
+    requires { ⌜ (65536 ≤ c) × (c ≤ 1114111) ⌝ }
+    ensures { λ r. ⌜ r ≡ 55296 + (c - 65536) / 1024 ⌝ }
+{
+    let v = c - 0x10000;
+    (v >> 10) as u16 | 0xd800
+}
+
+fn low_half(c: u32) -> u16
+    requires { ⌜ 65536 ≤ c ⌝ }
+    ensures { λ r. ⌜ r ≡ 56320 + (c - 65536) % 1024 ⌝ }
+{
+    let v = c - 0x10000;
+    (v & 0x3ff) as u16 | 0xdc00
+}
+
+// Stores the units of a character from place n on, and returns the place behind them.
+fn put_char(out: &mut [u16], n: usize, c: u32) -> usize
+    requires { ⌜ (c ≤ 1114111) × (n + length (unitsOf c) ≤ length (now out)) ⌝ }
+    ensures { λ r. ⌜ (r ≡ n + length (unitsOf c)) × (now (out .exit) ≡ sets (now (out .entry)) n (unitsOf c)) ⌝ }
+{
+    if c <= 0xffff {
+        out[n] = c as u16;
+        return n + 1;
+    }
+    let m = n + 1;
+    out[n] = high_half(c);
+    out[m] = low_half(c);
+    n + 2
+}
+
+// Stores the units of the text from byte `from` on, where it has no fault, at the start of `out`.
+pub fn fill_units(text: &[u8], from: usize, out: &mut [u16])
+    requires { ⌜ decode 0 from (drop from (now text)) ≡ ok (unitsFrom (now text) from) ⌝ }
+    requires { ⌜ length (unitsFrom (now text) from) ≤ length (now out) ⌝ }
+    ensures { λ _. ⌜ now (out .exit) ≡ filled (unitsFrom (now (text .entry)) from) (now (out .entry)) ⌝ }
+{
+    let mut i = from;
+    let mut n = 0;
+    while i < text.len() {
+        match char_at(text, i) {
+            Char::Good { code, next } => {
+                n = put_char(out, n, code);
+                i = next;
+            }
+            Char::Ill => {
+                return;
+            }
+            Char::Outside => {
+                return;
+            }
+        }
+    }
+}
+
+// ── moves over a text ──
+
+// The byte behind the units passed; or fewer units are left; or they end between the halves of a pair.
 pub enum Moved {
     To(usize),
     Past,
@@ -309,4 +450,137 @@ pub fn proper_units(us: &[u16]) -> bool
         i += 1;
     }
     !half
+}
+
+// ── a run's units in UTF-8 ──
+// Each `put_..` stores its bytes from `at` on and returns the place behind them.
+
+fn tail_byte(c: u32) -> u8
+    ensures { λ r. ⌜ r ≡ 128 + c % 64 ⌝ }
+{
+    (128 + c % 64) as u8
+}
+
+fn put_utf8(out: &mut [u8], at: usize, c: u32) -> usize
+    requires { ⌜ (at < 1152921504606840000) × (c < 2097152) ⌝ }
+    ensures { λ r. ⌜ Put (now (out .entry)) at (utf8 c) r (now (out .exit)) ⌝ }
+    ensures bounds { λ r. ⌜ r ≤ at + 4 ⌝ }
+{
+    if c <= 0x7f {
+        return words::put_byte(out, at, c as u8);
+    }
+    if c <= 0x7ff {
+        let p = words::put_byte(out, at, (192 + c / 64) as u8);
+        return words::put_byte(out, p, tail_byte(c));
+    }
+    if c <= 0xffff {
+        let p = words::put_byte(out, at, (224 + c / 4096) as u8);
+        let q = words::put_byte(out, p, tail_byte(c / 64));
+        return words::put_byte(out, q, tail_byte(c));
+    }
+    let p = words::put_byte(out, at, (240 + c / 262144) as u8);
+    let q = words::put_byte(out, p, tail_byte(c / 4096));
+    let t = words::put_byte(out, q, tail_byte(c / 64));
+    words::put_byte(out, t, tail_byte(c))
+}
+
+// What a low half adds to a pair's number; 0 for a unit below the low halves.
+fn above_low(l: u16) -> u32
+    ensures { λ r. ⌜ (r ≡ l - 56320) × (r < 65536) ⌝ }
+{
+    let n = l as u32;
+    if n < 0xdc00 { 0 } else { n - 0xdc00 }
+}
+
+// The character of a pair.
+fn pair_of(h: u16, l: u16) -> u32
+    requires { ⌜ (55296 ≤ h) × (h ≤ 56319) ⌝ }
+    ensures { λ r. ⌜ (r ≡ paired h l) × (r < 2097152) ⌝ }
+{
+    0x10000 + (h as u32 - 0xd800) * 1024 + above_low(l)
+}
+
+// The bytes of unit i: a pair's stand at its high half.
+fn put_unit(out: &mut [u8], at: usize, us: &[u16], i: usize) -> usize
+    requires { ⌜ (at < 1152921504606840000) × (i < length (now us)) ⌝ }
+    ensures { λ r. ⌜ Put (now (out .entry)) at (unitBytes (getD (now (us .entry)) i 0) (getD (now (us .entry)) (i + 1) 0)) r (now (out .exit)) ⌝ }
+    ensures bounds { λ r. ⌜ r ≤ at + 4 ⌝ }
+{
+    let u = us[i];
+    if is_low(u) {
+        return at;
+    }
+    if is_high(u) {
+        let v = unit_or_zero(us, i + 1);
+        return put_utf8(out, at, pair_of(u, v));
+    }
+    put_utf8(out, at, u as u32)
+}
+
+fn put_units(out: &mut [u8], from: usize, us: &[u16]) -> usize
+    requires { ⌜ (from ≤ 2) × (length (now us) ≤ 1000000000000) ⌝ }
+    ensures { λ r. ⌜ Put (now (out .entry)) from (unitsBytes (now (us .entry))) r (now (out .exit)) ⌝ }
+{
+    let mut at = from;
+    let mut i = 0;
+    while i < us.len() {
+        at = put_unit(out, at, us, i);
+        i += 1;
+    }
+    at
+}
+
+// The text of a run's units.
+pub fn put_text(out: &mut [u8], us: &[u16]) -> usize
+    requires { ⌜ length (now us) ≤ 1000000000000 ⌝ }
+    ensures { λ r. ⌜ Put (now (out .entry)) 0 (textOf (now (us .entry))) r (now (out .exit)) ⌝ }
+{
+    if unit_or_zero(us, 0) == 123 {
+        let p = words::put_byte(out, 0, 123);
+        let q = words::put_byte(out, p, 125);
+        return put_units(out, q, us);
+    }
+    put_units(out, 0, us)
+}
+
+// How many bytes stand for a unit: those of a pair at its high half.
+fn unit_length(u: u16) -> usize
+    ensures { λ r. ⌜ r ≡ unitLength u ⌝ }
+    ensures bounds { λ r. ⌜ r ≤ 4 ⌝ }
+{
+    if u <= 0x7f {
+        return 1;
+    }
+    if u <= 0x7ff {
+        return 2;
+    }
+    if is_high(u) {
+        return 4;
+    }
+    if is_low(u) {
+        return 0;
+    }
+    3
+}
+
+// The bytes of `{}`, where the text of these units begins with it.
+fn mark_length(us: &[u16]) -> usize
+    ensures { λ r. ⌜ r ≡ markLength (now (us .entry)) ⌝ }
+    ensures bounds { λ r. ⌜ r ≤ 2 ⌝ }
+{
+    if unit_or_zero(us, 0) == 123 { 2 } else { 0 }
+}
+
+// How many bytes the text of a run has.
+pub fn text_length(us: &[u16]) -> usize
+    requires { ⌜ length (now us) ≤ 1000000000000 ⌝ }
+    ensures { λ r. ⌜ r ≡ length (textOf (now (us .entry))) ⌝ }
+{
+    let mut n = mark_length(us);
+    let mut i = 0;
+    while i < us.len() {
+        n += unit_length(us[i]);
+        i += 1;
+    }
+    n
 }

@@ -32,7 +32,7 @@ pub then : {l m n x y : List ℕ} {at p q : ℕ} → Put l at x p m → Put m p 
 then {l} {m} {n} {x} {y} {at} {p} {q} f g =
     record {
       behind = let a = f .behind in let b = g .behind in simp length-append (omega arith);
-      is = g .is ∙ rw (f .behind, f .is) (puts-append l at x y)
+      is = g .is ∙ rw (f .behind, f .is) (puts-append l at x y);
     }
 
 -- the same bytes by another name
@@ -76,7 +76,7 @@ left-next {old} {whole} {l} {n} {x} {r} {from} {at} {p} f g =
     record {
       count = let a = g .behind in omega (arith, f .count, length-append x r);
       gives = rw (g .behind, g .is) (puts-append l at x r ∙ f .gives);
-      same = ap length (g .is) ∙ puts-length l at x ∙ f .same
+      same = ap length (g .is) ∙ puts-length l at x ∙ f .same;
     }
 
 pub left-end : {old whole l : List ℕ} {from at : ℕ} → Left old whole l from at [] → Put old from whole at l

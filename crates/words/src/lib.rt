@@ -105,11 +105,7 @@ pub fn nat_at(s: &[i32], k: usize) -> u32
     requires { ⌜ k < length (now s) ⌝ }
     ensures { λ r. ⌜ r ≡ nat (place (now (s .entry)) k) ⌝ }
 {
-    if natural_at(s, k) {
-        size_at(s, k)
-    } else {
-        0
-    }
+    if natural_at(s, k) { size_at(s, k) } else { 0 }
 }
 
 // ── bytes, low byte first ──

@@ -1,11 +1,7 @@
-use borrow.Author.Tests.{not-true, not-false}
-use Prim.Native.Nat.{_+_}
+use Rattle.text.proofs.Chars.{char-one, char-unfit, char-cut, char-good, char-outside, trail-fits}
 use native.Mathlib.Omega.{arith}
-use mathlib.Core.Bool.{true}
-use Rattle.label.specs.Text.{trail}
-use mathlib.Core.Path.{_≡_, sym, _∙_}
-use lib.ListN.{getD, drop, length, length-drop}
-use Rattle.text.proofs.Chars.{char-unfit, char-cut, char-good, char-outside, trail-inside}
+use borrow.Author.Tests.{not-true, not-false}
+use mathlib.Core.Path.{sym, _∙_}
 use borrow.Author.Needs.{needs}
 use Rattle.text.proofs.char_at.Statement.{statement}
 use Rattle.text.proofs.char_at.Tie as tie
@@ -13,8 +9,24 @@ use Rattle.text.proofs.char_at.Reads as reads
 use Rattle.text.proofs.char_at.Lts as lts
 use Rattle.text.proofs.follows.Reads as follows-reads
 use Rattle.text.proofs.is_xml.Reads as is-xml-reads
+use Rattle.text.proofs.one_byte.Reads as one-byte-reads
 use Rattle.text.proofs.row_of.Reads as row-of-reads
 use Rattle.text.proofs.scalar_at.Reads as scalar-at-reads
+
+shared-slice-read-if1 : tie.Need-shared-slice-read-if1
+shared-slice-read-if1 c = search needs
+
+shared-slice-read-one-byte : tie.Need-shared-slice-read-one-byte
+shared-slice-read-one-byte c = search needs
+
+add-one-byte : tie.Need-add-one-byte
+add-one-byte c = search needs
+
+one-byte-requires : tie.Need-one-byte-requires
+one-byte-requires c κs = search needs
+
+returns : tie.Need-returns
+returns c = char-one (c .before .before .before .before .before .args .s .now) (c .before .before .before .before .before .args .at) (c .one-byte .ensures) (c .before .before .if1 .taken)
 
 shared-slice-read-row-of : tie.Need-shared-slice-read-row-of
 shared-slice-read-row-of c = search needs
@@ -22,8 +34,8 @@ shared-slice-read-row-of c = search needs
 row-of-requires : tie.Need-row-of-requires
 row-of-requires c κs = search needs
 
-returns : tie.Need-returns
-returns c = let a = c .before .before .before .before .args in char-unfit (a .s .now) (a .at) (c .before .row-of .result) (c .before .row-of .ensures) (not-true _ (c .if1 .taken))
+returns-2 : tie.Need-returns-2
+returns-2 c = char-unfit (c .before .before .before .before .before .before .args .s .now) (c .before .before .before .before .before .before .args .at) (c .before .row-of .result) (c .before .row-of .ensures) (not-true _ (c .if2 .taken))
 
 add-follows : tie.Need-add-follows
 add-follows c = search needs
@@ -31,48 +43,51 @@ add-follows c = search needs
 follows-requires : tie.Need-follows-requires
 follows-requires c κs = search needs
 
-returns-2 : tie.Need-returns-2
-returns-2 c = let a = c .before .before .before .before .before .before .args in char-cut (a .s .now) (a .at) (c .before .before .before .row-of .result) (c .before .before .before .row-of .ensures) (sym (c .before .follows .ensures) ∙ not-true _ (c .if2 .taken))
+returns-3 : tie.Need-returns-3
+returns-3 c = char-cut (c .before .before .before .before .before .before .before .before .args .s .now) (c .before .before .before .before .before .before .before .before .args .at) (c .before .before .before .row-of .result) (c .before .before .before .row-of .ensures) (sym (c .before .follows .ensures) ∙ not-true _ (c .if3 .taken))
 
 scalar-at-requires : tie.Need-scalar-at-requires
-scalar-at-requires c κs =
-    let a = c .before .before .before .before .before .before .args in
-    let r = c .before .before .before .row-of .result in
-    let t : trail (r .more) (r .lo) (r .hi) (drop (a .at + 1) (a .s .now)) ≡ true = sym (c .before .follows .ensures) ∙ not-false _ (c .if2 .left) in
-    omega (arith, rw length-drop at (trail-inside (r .more) (r .lo) (r .hi) (drop (a .at + 1) (a .s .now)) t))
+scalar-at-requires c κs = omega (arith, trail-fits (c .before .before .before .before .before .before .before .before .args .s .now) (c .before .before .before .before .before .before .before .before .args .at) _ _ _ (c .before .before .before .before .before .before .before .before .pre) (sym (c .before .follows .ensures) ∙ not-false _ (c .if3 .left)))
 
 is-xml-requires : tie.Need-is-xml-requires
 is-xml-requires c κs = search needs
 
-add-t14 : tie.Need-add-t14
-add-t14 c = search needs
+add-t18 : tie.Need-add-t18
+add-t18 c = search needs
 
-add-t15 : tie.Need-add-t15
-add-t15 c =
-    let a = c .before .before .before .before .before .before .before .before .before .args in
-    let r = c .before .before .before .before .before .before .row-of .result in
-    let t : trail (r .more) (r .lo) (r .hi) (drop (a .at + 1) (a .s .now)) ≡ true = sym (c .before .before .before .before .follows .ensures) ∙ not-false _ (c .before .before .before .if2 .left) in
-    omega (arith, rw length-drop at (trail-inside (r .more) (r .lo) (r .hi) (drop (a .at + 1) (a .s .now)) t))
-
-returns-3 : tie.Need-returns-3
-returns-3 c = let a = c .before .before .before .before .before .before .before .before .before .args in char-good (a .s .now) (a .at) (c .before .before .before .before .before .before .row-of .result) (c .before .before .before .before .before .before .row-of .ensures) (c .before .before .scalar-at .result) (not-false _ (c .before .before .before .before .before .if1 .left)) (sym (c .before .before .before .before .follows .ensures) ∙ not-false _ (c .before .before .before .if2 .left)) (c .before .before .scalar-at .ensures) (sym (c .before .is-xml .ensures) ∙ c .if3 .taken)
+add-t19 : tie.Need-add-t19
+add-t19 c = omega (arith, trail-fits (c .before .before .before .before .before .before .before .before .before .before .before .args .s .now) (c .before .before .before .before .before .before .before .before .before .before .before .args .at) _ _ _ (c .before .before .before .before .before .before .before .before .before .before .before .pre) (sym (c .before .before .before .before .follows .ensures) ∙ not-false _ (c .before .before .before .if3 .left)))
 
 returns-4 : tie.Need-returns-4
-returns-4 c = let a = c .before .before .before .before .before .before .before .before .before .args in char-outside (a .s .now) (a .at) (c .before .before .before .before .before .before .row-of .result) (c .before .before .before .before .before .before .row-of .ensures) (c .before .before .scalar-at .result) (not-false _ (c .before .before .before .before .before .if1 .left)) (sym (c .before .before .before .before .follows .ensures) ∙ not-false _ (c .before .before .before .if2 .left)) (c .before .before .scalar-at .ensures) (sym (c .before .is-xml .ensures) ∙ c .if3 .left)
+returns-4 c =
+    let a = c .before .before .before .before .before .before .before .before .before .before .before .args in
+    let r = c .before .before .before .before .before .before .row-of in
+    char-good (a .s .now) (a .at) (r .result) (r .ensures) (c .before .before .scalar-at .result) (not-false _ (c .before .before .before .before .before .if2 .left)) (sym (c .before .before .before .before .follows .ensures) ∙ not-false _ (c .before .before .before .if3 .left)) (c .before .before .scalar-at .ensures) (sym (c .before .is-xml .ensures) ∙ c .if4 .taken)
+
+returns-5 : tie.Need-returns-5
+returns-5 c =
+    let a = c .before .before .before .before .before .before .before .before .before .before .before .args in
+    let r = c .before .before .before .before .before .before .row-of in
+    char-outside (a .s .now) (a .at) (r .result) (r .ensures) (c .before .before .scalar-at .result) (not-false _ (c .before .before .before .before .before .if2 .left)) (sym (c .before .before .before .before .follows .ensures) ∙ not-false _ (c .before .before .before .if3 .left)) (c .before .before .scalar-at .ensures) (sym (c .before .is-xml .ensures) ∙ c .if4 .left)
 
 pub char-at-spec : {M : Type 1} → statement M
 char-at-spec =
     tie.close
     (tie.spec
+    shared-slice-read-if1
+    shared-slice-read-one-byte
+    add-one-byte
+    one-byte-requires
+    returns
     shared-slice-read-row-of
     row-of-requires
-    returns
+    returns-2
     add-follows
     follows-requires
-    returns-2
+    returns-3
     scalar-at-requires
     is-xml-requires
-    add-t14
-    add-t15
-    returns-3
-    returns-4)
+    add-t18
+    add-t19
+    returns-4
+    returns-5)

@@ -1,6 +1,6 @@
 use Rattle.text.specs.Chars.{charAt}
 use Rattle.text.specs.declared.Char.the-variants.{Good, Ill, Outside}
-use Prim.Native.Nat.{ℕ, _≤_, _<_, _-_, _+_, _*_}
+use Prim.Native.Nat.{_≤_, _-_, _*_}
 use native.Mathlib.Omega.{arith}
 use mathlib.Core.Path.{_≡_, sym, _∙_}
 use borrow.Author.Needs.{needs}

@@ -1,10 +1,7 @@
--- `label::follows` meets its contract: the definition at the cursor is the definition at the start.
--- Assumes nothing.
-use Prim.Native.Nat.{ℕ, _≤_, _<_, _-_, _+_}
-use native.Mathlib.Omega.{arith}
-use mathlib.Core.Path.{_≡_, refl, ap, _∙_, sym}
+use Prim.Native.Nat.{_≤_}
+use mathlib.Core.Path.{_≡_, _∙_, sym}
 use borrow.Author.Needs.{needs}
-use lib.ListN.{length, getD, drop}
+use lib.ListN.{length, drop}
 use Rattle.label.specs.Text.{trail}
 use Rattle.text.proofs.Chars.{trail-done, trail-short, trail-low, trail-high, trail-next}
 use Rattle.text.proofs.follows.Statement.{statement}

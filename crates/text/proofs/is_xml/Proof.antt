@@ -1,48 +1,45 @@
+use Rattle.text.proofs.Chars.{xml-low, xml-mid, xml-gap, xml-plane, xml-non, xml-high}
 use mathlib.Core.Path.{sym}
 use borrow.Author.Needs.{needs}
-use Rattle.text.proofs.Chars.{xml-nine, xml-ten, xml-thirteen, xml-low, xml-mid, xml-gap, xml-plane, xml-non, xml-high}
 use Rattle.text.proofs.is_xml.Statement.{statement}
 use Rattle.text.proofs.is_xml.Tie as tie
 use Rattle.text.proofs.is_xml.Reads as reads
 use Rattle.text.proofs.is_xml.Lts as lts
+use Rattle.words.proofs.either.Reads as either-reads
+
+either-requires : tie.Need-either-requires
+either-requires c κs = search needs
+
+either-requires-2 : tie.Need-either-requires-2
+either-requires-2 c κs = search needs
 
 returns : tie.Need-returns
-returns c = let a = c .before .args .c in sym (xml-nine a (search needs))
+returns c = rw (c .either2 .ensures, c .before .either .ensures) (sym (xml-low (c .before .before .before .args .c) (c .before .before .if1 .taken)))
 
 returns-2 : tie.Need-returns-2
-returns-2 c = let a = c .before .before .args .c in sym (xml-ten a (search needs))
+returns-2 c = sym (xml-mid (c .before .before .args .c) (c .before .if1 .left) (c .if2 .taken))
 
 returns-3 : tie.Need-returns-3
-returns-3 c = let a = c .before .before .before .args .c in sym (xml-thirteen a (search needs))
+returns-3 c = sym (xml-gap (c .before .before .before .args .c) (c .before .before .if1 .left) (c .before .if2 .left) (c .if3 .taken))
 
 returns-4 : tie.Need-returns-4
-returns-4 c = let a = c .before .before .before .before .args .c in sym (xml-low a (search needs) (search needs) (search needs) (search needs))
+returns-4 c = sym (xml-plane (c .before .before .before .before .args .c) (c .before .before .before .if1 .left) (c .before .if3 .left) (c .if4 .taken))
 
 returns-5 : tie.Need-returns-5
-returns-5 c = let a = c .before .before .before .before .before .args .c in sym (xml-mid a (search needs) (search needs))
+returns-5 c = sym (xml-non (c .before .before .before .before .before .args .c) (c .before .before .before .before .if1 .left) (c .before .if4 .left) (c .if5 .taken))
 
 returns-6 : tie.Need-returns-6
-returns-6 c = let a = c .before .before .before .before .before .before .args .c in sym (xml-gap a (search needs) (search needs) (search needs))
-
-returns-7 : tie.Need-returns-7
-returns-7 c = let a = c .before .before .before .before .before .before .before .args .c in sym (xml-plane a (search needs) (search needs) (search needs))
-
-returns-8 : tie.Need-returns-8
-returns-8 c = let a = c .before .before .before .before .before .before .before .before .args .c in sym (xml-non a (search needs) (search needs) (search needs))
-
-returns-9 : tie.Need-returns-9
-returns-9 c = let a = c .before .before .before .before .before .before .before .before .args .c in sym (xml-high a (search needs) (search needs))
+returns-6 c = sym (xml-high (c .before .before .before .before .before .args .c) (c .before .before .before .before .if1 .left) (c .if5 .left))
 
 pub is-xml-spec : {M : Type 1} → statement M
 is-xml-spec =
     tie.close
     (tie.spec
+    either-requires
+    either-requires-2
     returns
     returns-2
     returns-3
     returns-4
     returns-5
-    returns-6
-    returns-7
-    returns-8
-    returns-9)
+    returns-6)

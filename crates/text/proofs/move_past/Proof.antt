@@ -1,10 +1,10 @@
-use Prim.Native.Nat.{ℕ, _≤_, _<_, _-_, _+_, _*_}
+use Prim.Native.Nat.{_-_}
 use native.Mathlib.Omega.{arith}
-use mathlib.Core.Path.{_≡_, refl, sym, _∙_, ap}
+use mathlib.Core.Path.{_≡_, sym, _∙_}
 use borrow.Author.Needs.{needs}
 use lib.ListN.{length}
 use Rattle.text.specs.Chars.{charAt}
-use Rattle.text.specs.declared.Char.the-variants.{Good, Ill, Outside}
+use Rattle.text.specs.declared.Char.the-variants.{Good}
 use Rattle.text.proofs.Chars.{reached-inside}
 use Rattle.text.proofs.Moves.{Left, left-start, left-one, left-two, left-half, left-past, left-done, left-no-ill, left-no-outside}
 use Rattle.text.proofs.move_past.Statement.{statement}

@@ -1,11 +1,9 @@
-use native.Mathlib.Omega.{arith}
-use lib.ListN.{getD}
 use Rattle.text.proofs.Units.{stops, goes, proper-at, proper-end}
 use mathlib.Core.Bool.{false}
 use Rattle.label.specs.Sound.{properUnits}
 use lib.ListN.{length, drop}
-use mathlib.Core.Path.{_≡_, refl, sym, ap, _∙_}
-use Prim.Native.Nat.{_≤_, _-_, _+_}
+use mathlib.Core.Path.{_≡_, refl, sym, _∙_}
+use Prim.Native.Nat.{_-_}
 use borrow.Author.Needs.{needs}
 use Rattle.text.proofs.proper_units.Statement.{statement}
 use Rattle.text.proofs.proper_units.Tie as tie

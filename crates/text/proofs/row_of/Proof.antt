@@ -1,3 +1,5 @@
+use Rattle.text.proofs.Chars.{by-range}
+use Rattle.label.proofs.Texts.{row-1, row-2, row-3, row-4, row-5, row-6, row-7, row-8, row-9}
 use Rattle.label.specs.Text.{lead}
 use mathlib.Core.Path.{sym, _∙_}
 use borrow.Author.Needs.{needs}
@@ -15,8 +17,7 @@ row-requires : tie.Need-row-requires
 row-requires c κs = search needs
 
 returns : tie.Need-returns
-unfolding lead
-returns c = rw (c .row .ensures, sym (c .before .before .is-within .ensures) ∙ c .before .if1 .taken)
+returns c = c .row .ensures ∙ by-range row-1 _ (c .before .before .is-within .ensures) (c .before .if1 .taken)
 
 is-within-requires-2 : tie.Need-is-within-requires-2
 is-within-requires-2 c κs = search needs
@@ -25,8 +26,7 @@ row-requires-2 : tie.Need-row-requires-2
 row-requires-2 c κs = search needs
 
 returns-2 : tie.Need-returns-2
-unfolding lead
-returns-2 c = rw (c .row2 .ensures, sym (c .before .before .before .before .is-within .ensures) ∙ c .before .before .before .if1 .left, sym (c .before .before .is-within2 .ensures) ∙ c .before .if2 .taken)
+returns-2 c = c .row2 .ensures ∙ by-range row-2 _ (c .before .before .is-within2 .ensures) (c .before .if2 .taken)
 
 is-within-requires-3 : tie.Need-is-within-requires-3
 is-within-requires-3 c κs = search needs
@@ -35,8 +35,7 @@ row-requires-3 : tie.Need-row-requires-3
 row-requires-3 c κs = search needs
 
 returns-3 : tie.Need-returns-3
-unfolding lead
-returns-3 c = rw (c .row3 .ensures, sym (c .before .before .before .before .before .before .is-within .ensures) ∙ c .before .before .before .before .before .if1 .left, sym (c .before .before .before .before .is-within2 .ensures) ∙ c .before .before .before .if2 .left, sym (c .before .before .is-within3 .ensures) ∙ c .before .if3 .taken)
+returns-3 c = c .row3 .ensures ∙ by-range row-3 _ (c .before .before .is-within3 .ensures) (c .before .if3 .taken)
 
 is-within-requires-4 : tie.Need-is-within-requires-4
 is-within-requires-4 c κs = search needs
@@ -45,8 +44,7 @@ row-requires-4 : tie.Need-row-requires-4
 row-requires-4 c κs = search needs
 
 returns-4 : tie.Need-returns-4
-unfolding lead
-returns-4 c = rw (c .row4 .ensures, sym (c .before .before .before .before .before .before .before .before .is-within .ensures) ∙ c .before .before .before .before .before .before .before .if1 .left, sym (c .before .before .before .before .before .before .is-within2 .ensures) ∙ c .before .before .before .before .before .if2 .left, sym (c .before .before .before .before .is-within3 .ensures) ∙ c .before .before .before .if3 .left, sym (c .before .before .is-within4 .ensures) ∙ c .before .if4 .taken)
+returns-4 c = c .row4 .ensures ∙ by-range row-4 _ (c .before .before .is-within4 .ensures) (c .before .if4 .taken)
 
 is-within-requires-5 : tie.Need-is-within-requires-5
 is-within-requires-5 c κs = search needs
@@ -55,8 +53,7 @@ row-requires-5 : tie.Need-row-requires-5
 row-requires-5 c κs = search needs
 
 returns-5 : tie.Need-returns-5
-unfolding lead
-returns-5 c = rw (c .row5 .ensures, sym (c .before .before .before .before .before .before .before .before .before .before .is-within .ensures) ∙ c .before .before .before .before .before .before .before .before .before .if1 .left, sym (c .before .before .before .before .before .before .before .before .is-within2 .ensures) ∙ c .before .before .before .before .before .before .before .if2 .left, sym (c .before .before .before .before .before .before .is-within3 .ensures) ∙ c .before .before .before .before .before .if3 .left, sym (c .before .before .before .before .is-within4 .ensures) ∙ c .before .before .before .if4 .left, sym (c .before .before .is-within5 .ensures) ∙ c .before .if5 .taken)
+returns-5 c = c .row5 .ensures ∙ by-range row-5 _ (c .before .before .is-within5 .ensures) (c .before .if5 .taken)
 
 is-within-requires-6 : tie.Need-is-within-requires-6
 is-within-requires-6 c κs = search needs
@@ -65,8 +62,7 @@ row-requires-6 : tie.Need-row-requires-6
 row-requires-6 c κs = search needs
 
 returns-6 : tie.Need-returns-6
-unfolding lead
-returns-6 c = rw (c .row6 .ensures, sym (c .before .before .before .before .before .before .before .before .before .before .before .before .is-within .ensures) ∙ c .before .before .before .before .before .before .before .before .before .before .before .if1 .left, sym (c .before .before .before .before .before .before .before .before .before .before .is-within2 .ensures) ∙ c .before .before .before .before .before .before .before .before .before .if2 .left, sym (c .before .before .before .before .before .before .before .before .is-within3 .ensures) ∙ c .before .before .before .before .before .before .before .if3 .left, sym (c .before .before .before .before .before .before .is-within4 .ensures) ∙ c .before .before .before .before .before .if4 .left, sym (c .before .before .before .before .is-within5 .ensures) ∙ c .before .before .before .if5 .left, sym (c .before .before .is-within6 .ensures) ∙ c .before .if6 .taken)
+returns-6 c = c .row6 .ensures ∙ by-range row-6 _ (c .before .before .is-within6 .ensures) (c .before .if6 .taken)
 
 is-within-requires-7 : tie.Need-is-within-requires-7
 is-within-requires-7 c κs = search needs
@@ -75,8 +71,7 @@ row-requires-7 : tie.Need-row-requires-7
 row-requires-7 c κs = search needs
 
 returns-7 : tie.Need-returns-7
-unfolding lead
-returns-7 c = rw (c .row7 .ensures, sym (c .before .before .before .before .before .before .before .before .before .before .before .before .before .before .is-within .ensures) ∙ c .before .before .before .before .before .before .before .before .before .before .before .before .before .if1 .left, sym (c .before .before .before .before .before .before .before .before .before .before .before .before .is-within2 .ensures) ∙ c .before .before .before .before .before .before .before .before .before .before .before .if2 .left, sym (c .before .before .before .before .before .before .before .before .before .before .is-within3 .ensures) ∙ c .before .before .before .before .before .before .before .before .before .if3 .left, sym (c .before .before .before .before .before .before .before .before .is-within4 .ensures) ∙ c .before .before .before .before .before .before .before .if4 .left, sym (c .before .before .before .before .before .before .is-within5 .ensures) ∙ c .before .before .before .before .before .if5 .left, sym (c .before .before .before .before .is-within6 .ensures) ∙ c .before .before .before .if6 .left, sym (c .before .before .is-within7 .ensures) ∙ c .before .if7 .taken)
+returns-7 c = c .row7 .ensures ∙ by-range row-7 _ (c .before .before .is-within7 .ensures) (c .before .if7 .taken)
 
 is-within-requires-8 : tie.Need-is-within-requires-8
 is-within-requires-8 c κs = search needs
@@ -85,8 +80,7 @@ row-requires-8 : tie.Need-row-requires-8
 row-requires-8 c κs = search needs
 
 returns-8 : tie.Need-returns-8
-unfolding lead
-returns-8 c = rw (c .row8 .ensures, sym (c .before .before .before .before .before .before .before .before .before .before .before .before .before .before .before .before .is-within .ensures) ∙ c .before .before .before .before .before .before .before .before .before .before .before .before .before .before .before .if1 .left, sym (c .before .before .before .before .before .before .before .before .before .before .before .before .before .before .is-within2 .ensures) ∙ c .before .before .before .before .before .before .before .before .before .before .before .before .before .if2 .left, sym (c .before .before .before .before .before .before .before .before .before .before .before .before .is-within3 .ensures) ∙ c .before .before .before .before .before .before .before .before .before .before .before .if3 .left, sym (c .before .before .before .before .before .before .before .before .before .before .is-within4 .ensures) ∙ c .before .before .before .before .before .before .before .before .before .if4 .left, sym (c .before .before .before .before .before .before .before .before .is-within5 .ensures) ∙ c .before .before .before .before .before .before .before .if5 .left, sym (c .before .before .before .before .before .before .is-within6 .ensures) ∙ c .before .before .before .before .before .if6 .left, sym (c .before .before .before .before .is-within7 .ensures) ∙ c .before .before .before .if7 .left, sym (c .before .before .is-within8 .ensures) ∙ c .before .if8 .taken)
+returns-8 c = c .row8 .ensures ∙ by-range row-8 _ (c .before .before .is-within8 .ensures) (c .before .if8 .taken)
 
 is-within-requires-9 : tie.Need-is-within-requires-9
 is-within-requires-9 c κs = search needs
@@ -95,8 +89,7 @@ row-requires-9 : tie.Need-row-requires-9
 row-requires-9 c κs = search needs
 
 returns-9 : tie.Need-returns-9
-unfolding lead
-returns-9 c = rw (c .row9 .ensures, sym (c .before .before .before .before .before .before .before .before .before .before .before .before .before .before .before .before .before .before .is-within .ensures) ∙ c .before .before .before .before .before .before .before .before .before .before .before .before .before .before .before .before .before .if1 .left, sym (c .before .before .before .before .before .before .before .before .before .before .before .before .before .before .before .before .is-within2 .ensures) ∙ c .before .before .before .before .before .before .before .before .before .before .before .before .before .before .before .if2 .left, sym (c .before .before .before .before .before .before .before .before .before .before .before .before .before .before .is-within3 .ensures) ∙ c .before .before .before .before .before .before .before .before .before .before .before .before .before .if3 .left, sym (c .before .before .before .before .before .before .before .before .before .before .before .before .is-within4 .ensures) ∙ c .before .before .before .before .before .before .before .before .before .before .before .if4 .left, sym (c .before .before .before .before .before .before .before .before .before .before .is-within5 .ensures) ∙ c .before .before .before .before .before .before .before .before .before .if5 .left, sym (c .before .before .before .before .before .before .before .before .is-within6 .ensures) ∙ c .before .before .before .before .before .before .before .if6 .left, sym (c .before .before .before .before .before .before .is-within7 .ensures) ∙ c .before .before .before .before .before .if7 .left, sym (c .before .before .before .before .is-within8 .ensures) ∙ c .before .before .before .if8 .left, sym (c .before .before .is-within9 .ensures) ∙ c .before .if9 .taken)
+returns-9 c = c .row9 .ensures ∙ by-range row-9 _ (c .before .before .is-within9 .ensures) (c .before .if9 .taken)
 
 returns-10 : tie.Need-returns-10
 unfolding lead

@@ -1,0 +1,187 @@
+/* Reading and writing through the C calls beside a plain loop of the kind that viewers use: digits by hand, strtof for the rest, no checks, no clusters
+   tied to the text. Both in one run, best of several rounds; the ratio is what counts. */
+#include <stdio.h>
+#include <stdlib.h>
+#include <string.h>
+#include <time.h>
+#include "../include/glyph_label.h"
+
+#define MAX 4096
+
+static uint8_t units[MAX * 2], clusters[MAX * 8], glyphs[MAX * 16];
+static uint8_t out_text[MAX * 4], out_indices[262144];
+
+/* ── the plain loop ── */
+
+struct plain_glyph { int index; float advance, u, v; };
+
+static unsigned short plain_units[MAX];
+static struct plain_glyph plain_glyphs[MAX];
+static int plain_clusters[2 * MAX];
+
+static int plain_text(const char *s, size_t n)
+{
+    int k = 0;
+    for (size_t i = 0; i < n;) {
+        unsigned char b = (unsigned char)s[i];
+        if (b < 0x80) { plain_units[k++] = b; i += 1; }
+        else if (b < 0xe0) { plain_units[k++] = (unsigned short)((b & 31) << 6 | (s[i + 1] & 63)); i += 2; }
+        else if (b < 0xf0) { plain_units[k++] = (unsigned short)((b & 15) << 12 | (s[i + 1] & 63) << 6 | (s[i + 2] & 63)); i += 3; }
+        else {
+            unsigned c = (unsigned)((b & 7) << 18 | (s[i + 1] & 63) << 12 | (s[i + 2] & 63) << 6 | (s[i + 3] & 63)) - 0x10000;
+            plain_units[k++] = (unsigned short)(0xd800 + (c >> 10));
+            plain_units[k++] = (unsigned short)(0xdc00 + (c & 1023));
+            i += 4;
+        }
+    }
+    return k;
+}
+
+static const char *plain_number(const char *p, int *n)
+{
+    int v = 0;
+    while (*p >= '0' && *p <= '9') v = v * 10 + (*p++ - '0');
+    *n = v;
+    return p;
+}
+
+static const char *plain_field(const char *p, float *out)
+{
+    if (*p == ',') {
+        p++;
+        if (*p != ',' && *p != ';' && *p != 0) { char *e; *out = strtof(p, &e); p = e; }
+    }
+    return p;
+}
+
+static int plain_read(const char *text, size_t text_len, const char *p)
+{
+    plain_text(text, text_len);
+    int g = 0, c = 0;
+    while (*p) {
+        int a = 1, b = 1;
+        if (*p == '(') {
+            p = plain_number(p + 1, &a);
+            if (*p == ':') p = plain_number(p + 1, &b);
+            p++;
+        }
+        struct plain_glyph *x = &plain_glyphs[g++];
+        x->index = -1;
+        x->advance = -1;
+        x->u = x->v = 0;
+        if (*p >= '0' && *p <= '9') p = plain_number(p, &x->index);
+        p = plain_field(p, &x->advance);
+        p = plain_field(p, &x->u);
+        p = plain_field(p, &x->v);
+        plain_clusters[c++] = a;
+        plain_clusters[c++] = b;
+        if (*p == ';') p++;
+    }
+    return g;
+}
+
+static int plain_write(int n)
+{
+    char *p = (char *)out_indices;
+    for (int i = 0; i < n; i++) {
+        struct plain_glyph *x = &plain_glyphs[i];
+        if (i) *p++ = ';';
+        if (plain_clusters[2 * i] != 1 || plain_clusters[2 * i + 1] != 1) p += sprintf(p, "(%d:%d)", plain_clusters[2 * i], plain_clusters[2 * i + 1]);
+        p += sprintf(p, "%d", x->index);
+        if (x->advance >= 0) p += sprintf(p, ",%g", x->advance);
+        if (x->u != 0 || x->v != 0) p += sprintf(p, ",%g,%g", x->u, x->v);
+    }
+    return (int)(p - (char *)out_indices);
+}
+
+/* ── labels ── */
+
+static char text[4 * MAX + 16], indices[262145];
+
+static void make(int n, const char *entry, const char *first, const char *unit)
+{
+    text[0] = 0;
+    indices[0] = 0;
+    char *t = text, *p = indices;
+    for (int i = 0; i < n; i++) {
+        t += sprintf(t, "%s", unit);
+        if (i) *p++ = ';';
+        p += sprintf(p, i == 0 && first ? first : entry, (i * 37) % 65536);
+    }
+}
+
+static double now(void)
+{
+    struct timespec t;
+    clock_gettime(CLOCK_MONOTONIC, &t);
+    return (double)t.tv_sec * 1e9 + (double)t.tv_nsec;
+}
+
+static glyph_label_reading last;
+static volatile int sink;
+
+static double best(int what, int n, int rounds)
+{
+    size_t tl = strlen(text), il = strlen(indices);
+    double least = 1e30;
+    for (int k = 0; k < 9; k++) {
+        double start = now();
+        for (int r = 0; r < rounds; r++) {
+            switch (what) {
+            case 0: sink += plain_read(text, tl, indices); break;
+            case 1:
+                last = glyph_label_read((uint8_t *)text, tl, (uint8_t *)indices, il, units, sizeof units, clusters, sizeof clusters, glyphs, sizeof glyphs);
+                sink += (int)last.glyphs;
+                break;
+            case 2: sink += plain_write(n); break;
+            default: {
+                glyph_label_writing w = glyph_label_write(units, last.units * 2, clusters, last.clusters * 8, glyphs, last.glyphs * 16,
+                    out_text, sizeof out_text, out_indices, sizeof out_indices);
+                sink += (int)w.indices;
+            }
+            }
+        }
+        double t = (now() - start) / rounds;
+        if (t < least) least = t;
+    }
+    return least;
+}
+
+static double reading_ns;
+
+static void measure(const char *name, int n)
+{
+    int rounds = n < 100 ? 20000 : n < 2000 ? 500 : 100;
+    double a = best(0, n, rounds), b = best(1, n, rounds), c = best(2, n, rounds), d = best(3, n, rounds);
+    if (last.number) { printf("%s: refused with %u\n", name, last.number); exit(1); }
+    reading_ns = b;
+    printf("%-34s %9.0f %9.0f %6.2f   %9.0f %9.0f %6.2f\n", name, a, b, b / a, c, d, d / c);
+}
+
+int main(void)
+{
+    printf("%-34s %9s %9s %6s   %9s %9s %6s\n", "label (ns a call)", "plain", "read", "ratio", "plain", "write", "ratio");
+    make(4, "%d", NULL, "A");
+    measure("4 glyphs, bare", 4);
+    make(4, "%d,55.5", NULL, "A");
+    measure("4 glyphs, advances", 4);
+    make(12, "%d,55.5", NULL, "A");
+    measure("12 glyphs, advances", 12);
+    make(12, "%d,55.5,-1.25,.5", NULL, "A");
+    measure("12 glyphs, all fields", 12);
+    make(1000, "%d", NULL, "A");
+    measure("1,000 glyphs, bare", 1000);
+    make(1000, "%d,55.5,-1.25,.5", NULL, "A");
+    measure("1,000 glyphs, all fields", 1000);
+    make(1000, "(1:1)%d,123456.789,-123456.789,-.125", NULL, "\xe0\xb8\xb3");
+    measure("1,000 glyphs, long fields, 3 bytes", 1000);
+    make(1000, "%d,1234567890123e-10,-12345678901234567.8e-12,.000000000000000012e+17", NULL, "A");
+    measure("1,000 glyphs, worst numbers", 1000);
+    make(100, "%d,55.5,-1.25,.5", NULL, "A");
+    measure("100 glyphs, all fields", 100);
+    double small = reading_ns;
+    make(4000, "%d,55.5,-1.25,.5", NULL, "A");
+    measure("4,000 glyphs, all fields", 4000);
+    printf("growth of reading from 100 to 4,000 glyphs: %.1f times (40 is linear)\n", reading_ns / small);
+    return 0;
+}

@@ -1,0 +1,320 @@
+-- The reading, the writing and the picks are what the table's first cause that holds decides.
+-- Assumes nothing.
+use Prim.Native.Nat.{ℕ, zero, suc, _+_, _*_}
+use mathlib.Core.Path.{_≡_, refl, sym, _∙_, ap}
+use mathlib.Core.Logic.{_↔_}
+use mathlib.Core.Bool.{Bool, true, false, cond, not, _&&_, _||_, false≢true}
+use mathlib.Core.List.{List, [], _∷_, _++_}
+use lib.Dec.{leb}
+use lib.IntN.{ℤ}
+use lib.ListN.{length}
+use Rattle.label.specs.Limits.{maxTextBytes, maxIndicesBytes, maxUnits, maxGlyphs, maxIndex}
+use Rattle.label.specs.Outcome.{Outcome, ok, no, need, _>>=_, _>>_}
+use Rattle.label.specs.Bytes.{empty, value}
+use Rattle.label.specs.Text.{lead, starts, scalar, xmlChar, unitsOf, decode, braced, marked, unmarked, textUnits}
+use Rattle.label.specs.Entry.{part, indexDigits, wellFormed, fieldFits, Entry, entryOf, entry, entries}
+use Rattle.label.specs.Run.{Run, Parts, fontGlyph, cluster, before, whole, tail, State, start, opens, takes, allowed, next, placed, step, walk, runFrom, read}
+use Rattle.label.specs.Sound.{sound, runOf, clustersOf, glyphsOf}
+use Rattle.label.specs.Write.{Label, normal, write}
+use Rattle.label.specs.Pick.{inside, touched, turned, pickUnits, pickGlyphs}
+use Rattle.label.specs.Calls.{readInto, writeInto}
+use Rattle.label.specs.Checks.{Check, check, verdict, refuses, Given, textChecks, bitUnits, entryChecks, tailChecks, walkChecks, tailParts, walkParts, saidUnits, saidParts, saidRun, runChecks, labelChecks, readChecks, writeChecks, pickChecks}
+use Rattle.label.specs.declared.Stretch.{Stretch}
+use Rattle.label.proofs.Basics.{cases, no-ok}
+
+-- ── a list of checks before an outcome ──
+
+-- a check in front is a `need`
+check-need : {A : Type 0} (t : Bool) (n p : ℕ) (cs : List Check) (o : Outcome A) → (verdict (check (not t) n p ∷ cs) >> o) ≡ (need t n p >> (verdict cs >> o))
+unfolding verdict
+check-need true n p cs o = refl
+check-need false n p cs o = refl
+
+check-cause : {A : Type 0} (h : Bool) (n p : ℕ) (cs : List Check) (o : Outcome A) → (verdict (check h n p ∷ cs) >> o) ≡ (need (not h) n p >> (verdict cs >> o))
+unfolding verdict
+check-cause true n p cs o = refl
+check-cause false n p cs o = refl
+
+-- a last check
+check-last : {A : Type 0} (t : Bool) (n p : ℕ) (o : Outcome A) → (verdict (check (not t) n p ∷ []) >> o) ≡ (need t n p >> o)
+unfolding verdict
+check-last true n p o = refl
+check-last false n p o = refl
+
+verdict-append : {A : Type 0} (xs ys : List Check) (o : Outcome A) → (verdict (xs ++ ys) >> o) ≡ (verdict xs >> (verdict ys >> o))
+unfolding verdict
+verdict-append [] ys o = refl
+verdict-append (c ∷ xs) ys o = go (c .holds) (verdict-append xs ys o)
+  where
+    go : (h : Bool) → (verdict (xs ++ ys) >> o) ≡ (verdict xs >> (verdict ys >> o))
+        → (cond h (no (c .number) (c .place)) (verdict (xs ++ ys)) >> o) ≡ (cond h (no (c .number) (c .place)) (verdict xs) >> (verdict ys >> o))
+    go true r = refl
+    go false r = r
+
+seq-bind : {A B : Type 0} (v : Outcome (Unit {0})) (a : A) (f : A → Outcome B) → ((v >> ok a) >>= f) ≡ (v >> f a)
+seq-bind (ok x) a f = refl
+seq-bind (no n p) a f = refl
+
+seq-seq : {A : Type 0} (v : Outcome (Unit {0})) (w : Outcome (Unit {0})) (o : Outcome A) → ((v >> w) >> o) ≡ (v >> (w >> o))
+seq-seq (ok x) w o = refl
+seq-seq (no n p) w o = refl
+
+-- ── the text ──
+
+decode-by-checks : (bs : List ℕ) (skip at : ℕ) → decode skip at bs ≡ (verdict (textChecks skip at bs) >> ok (bitUnits skip bs))
+unfolding decode textChecks bitUnits verdict
+decode-by-checks [] zero at = refl
+decode-by-checks [] (suc skip) at = refl
+decode-by-checks (b ∷ bs) (suc skip) at = decode-by-checks bs skip (suc at)
+decode-by-checks (b ∷ bs) zero at =
+    rw (
+      decode-by-checks bs (lead b .more) (suc at),
+      seq-bind (verdict (textChecks (lead b .more) (suc at) bs)) (bitUnits (lead b .more) bs) (λ us. ok (unitsOf (scalar (lead b .more) b bs) ++ us)),
+    )
+    (sym (check-need (starts b bs) 2 at (check (not (xmlChar (scalar (lead b .more) b bs))) 3 at ∷ textChecks (lead b .more) (suc at) bs)
+    (ok (unitsOf (scalar (lead b .more) b bs) ++ bitUnits (lead b .more) bs))
+    ∙ rw (check-need (xmlChar (scalar (lead b .more) b bs)) 3 at (textChecks (lead b .more) (suc at) bs)
+    (ok (unitsOf (scalar (lead b .more) b bs) ++ bitUnits (lead b .more) bs)))))
+
+-- ── the entries ──
+
+tail-by-checks : (us : List ℕ) (at : ℕ) → tail at us ≡ (verdict (tailChecks at us) >> ok (tailParts us))
+unfolding tail tailChecks tailParts verdict
+tail-by-checks [] at = refl
+tail-by-checks (u ∷ us) at =
+    rw (
+      tail-by-checks us (suc at),
+      seq-bind (verdict (tailChecks (suc at) us)) (tailParts us) (λ p. ok (before true (cluster 1 1) fontGlyph p)),
+    )
+    (sym (check-need (whole 0 us) 13 (suc at) (tailChecks (suc at) us) (ok (before true (cluster 1 1) fontGlyph (tailParts us)))))
+
+three : {A : Type 0} (a b c : Bool) (k : ℕ) (o : Outcome A)
+    → (need a 7 k >> (need b 8 k >> (need c 9 k >> o))) ≡ (verdict (check (not a) 7 k ∷ check (not b) 8 k ∷ check (not c) 9 k ∷ []) >> o)
+unfolding verdict
+three false b c k o = refl
+three true false c k o = refl
+three true true false k o = refl
+three true true true k o = refl
+
+four : {A : Type 0} (a b c d : Bool) (k p : ℕ) (o : Outcome A)
+    → (need a 10 k >> (need b 11 k >> (need c 12 k >> (need d 13 p >> o)))) ≡ (verdict (check (not a) 10 k ∷ check (not b) 11 k ∷ check (not c) 12 k ∷ check (not d) 13 p ∷ []) >> o)
+unfolding verdict
+four false b c d k p o = refl
+four true false c d k p o = refl
+four true true false d k p o = refl
+four true true true false k p o = refl
+four true true true true k p o = refl
+
+-- 7 to 9, and 10 to 13
+abbrev firstChecks : ℕ → List ℕ → List Check
+firstChecks k s =
+    check (not (wellFormed s)) 7 k ∷ check (not (leb (value (indexDigits (part 0 s))) maxIndex)) 8 k
+    ∷ check (not (fieldFits (part 1 s) && fieldFits (part 2 s) && fieldFits (part 3 s))) 9 k ∷ []
+
+abbrev lastChecks : Bool → State → Entry → List Check
+lastChecks bare st e =
+    check (not (leb 1 (e .units) && leb 1 (e .glyphs))) 10 (st .k) ∷ check (not (allowed bare st e)) 11 (st .k)
+    ∷ check (not (leb (takes bare st e) (length (st .rest)))) 12 (st .k) ∷ check (not (whole (takes bare st e) (st .rest))) 13 (st .at + takes bare st e) ∷ []
+
+entry-by-checks : (k : ℕ) (s : List ℕ) → entry k s ≡ (verdict (firstChecks k s) >> ok (entryOf s))
+unfolding entry
+entry-by-checks k s =
+    three (wellFormed s) (leb (value (indexDigits (part 0 s))) maxIndex) (fieldFits (part 1 s) && fieldFits (part 2 s) && fieldFits (part 3 s)) k (ok (entryOf s))
+
+placed-by-checks : (bare : Bool) (st : State) (e : Entry) → placed bare st e ≡ (verdict (lastChecks bare st e) >> ok e)
+unfolding placed
+placed-by-checks bare st e =
+    four (leb 1 (e .units) && leb 1 (e .glyphs)) (allowed bare st e) (leb (takes bare st e) (length (st .rest))) (whole (takes bare st e) (st .rest)) (st .k)
+    (st .at + takes bare st e) (ok e)
+
+step-by-checks : (bare : Bool) (st : State) (s : List ℕ) → step bare st s ≡ (verdict (entryChecks bare st s) >> ok (entryOf s))
+unfolding step
+step-by-checks bare st s =
+    ap (λ (o : Outcome Entry). o >>= (λ e. placed bare st e)) (entry-by-checks (st .k) s)
+    ∙ seq-bind (verdict (firstChecks (st .k) s)) (entryOf s) (λ e. placed bare st e)
+    ∙ ap (λ (o : Outcome Entry). verdict (firstChecks (st .k) s) >> o) (placed-by-checks bare st (entryOf s))
+    ∙ sym (verdict-append (firstChecks (st .k) s) (lastChecks bare st (entryOf s)) (ok (entryOf s)))
+
+walk-by-checks : (ss : List (List ℕ)) (bare : Bool) (st : State) → walk bare st ss ≡ (verdict (walkChecks bare st ss) >> ok (walkParts bare st ss))
+unfolding walk walkChecks walkParts
+walk-by-checks [] bare st =
+    rw (tail-by-checks (st .rest) (st .at)) (sym (check-need (opens st) 14 (st .opener) (tailChecks (st .at) (st .rest)) (ok (tailParts (st .rest)))))
+walk-by-checks (s ∷ ss) bare st =
+    let st′ = next bare st (entryOf s) in
+    let add : Parts → Outcome Parts = λ p. ok (before (opens st) (cluster (takes bare st (entryOf s)) (entryOf s .glyphs)) (entryOf s .glyph) p) in
+    ap (λ (o : Outcome Entry). o >>= (λ e. walk bare (next bare st e) ss >>= (λ p. ok (before (opens st) (cluster (takes bare st e) (e .glyphs)) (e .glyph) p))))
+    (step-by-checks bare st s)
+    ∙ seq-bind (verdict (entryChecks bare st s)) (entryOf s) (λ e. walk bare (next bare st e) ss >>= (λ p. ok (before (opens st) (cluster (takes bare st e) (e .glyphs)) (e .glyph) p)))
+    ∙ ap (λ (o : Outcome Parts). verdict (entryChecks bare st s) >> (o >>= add)) (walk-by-checks ss bare st′)
+    ∙ ap (λ (o : Outcome Parts). verdict (entryChecks bare st s) >> o) (seq-bind (verdict (walkChecks bare st′ ss)) (walkParts bare st′ ss) add)
+    ∙ sym (verdict-append (entryChecks bare st s) (walkChecks bare st′ ss) (add (walkParts bare st′ ss)))
+
+-- ── the whole ──
+
+abbrev runWith : List ℕ → Parts → Run
+runWith us p = record { units = us; clusters = p .clusters; glyphs = p .glyphs }
+
+run-by-checks : (us indices : List ℕ) → runFrom us indices ≡ (verdict (runChecks us indices) >> ok (runWith us (saidParts us indices)))
+unfolding runFrom runChecks
+run-by-checks us indices =
+    let w : List Check = walkChecks (empty us) (start us) (entries indices) in
+    let p : Parts = saidParts us indices in
+    let f : Parts → Outcome Run = λ q. need (leb (length (q .glyphs)) maxGlyphs) 15 0 >> ok (runWith us q) in
+    let l : List Check = check (not (leb (length (p .glyphs)) maxGlyphs)) 15 0 ∷ [] in
+    ap (λ (o : Outcome Run). need (not (empty us && empty indices)) 6 0 >> o)
+    (ap (λ (o : Outcome Parts). o >>= f) (walk-by-checks (entries indices) (empty us) (start us))
+    ∙ seq-bind (verdict w) p f
+    ∙ ap (λ (o : Outcome Run). verdict w >> o) (sym (check-last (leb (length (p .glyphs)) maxGlyphs) 15 0 (ok (runWith us p))))
+    ∙ sym (verdict-append w l (ok (runWith us p))))
+    ∙ sym (check-cause (empty us && empty indices) 6 0 (w ++ l) (ok (runWith us p)))
+
+text-by-checks : {A : Type 0} (text : List ℕ) (cs : List Check) (f : List ℕ → Outcome A) (o : Outcome A) → f (saidUnits text) ≡ (verdict cs >> o)
+    → (textUnits text >>= f)
+    ≡ (verdict (textChecks 0 0 text ++ (check (not (not (braced (bitUnits 0 text)) || marked (bitUnits 0 text))) 4 0 ∷ check (not (leb (length (saidUnits text)) maxUnits)) 5 0 ∷ cs)) >> o)
+unfolding textUnits
+text-by-checks {A = A} text cs f o h =
+    let all : List ℕ = bitUnits 0 text in
+    let fine : Bool = not (braced all) || marked all in
+    let few : Bool = leb (length (saidUnits text)) maxUnits in
+    let rest : List Check = check (not fine) 4 0 ∷ check (not few) 5 0 ∷ cs in
+    let g : List ℕ → Outcome (List ℕ) = λ us. need (not (braced us) || marked us) 4 0 >> (need (leb (length (unmarked us)) maxUnits) 5 0 >> ok (unmarked us)) in
+    ap (λ (x : Outcome (List ℕ)). (x >>= g) >>= f) (decode-by-checks text 0 0)
+    ∙ ap (λ (x : Outcome (List ℕ)). x >>= f) (seq-bind (verdict (textChecks 0 0 text)) all g)
+    ∙ seq-out (verdict (textChecks 0 0 text)) (g all) f
+    ∙ ap (λ (x : Outcome A). verdict (textChecks 0 0 text) >> x) (two fine few (unmarked all) ∙ rw h (sym (check-need fine 4 0 (check (not few) 5 0 ∷ cs) o ∙ rw (check-need few 5 0 cs o))))
+    ∙ sym (verdict-append (textChecks 0 0 text) rest o)
+  where
+    seq-out : (v : Outcome (Unit {0})) (x : Outcome (List ℕ)) (f : List ℕ → Outcome A) → ((v >> x) >>= f) ≡ (v >> (x >>= f))
+    seq-out (ok a) x f = refl
+    seq-out (no n p) x f = refl
+
+    two : (a b : Bool) (us : List ℕ) → ((need a 4 0 >> (need b 5 0 >> ok us)) >>= f) ≡ (need a 4 0 >> (need b 5 0 >> f us))
+    two false b us = refl
+    two true false us = refl
+    two true true us = refl
+
+-- the reading of a label
+pub read-by-checks : (text indices : List ℕ) → read text indices ≡ (verdict (labelChecks text indices) >> ok (saidRun text indices))
+unfolding read labelChecks saidRun
+read-by-checks text indices =
+    let sizes : Bool = leb (length text) maxTextBytes && leb (length indices) maxIndicesBytes in
+    ap (λ (o : Outcome Run). need sizes 1 0 >> o)
+    (text-by-checks text (runChecks (saidUnits text) indices) (λ us. runFrom us indices) (ok (runWith (saidUnits text) (saidParts (saidUnits text) indices)))
+    (run-by-checks (saidUnits text) indices))
+    ∙ sym (check-need sizes 1 0 _ (ok (runWith (saidUnits text) (saidParts (saidUnits text) indices))))
+
+-- into buffers
+pub into-by-checks : (u c g : ℕ) (text indices : List ℕ) → readInto u c g text indices ≡ (verdict (readChecks u c g text indices) >> ok (saidRun text indices))
+unfolding readInto readChecks
+into-by-checks u c g text indices =
+    let r : Run = saidRun text indices in
+    let f : Run → Outcome Run = λ x. need (leb (length (x .units)) u) 16 (length (x .units)) >> (need (leb (2 * length (x .clusters)) c) 17 (length (x .clusters)) >> (need (leb (4 * length (x .glyphs)) g) 18 (length (x .glyphs)) >> ok x)) in
+    ap (λ (o : Outcome Run). o >>= f) (read-by-checks text indices)
+    ∙ seq-bind (verdict (labelChecks text indices)) r f
+    ∙ ap (λ (o : Outcome Run). verdict (labelChecks text indices) >> o)
+    (room (leb (length (r .units)) u) (leb (2 * length (r .clusters)) c) (leb (4 * length (r .glyphs)) g) (length (r .units)) (length (r .clusters)) (length (r .glyphs)) (ok r))
+    ∙ sym (verdict-append (labelChecks text indices) _ (ok r))
+  where
+    room : (a b d : Bool) (i j k : ℕ) (o : Outcome Run)
+        → (need a 16 i >> (need b 17 j >> (need d 18 k >> o))) ≡ (verdict (check (not a) 16 i ∷ check (not b) 17 j ∷ check (not d) 18 k ∷ []) >> o)
+    room a b d i j k o = sym (check-need a 16 i (check (not b) 17 j ∷ check (not d) 18 k ∷ []) o ∙ rw (check-need b 17 j (check (not d) 18 k ∷ []) o, check-last d 18 k o))
+
+-- the writing
+pub write-by-checks : (t i : ℕ) (us : List ℕ) (cs gs : List ℤ) → writeInto t i us cs gs ≡ (verdict (writeChecks t i us cs gs) >> ok (normal (runOf us cs gs)))
+unfolding writeInto write writeChecks
+write-by-checks t i us cs gs = go (sound us cs gs)
+  where
+    l : Label
+    l = normal (runOf us cs gs)
+
+    go : (s : Bool)
+        → ((need s 19 0 >> ok l) >>= (λ x. need (leb (length (x .text)) t) 20 (length (x .text)) >> (need (leb (length (x .indices)) i) 21 (length (x .indices)) >> ok x)))
+        ≡ (verdict (check (not s) 19 0 ∷ check (not (leb (length (l .text)) t)) 20 (length (l .text)) ∷ check (not (leb (length (l .indices)) i)) 21 (length (l .indices)) ∷ []) >> ok l)
+    go false = sym (check-need false 19 0 _ (ok l))
+    go true =
+        sym (check-need true 19 0 _ (ok l) ∙ check-need (leb (length (l .text)) t) 20 (length (l .text)) _ (ok l) ∙ rw (check-last (leb (length (l .indices)) i) 21 (length (l .indices)) (ok l)))
+
+-- the picks
+picked : {A : Type 0} (s t : Bool) (o : Outcome A) → (need s 19 0 >> (need t 22 0 >> o)) ≡ (verdict (check (not s) 19 0 ∷ check (not t) 22 0 ∷ []) >> o)
+picked s t o = sym (check-need s 19 0 (check (not t) 22 0 ∷ []) o ∙ rw (check-last t 22 0 o))
+
+pub units-by-checks : (us : List ℕ) (cs gs : List ℤ) (first end : ℕ)
+    → pickUnits us cs gs first end ≡ (verdict (pickChecks us cs gs first end (length (glyphsOf gs))) >> ok (touched first end (clustersOf cs)))
+unfolding pickUnits pickChecks
+units-by-checks us cs gs first end = picked (sound us cs gs) (inside first end (length (glyphsOf gs))) (ok (touched first end (clustersOf cs)))
+
+pub glyphs-by-checks : (us : List ℕ) (cs gs : List ℤ) (first end : ℕ)
+    → pickGlyphs us cs gs first end ≡ (verdict (pickChecks us cs gs first end (length us)) >> ok (touched first end (turned (clustersOf cs))))
+unfolding pickGlyphs pickChecks
+glyphs-by-checks us cs gs first end = picked (sound us cs gs) (inside first end (length us)) (ok (touched first end (turned (clustersOf cs))))
+
+-- ── what a verdict says ──
+
+first-given : (cs : List Check) (n p : ℕ) → verdict cs ≡ no n p → Given cs n p
+unfolding verdict
+first-given [] n p h = let z : true ≡ false = cc in absurd (false≢true (sym z))
+first-given (c ∷ cs) n p h = go (c .holds) refl (first-given cs n p)
+  where
+    go : (b : Bool) → c .holds ≡ b → (verdict cs ≡ no n p → Given cs n p) → Given (c ∷ cs) n p
+    go true e r =
+        let k : no (c .number) (c .place) ≡ no n p = rw e at h in
+        let a : c .number ≡ n = cc in
+        let b : c .place ≡ p = cc in
+        record { earlier = []; it = c; later = cs; in-order = refl; none-earlier = unfold refuses in refl; holds = e; number = a; place = b }
+    go false e r =
+        let g : Given cs n p = r (rw e at h) in
+        record {
+          earlier = c ∷ g .earlier;
+          it = g .it;
+          later = g .later;
+          in-order = ap (λ (l : List Check). c ∷ l) (g .in-order);
+          none-earlier = unfold refuses in (rw e (g .none-earlier));
+          holds = g .holds;
+          number = g .number;
+          place = g .place;
+        }
+
+or-l : (a b : Bool) → (a || b) ≡ false → a ≡ false
+or-l true b h = h
+or-l false b h = refl
+
+or-r : (a b : Bool) → (a || b) ≡ false → b ≡ false
+or-r true b h = absurd (false≢true (sym h))
+or-r false b h = h
+
+given-first : {A : Type 0} (cs : List Check) (n p : ℕ) (o : Outcome A) → Given cs n p → (verdict cs >> o) ≡ no n p
+unfolding verdict refuses
+given-first cs n p o g =
+    ap (λ (l : List Check). verdict l >> o) (g .in-order) ∙ go (g .earlier) (g .none-earlier) ∙ rw (g .number, g .place)
+  where
+    go : (es : List Check) → refuses es ≡ false → (verdict (es ++ (g .it ∷ g .later)) >> o) ≡ no (g .it .number) (g .it .place)
+    go [] h = rw (g .holds)
+    go (e ∷ es) h = rw (or-l (e .holds) (refuses es) h) (go es (or-r (e .holds) (refuses es) h))
+
+-- a number is given exactly by the first cause that holds
+pub given-is : {A : Type 0} (cs : List Check) (n p : ℕ) (a : A) → ((verdict cs >> ok a) ≡ no n p) ↔ Given cs n p
+given-is {A = A} cs n p a = (λ h. first-given cs n p (only (verdict cs) h), λ g. given-first cs n p (ok a) g)
+  where
+    only : (v : Outcome (Unit {0})) → _≡_ {A = Outcome A} (v >> ok a) (no n p) → v ≡ no n p
+    only (ok x) h = no-ok n p a (sym h)
+    only (no m q) h = cc
+
+-- no cause holds, or the first that does gives its number
+pub passes : {A : Type 0} (cs : List Check) (o : Outcome A) → refuses cs ≡ false → (verdict cs >> o) ≡ o
+unfolding verdict refuses
+passes [] o h = refl
+passes (c ∷ cs) o h = go (c .holds) refl (λ k. passes cs o k)
+  where
+    go : (b : Bool) → c .holds ≡ b → (refuses cs ≡ false → (verdict cs >> o) ≡ o) → (cond b (no (c .number) (c .place)) (verdict cs) >> o) ≡ o
+    go true e f = absurd (false≢true (sym (rw e at h)))
+    go false e f = f (rw e at h)
+
+pub stops : (cs : List Check) → refuses cs ≡ true → (n : ℕ) × (p : ℕ) × (verdict cs ≡ no n p)
+unfolding verdict refuses
+stops [] h = absurd (false≢true h)
+stops (c ∷ cs) h = go (c .holds) refl (λ k. stops cs k)
+  where
+    go : (b : Bool) → c .holds ≡ b → (refuses cs ≡ true → (n : ℕ) × (p : ℕ) × (verdict cs ≡ no n p))
+        → (n : ℕ) × (p : ℕ) × (cond b (no (c .number) (c .place)) (verdict cs) ≡ no n p)
+    go true e f = (c .number, c .place, refl)
+    go false e f = f (rw e at h)

@@ -1,0 +1,49 @@
+-- How large a sound run and its normal writing can be.
+-- Assumes nothing.
+use Prim.Native.Nat.{ℕ, zero, suc, _+_, _*_, _-_, _≤_, _<_}
+use native.Mathlib.Omega.{arith}
+use mathlib.Core.Path.{_≡_, refl}
+use mathlib.Core.Bool.{Bool, true, false}
+use mathlib.Core.List.{List, [], _∷_}
+use lib.ListN.{length, drop}
+use Rattle.label.specs.Limits.{maxTextBytes, maxIndicesBytes, maxUnits, maxGlyphs}
+use Rattle.label.specs.Outcome.{Outcome, ok}
+use Rattle.label.specs.Bytes.{empty}
+use Rattle.label.specs.Run.{Run, read}
+use Rattle.label.specs.Sound.{fits, soundRun}
+use Rattle.label.specs.Write.{normal}
+use Rattle.label.specs.Calls.{readInto}
+use Rattle.label.specs.Demands.{Roomy, RoomyFor}
+use Rattle.label.specs.declared.Glyph.{Glyph}
+use Rattle.label.specs.declared.Cluster.{Cluster}
+use Rattle.label.proofs.Basics.{clash}
+use Rattle.label.proofs.Walks.{fits-nil, fits-further, fits-opening, Indices, indices-back}
+use Rattle.label.proofs.Texts.{text-back, proper-first}
+use Rattle.label.proofs.Sounds.{SoundRun, sound-parts, read-sound}
+use Rattle.label.proofs.Demands.{demand-3}
+
+-- a cluster has a glyph
+pub fits-few : (gs : List Glyph) (bare : Bool) (cs : List Cluster) (us : List ℕ) (lack : ℕ) → fits bare lack us cs gs ≡ true → length cs ≤ length gs
+fits-few [] bare cs us lack h = let (a, b, c) = fits-nil bare lack us cs h in rw b (omega arith)
+fits-few (g ∷ gs) bare cs us (suc n) h = omega (arith, fits-few gs bare cs us n (fits-further bare n us cs g gs h .rest))
+fits-few (g ∷ gs) bare [] us zero h = omega arith
+fits-few (g ∷ gs) bare (c ∷ cs) us zero h =
+    omega (arith, fits-few gs bare cs (drop (c .units) us) (c .glyphs - 1) (fits-opening bare us c cs g gs h .rest))
+
+-- the buffers that hold every run, and the outputs that hold every normal writing
+pub sound-roomy : (r : Run) → soundRun r ≡ true → Roomy r maxUnits (2 * maxGlyphs) (4 * maxGlyphs)
+sound-roomy r h =
+    let s : SoundRun r = sound-parts r h in
+    let f : length (r .clusters) ≤ length (r .glyphs) = fits-few (r .glyphs) (empty (r .units)) (r .clusters) (r .units) 0 (s .fit) in
+    record { for-units = s .few-units; for-clusters = omega (arith, s .few-glyphs); for-glyphs = omega (arith, s .few-glyphs) }
+
+pub sound-short : (r : Run) → soundRun r ≡ true → RoomyFor (normal r) maxTextBytes maxIndicesBytes
+sound-short r h =
+    let s : SoundRun r = sound-parts r h in
+    let i : Indices (empty (r .units)) (r .units) (r .clusters) (r .glyphs) =
+    indices-back (empty (r .units)) (r .units) (r .clusters) (r .glyphs) (proper-first (r .units) (s .proper)) (s .few-units) (s .few-glyphs) (s .fit) in
+    record { for-text = text-back (r .units) (s .proper) .short (s .few-units); for-indices = i .short }
+
+-- the reading into such buffers
+pub read-largest : (t i : List ℕ) (r : Run) → read t i ≡ ok r → readInto maxUnits (2 * maxGlyphs) (4 * maxGlyphs) t i ≡ ok r
+read-largest t i r h = demand-3 .reads t i r maxUnits (2 * maxGlyphs) (4 * maxGlyphs) h (sound-roomy r (read-sound t i r h))

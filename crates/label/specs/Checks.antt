@@ -1,0 +1,147 @@
+-- "Checks, in order": the table of document 01 as a list, in its order, of causes with their numbers and places. Whether a cause holds is computed from the
+-- text and the indices alone; the reading is shown to be what the first cause that holds decides (law `read-by-checks`).
+-- Assumes nothing.
+use Prim.Native.Nat.{ℕ, zero, suc, _+_, _*_}
+use mathlib.Core.Path.{_≡_}
+use mathlib.Core.Bool.{Bool, true, false, cond, not, _&&_, _||_}
+use mathlib.Core.List.{List, [], _∷_, _++_}
+use lib.Dec.{leb}
+use lib.IntN.{ℤ}
+use lib.ListN.{length}
+use Rattle.label.specs.Limits.{maxTextBytes, maxIndicesBytes, maxUnits, maxGlyphs, maxIndex}
+use Rattle.label.specs.Outcome.{Outcome, ok, no}
+use Rattle.label.specs.Bytes.{empty, value}
+use Rattle.label.specs.Text.{lead, starts, scalar, xmlChar, unitsOf, braced, marked, unmarked}
+use Rattle.label.specs.Entry.{part, indexDigits, wellFormed, fieldFits, Entry, entryOf, entries}
+use Rattle.label.specs.Run.{Run, Parts, fontGlyph, cluster, before, whole, State, start, opens, takes, allowed, next}
+use Rattle.label.specs.Sound.{sound, runOf, glyphsOf}
+use Rattle.label.specs.Write.{Label, normal}
+use Rattle.label.specs.Pick.{inside}
+
+-- a row of the table: whether its cause holds, its number and its place
+pub record Check : Type 0 where
+  pub holds : Bool
+  pub number : ℕ
+  pub place : ℕ
+
+abbrev pub check : Bool → ℕ → ℕ → Check
+check h n p = record { holds = h; number = n; place = p }
+
+-- "No number is given unless its cause holds and no earlier one does": the first whose cause holds
+unfoldable pub verdict : List Check → Outcome (Unit {0})
+verdict [] = ok tt
+verdict (c ∷ cs) = cond (c .holds) (no (c .number) (c .place)) (verdict cs)
+
+-- some cause holds
+unfoldable pub refuses : List Check → Bool
+refuses [] = false
+refuses (c ∷ cs) = c .holds || refuses cs
+
+-- number n with place p is given by these checks: its cause holds, and no earlier one does
+pub record Given (cs : List Check) (n p : ℕ) : Type 0 where
+  pub earlier : List Check
+  pub it : Check
+  pub later : List Check
+  pub in-order : cs ≡ earlier ++ (it ∷ later)
+  pub none-earlier : refuses earlier ≡ false
+  pub holds : it .holds ≡ true
+  pub number : it .number ≡ n
+  pub place : it .place ≡ p
+
+-- ── the text ──
+
+-- 2 and 3 of each character from the left; the first `skip` bytes belong to a character already judged
+unfoldable pub textChecks : ℕ → ℕ → List ℕ → List Check
+textChecks skip at [] = []
+textChecks (suc skip) at (b ∷ bs) = textChecks skip (suc at) bs
+textChecks zero at (b ∷ bs) =
+    check (not (starts b bs)) 2 at ∷ check (not (xmlChar (scalar (lead b .more) b bs))) 3 at ∷ textChecks (lead b .more) (suc at) bs
+
+-- the units that the bits give
+unfoldable pub bitUnits : ℕ → List ℕ → List ℕ
+bitUnits skip [] = []
+bitUnits (suc skip) (b ∷ bs) = bitUnits skip bs
+bitUnits zero (b ∷ bs) = unitsOf (scalar (lead b .more) b bs) ++ bitUnits (lead b .more) bs
+
+-- ── the entries ──
+
+-- "entry by entry 7 to 13 in number order"
+abbrev pub entryChecks : Bool → State → List ℕ → List Check
+entryChecks bare st s =
+    check (not (wellFormed s)) 7 (st .k) ∷
+    check (not (leb (value (indexDigits (part 0 s))) maxIndex)) 8 (st .k) ∷
+    check (not (fieldFits (part 1 s) && fieldFits (part 2 s) && fieldFits (part 3 s))) 9 (st .k) ∷
+    check (not (leb 1 (entryOf s .units) && leb 1 (entryOf s .glyphs))) 10 (st .k) ∷
+    check (not (allowed bare st (entryOf s))) 11 (st .k) ∷
+    check (not (leb (takes bare st (entryOf s)) (length (st .rest)))) 12 (st .k) ∷
+    check (not (whole (takes bare st (entryOf s)) (st .rest))) 13 (st .at + takes bare st (entryOf s)) ∷
+    []
+
+-- "13 for the tail"
+unfoldable pub tailChecks : ℕ → List ℕ → List Check
+tailChecks at [] = []
+tailChecks at (u ∷ us) = check (not (whole 0 us)) 13 (suc at) ∷ tailChecks (suc at) us
+
+-- the entries, "then 14, then 13 for the tail"
+unfoldable pub walkChecks : Bool → State → List (List ℕ) → List Check
+walkChecks bare st [] = check (not (opens st)) 14 (st .opener) ∷ tailChecks (st .at) (st .rest)
+walkChecks bare st (s ∷ ss) = entryChecks bare st s ++ walkChecks bare (next bare st (entryOf s)) ss
+
+-- the clusters and glyphs that the entries say, the tail included
+unfoldable pub tailParts : List ℕ → Parts
+tailParts [] = record { clusters = []; glyphs = [] }
+tailParts (u ∷ us) = before true (cluster 1 1) fontGlyph (tailParts us)
+
+unfoldable pub walkParts : Bool → State → List (List ℕ) → Parts
+walkParts bare st [] = tailParts (st .rest)
+walkParts bare st (s ∷ ss) =
+    before (opens st) (cluster (takes bare st (entryOf s)) (entryOf s .glyphs)) (entryOf s .glyph) (walkParts bare (next bare st (entryOf s)) ss)
+
+-- ── the calls ──
+
+-- the units and the parts that text and indices say
+abbrev pub saidUnits : List ℕ → List ℕ
+saidUnits text = unmarked (bitUnits 0 text)
+
+abbrev pub saidParts : List ℕ → List ℕ → Parts
+saidParts us indices = walkParts (empty us) (start us) (entries indices)
+
+unfoldable pub saidRun : List ℕ → List ℕ → Run
+saidRun text indices =
+    record { units = saidUnits text; clusters = saidParts (saidUnits text) indices .clusters; glyphs = saidParts (saidUnits text) indices .glyphs }
+
+-- 6 to 15 of these units
+unfoldable pub runChecks : List ℕ → List ℕ → List Check
+runChecks us indices =
+    check (empty us && empty indices) 6 0 ∷
+    (walkChecks (empty us) (start us) (entries indices) ++ (check (not (leb (length (saidParts us indices .glyphs)) maxGlyphs)) 15 0 ∷ []))
+
+-- 1 to 15 of a label
+unfoldable pub labelChecks : List ℕ → List ℕ → List Check
+labelChecks text indices =
+    check (not (leb (length text) maxTextBytes && leb (length indices) maxIndicesBytes)) 1 0 ∷
+    (textChecks 0 0 text ++
+    (check (not (not (braced (bitUnits 0 text)) || marked (bitUnits 0 text))) 4 0 ∷
+    check (not (leb (length (saidUnits text)) maxUnits)) 5 0 ∷
+    runChecks (saidUnits text) indices))
+
+-- 1 to 18 of a reading into buffers of so many places
+unfoldable pub readChecks : ℕ → ℕ → ℕ → List ℕ → List ℕ → List Check
+readChecks units clusters glyphs text indices =
+    labelChecks text indices ++
+    (check (not (leb (length (saidRun text indices .units)) units)) 16 (length (saidRun text indices .units)) ∷
+    check (not (leb (2 * length (saidRun text indices .clusters)) clusters)) 17 (length (saidRun text indices .clusters)) ∷
+    check (not (leb (4 * length (saidRun text indices .glyphs)) glyphs)) 18 (length (saidRun text indices .glyphs)) ∷
+    [])
+
+-- "The writer tests 19, 20, 21"
+unfoldable pub writeChecks : ℕ → ℕ → List ℕ → List ℤ → List ℤ → List Check
+writeChecks text indices us cs gs =
+    check (not (sound us cs gs)) 19 0 ∷
+    check (not (leb (length (normal (runOf us cs gs) .text)) text)) 20 (length (normal (runOf us cs gs) .text)) ∷
+    check (not (leb (length (normal (runOf us cs gs) .indices)) indices)) 21 (length (normal (runOf us cs gs) .indices)) ∷
+    []
+
+-- "Soundness (19) is tested before 22": a pick among `count` glyphs or units
+unfoldable pub pickChecks : List ℕ → List ℤ → List ℤ → ℕ → ℕ → ℕ → List Check
+pickChecks us cs gs first end count = check (not (sound us cs gs)) 19 0 ∷ check (not (inside first end count)) 22 0 ∷ []

@@ -1,0 +1,50 @@
+-- What the programs print of a label: its counts and the lengths of its two normal lines, or the refusal.
+-- Assumes nothing.
+use Prim.Native.Nat.{ℕ, _+_}
+use mathlib.Core.Bool.{cond}
+use lib.Dec.{ltb}
+use mathlib.Core.List.{List}
+use lib.ListN.{length, drop}
+use Rattle.label.specs.Outcome.{Outcome, ok, no}
+use Rattle.label.specs.Relabel.{line}
+use Rattle.label.specs.Run.{Run}
+use Rattle.label.specs.Write.{normal}
+use Rattle.label.specs.Calls.{counts, after}
+use Rattle.lines.specs.declared.TwoLines.{TwoLines}
+use Rattle.lines.specs.declared.Relabelled.{Relabelled}
+use Rattle.lines.specs.declared.Relabelling.{Relabelling}
+use Rattle.lines.specs.declared.Relabelling.the-variants.{Ok, No}
+
+-- where the line that starts at a place ends, and where the next one starts: "A line feed ends a line and is no part of it; a missing line is empty"
+unfoldable pub lineEnd : List ℕ → ℕ → ℕ
+lineEnd s from = from + length (line (drop from s) .before)
+
+unfoldable pub lineBehind : List ℕ → ℕ → ℕ
+lineBehind s end = cond (ltb end (length s)) (end + 1) end
+
+unfoldable pub twoLines : List ℕ → ℕ → TwoLines
+twoLines s at =
+    let e = lineEnd s at in
+    let b = lineBehind s e in
+    let f = lineEnd s b in
+    record { «text_end» = e; start = b; end = f; next = lineBehind s f }
+
+-- document 01's number, place and values for each case of the answer
+abbrev pub relabelOutcome : Relabelling → Outcome Relabelled
+relabelOutcome (Ok x) = ok x
+relabelOutcome (No x) = no (x .number) (x .place)
+
+-- "`ok`, units, clusters, glyphs, then both normal lines"
+abbrev pub shown : Run → Relabelled
+shown r = record { read = counts r; written = record { text = length (normal r .text); indices = length (normal r .indices) } }
+
+abbrev pub relabelled : Outcome Run → Outcome Relabelled
+relabelled (ok r) = ok (shown r)
+relabelled (no n p) = no n p
+
+-- the two outputs afterwards
+abbrev pub textLine : Outcome Run → List ℕ → List ℕ
+textLine o old = after (λ (r : Run). normal r .text) o old
+
+abbrev pub indicesLine : Outcome Run → List ℕ → List ℕ
+indicesLine o old = after (λ (r : Run). normal r .indices) o old

@@ -1,0 +1,121 @@
+// A label on two lines, read and written again: what the programs `relabel` and `trials` print.
+use label::Counts;
+use label::Lengths;
+use label::Limits;
+use label::Reading;
+use label::Refusal;
+use label::Writing;
+ghost use mathlib.Core.Path.{_≡_};
+ghost use Prim.Native.Nat.{_≤_, _<_};
+ghost use lib.ListN.{length};
+ghost use Rattle.label.specs.Limits.{maxTextBytes, maxIndicesBytes};
+ghost use Rattle.label.specs.Relabel.{relabelRead};
+ghost use Rattle.lines.specs.Lines.{lineEnd, lineBehind, twoLines, relabelOutcome, relabelled, textLine, indicesLine};
+
+pub struct Relabelled {
+    pub read: Counts,
+    pub written: Lengths,
+}
+
+pub enum Relabelling {
+    Ok(Relabelled),
+    No(Refusal),
+}
+
+// The end of the line that starts at `from`: its line feed, or the end of the input.
+fn line_end(s: &[u8], from: usize) -> usize
+    requires { ⌜ from ≤ length (now s) ⌝ }
+    ensures { λ r. ⌜ r ≡ lineEnd (now (s .entry)) from ⌝ }
+    ensures bounds { λ r. ⌜ (from ≤ r) × (r ≤ length (now (s .entry))) ⌝ }
+{
+    let mut i = from;
+    while i < s.len() {
+        if s[i] == 10 {
+            return i;
+        }
+        i += 1;
+    }
+    i
+}
+
+// The place behind a line that ends at `end`: behind its line feed, or the end of the input.
+fn next_line(s: &[u8], end: usize) -> usize
+    requires { ⌜ end ≤ length (now s) ⌝ }
+    ensures { λ r. ⌜ r ≡ lineBehind (now (s .entry)) end ⌝ }
+    ensures bounds { λ r. ⌜ (end ≤ r) × (r ≤ length (now (s .entry))) × (end < length (now (s .entry)) → end < r) ⌝ }
+{
+    if end < s.len() { end + 1 } else { end }
+}
+
+// Where a label's two lines stand: the text up to `text_end`, the indices from `start` to `end`, and what follows from `next` on.
+pub struct TwoLines {
+    pub text_end: usize,
+    pub start: usize,
+    pub end: usize,
+    pub next: usize,
+}
+
+// The two lines from `at` on.
+pub fn two_lines(s: &[u8], at: usize) -> TwoLines
+    requires { ⌜ at ≤ length (now s) ⌝ }
+    ensures { λ r. ⌜ r ≡ twoLines (now (s .entry)) at ⌝ }
+    ensures bounds { λ r. ⌜ (at ≤ r .«text_end») × (r .«text_end» ≤ length (now (s .entry))) × (r .start ≤ r .end) × (r .end ≤ length (now (s .entry))) × (r .next ≤ length (now (s .entry))) × (at < length (now (s .entry)) → at < r .next) ⌝ }
+{
+    let text_end = line_end(s, at);
+    let start = next_line(s, text_end);
+    let end = line_end(s, start);
+    let next = next_line(s, end);
+    TwoLines {
+        text_end,
+        start,
+        end,
+        next,
+    }
+}
+
+fn answer(read: Counts, w: Writing) -> Relabelling {
+    match w {
+        Writing::Written(written) => Relabelling::Ok(Relabelled { read, written }),
+        Writing::Refused(x) => Relabelling::No(x),
+    }
+}
+
+// The label of a text line and an indices line: its counts and its normal lines, which are written to the two outputs, or the refusal.
+pub fn relabel(
+    text: &[u8],
+    indices: &[u8],
+    out_text: &mut [u8],
+    out_indices: &mut [u8],
+) -> Relabelling
+    requires { ⌜ (maxTextBytes ≤ length (now out_text)) × (maxIndicesBytes ≤ length (now out_indices)) ⌝ }
+    ensures result { λ r. ⌜ relabelOutcome r ≡ relabelled (relabelRead (now (text .entry)) (now (indices .entry))) ⌝ }
+    ensures text { λ _. ⌜ now (out_text .exit) ≡ textLine (relabelRead (now (text .entry)) (now (indices .entry))) (now (out_text .entry)) ⌝ }
+    ensures indices { λ _. ⌜ now (out_indices .exit) ≡ indicesLine (relabelRead (now (text .entry)) (now (indices .entry))) (now (out_indices .entry)) ⌝ }
+{
+    if Limits::LINE_BYTES < indices.len() {
+        return Relabelling::No(Refusal {
+            number: 1,
+            place: 0,
+        });
+    }
+    let mut units = [0u16; Limits::UNITS];
+    let mut clusters = [0i32; 2 * Limits::GLYPHS];
+    let mut glyphs = [0i32; 4 * Limits::GLYPHS];
+    let r = reader::read(text, indices, &mut units, &mut clusters, &mut glyphs);
+    match r {
+        Reading::Refused(x) => Relabelling::No(x),
+        Reading::Read(n) => {
+            let u = n.units;
+            let c = 2 * n.clusters;
+            let g = 4 * n.glyphs;
+            let w = writer::write(
+                &units[..u],
+                &clusters[..c],
+                &glyphs[..g],
+                out_text,
+                out_indices,
+            );
+            answer(n, w)
+        }
+    }
+}

@@ -1,0 +1,56 @@
+use Rattle.picks.proofs.Touches.{refuses-19, refuses-22, picks-stretch, within-limits}
+use Rattle.label.specs.Calls.{pickOutcome}
+use mathlib.Core.Path.{ap, _∙_}
+use borrow.Author.Needs.{needs}
+use Rattle.picks.proofs.pick.Statement.{statement}
+use Rattle.picks.proofs.pick.Tie as tie
+
+is-sound-requires : tie.Need-is-sound-requires
+is-sound-requires c κs = search needs
+
+refused-requires : tie.Need-refused-requires
+refused-requires c κs = search needs
+
+returns : tie.Need-returns
+returns c =
+    let a = c .before .before .before .before .args in
+    ap pickOutcome (c .refused .ensures) ∙ refuses-19 (a .turn) (a .units .now) (a .clusters .now) (a .glyphs .now) (a .first) (a .end) (c .before .before .is-sound .ensures) (c .before .if1 .taken)
+
+count-of-requires : tie.Need-count-of-requires
+count-of-requires c κs = search needs
+
+both-requires : tie.Need-both-requires
+both-requires c κs = search needs
+
+refused-requires-2 : tie.Need-refused-requires-2
+refused-requires-2 c κs = search needs
+
+returns-2 : tie.Need-returns-2
+returns-2 c =
+    let a = c .before .before .before .before .before .before .before .args in
+    ap pickOutcome (c .refused2 .ensures)
+    ∙ refuses-22 (a .turn) (a .units .now) (a .clusters .now) (a .glyphs .now) (a .first) (a .end) (c .before .before .before .before .before .is-sound .ensures) (c .before .before .before .before .if1 .left) (c .before .before .before .count-of .ensures) (c .before .before .both .ensures) (c .before .if2 .taken)
+
+touched-by-requires : tie.Need-touched-by-requires
+touched-by-requires c κs =
+    let a = c .before .before .before .before .before .before .args in
+    within-limits (a .turn) (a .units .now) (a .clusters .now) (a .glyphs .now) (a .first) (a .end) (c .before .before .before .before .is-sound .ensures) (c .before .before .before .if1 .left) (c .before .before .count-of .ensures) (c .before .both .ensures) (c .if2 .left)
+
+returns-3 : tie.Need-returns-3
+returns-3 c =
+    let a = c .before .before .before .before .before .before .before .args in
+    picks-stretch (a .turn) (a .units .now) (a .clusters .now) (a .glyphs .now) (a .first) (a .end) (c .before .before .before .before .before .is-sound .ensures) (c .before .before .before .before .if1 .left) (c .before .before .before .count-of .ensures) (c .before .before .both .ensures) (c .before .if2 .left) (c .touched-by .ensures)
+
+pub pick-spec : {M : Type 1} → statement M
+pick-spec =
+    tie.close
+    (tie.spec
+    is-sound-requires
+    refused-requires
+    returns
+    count-of-requires
+    both-requires
+    refused-requires-2
+    returns-2
+    touched-by-requires
+    returns-3)

@@ -1,0 +1,20 @@
+-- Both picks as one, with its way as a choice.
+-- Assumes nothing.
+use Prim.Native.Nat.{ℕ}
+use mathlib.Core.Bool.{Bool, true, false}
+use mathlib.Core.List.{List}
+use lib.IntN.{ℤ}
+use Rattle.label.specs.Outcome.{Outcome}
+use Rattle.label.specs.Pick.{turned, pickUnits, pickGlyphs}
+use Rattle.label.specs.declared.Cluster.{Cluster}
+use Rattle.label.specs.declared.Stretch.{Stretch}
+
+-- the clusters as a pick from glyphs to units takes them; turned, as one from units to glyphs does
+unfoldable pub way : Bool → List Cluster → List Cluster
+way false cs = cs
+way true cs = turned cs
+
+-- the pick from glyphs to units; turned, the one from units to glyphs
+abbrev pub pickBy : Bool → List ℕ → List ℤ → List ℤ → ℕ → ℕ → Outcome Stretch
+pickBy false us cs gs first end = pickUnits us cs gs first end
+pickBy true us cs gs first end = pickGlyphs us cs gs first end

@@ -1,0 +1,4 @@
+pub mod Parts
+pub mod Stored
+pub mod Planned
+pub mod Facts

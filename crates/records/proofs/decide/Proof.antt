@@ -1,0 +1,30 @@
+-- `records::decide` meets its contract: each test decides one of the three ways of the listing. Assumes nothing.
+use borrow.Author.Tests.{not-true, not-false}
+use mathlib.Core.Path.{sym, _∙_}
+use borrow.Author.Needs.{needs}
+use Rattle.records.proofs.Planned.{unsound, short, whole}
+use Rattle.records.proofs.decide.Statement.{statement}
+use Rattle.records.proofs.decide.Tie as tie
+
+is-sound-requires : tie.Need-is-sound-requires
+is-sound-requires c κs = search needs
+
+refuses-requires : tie.Need-refuses-requires
+refuses-requires c κs = search needs
+
+returns : tie.Need-returns
+returns c = c .refuses .ensures ∙ unsound _ _ _ _ (sym (c .before .before .is-sound .ensures) ∙ not-true _ (c .before .if1 .taken))
+
+refuses-requires-2 : tie.Need-refuses-requires-2
+refuses-requires-2 c κs = search needs
+
+returns-2 : tie.Need-returns-2
+returns-2 c = c .refuses2 .ensures ∙ short _ _ _ _ (sym (c .before .before .before .is-sound .ensures) ∙ not-false _ (c .before .before .if1 .left)) (c .before .if2 .taken)
+
+returns-3 : tie.Need-returns-3
+returns-3 c = whole _ _ _ _ (sym (c .before .before .is-sound .ensures) ∙ not-false _ (c .before .if1 .left)) (c .if2 .left)
+
+pub decide-spec : {M : Type 1} → statement M
+decide-spec =
+    tie.close
+    (tie.spec is-sound-requires refuses-requires returns refuses-requires-2 returns-2 returns-3)

@@ -1,0 +1,132 @@
+// The glyphs of a sound run as a list of glyph records.
+use label::Advance;
+use label::Glyph;
+use label::Index;
+use label::Listing;
+use label::Refusal;
+ghost use mathlib.Core.Path.{_≡_};
+ghost use mathlib.Core.List.{_++_};
+ghost use Prim.Native.Nat.{_<_, _≤_, _+_, _*_};
+ghost use lib.ListN.{length, drop};
+ghost use Rattle.words.specs.Places.{place};
+ghost use Rattle.label.specs.Sound.{numberAdvance};
+ghost use Rattle.label.specs.Calls.{refusal, listInto, listingOutcome, listedCount, recordsAfter};
+ghost use Rattle.records.specs.Records.{indexOf, recordOf, records, planOf};
+
+// A number from 0 to the largest index names an index; any other leaves it to the font.
+fn index_at(glyphs: &[i32], k: usize) -> Index
+    requires { ⌜ k < length (now glyphs) ⌝ }
+    ensures { λ r. ⌜ r ≡ indexOf (place (now (glyphs .entry)) k) ⌝ }
+{
+    if !words::natural_at(glyphs, k) {
+        return Index::Font;
+    }
+    let n = words::size_at(glyphs, k);
+    if label::Limits::INDEX < n as u64 {
+        return Index::Font;
+    }
+    Index::Named(n as u16)
+}
+
+// A number from 0 on is an advance; a negative one leaves it to the font.
+fn advance_at(glyphs: &[i32], k: usize) -> Advance
+    requires { ⌜ k < length (now glyphs) ⌝ }
+    ensures { λ r. ⌜ r ≡ numberAdvance (place (now (glyphs .entry)) k) ⌝ }
+{
+    if !words::natural_at(glyphs, k) {
+        return Advance::Own;
+    }
+    Advance::Given(words::size_at(glyphs, k))
+}
+
+// The record of glyph k.
+fn glyph_at(glyphs: &[i32], k: usize) -> Glyph
+    requires { ⌜ k * 4 + 3 < length (now glyphs) ⌝ }
+    ensures { λ r. ⌜ r ≡ recordOf (now (glyphs .entry)) k ⌝ }
+{
+    let i = k * 4;
+    let index = index_at(glyphs, i);
+    let advance = advance_at(glyphs, i + 1);
+    let u = glyphs[i + 2];
+    let v = glyphs[i + 3];
+    Glyph {
+        index,
+        advance,
+        u,
+        v,
+    }
+}
+
+// Stores the records of the first n glyphs; the records behind them stay.
+fn fill(out: &mut [Glyph], glyphs: &[i32], n: usize)
+    requires { ⌜ (n ≤ length (now out)) × (n * 4 ≤ length (now glyphs)) ⌝ }
+    ensures { λ _. ⌜ now (out .exit) ≡ records (now (glyphs .entry)) n ++ drop n (now (out .entry)) ⌝ }
+{
+    let mut k = 0;
+    while k < n {
+        out[k] = glyph_at(glyphs, k);
+        k += 1;
+    }
+}
+
+// What the listing answers, and how many records it stores: none where it refuses.
+struct Plan {
+    count: usize,
+    answer: Listing,
+}
+
+// A refusal stores nothing.
+fn refuses(number: usize, place: usize) -> Plan
+    ensures { λ r. ⌜ r ≡ record { count = 0; answer = Listing.Refused (refusal number place) } ⌝ }
+{
+    Plan {
+        count: 0,
+        answer: Listing::Refused(Refusal { number, place }),
+    }
+}
+
+// Decides the listing of a run's glyphs into a list of `room` records.
+fn decide(units: &[u16], clusters: &[i32], glyphs: &[i32], room: usize) -> Plan
+    ensures { λ r. ⌜ r ≡ planOf room (now (units .entry)) (now (clusters .entry)) (now (glyphs .entry)) ⌝ }
+{
+    if !sound::is_sound(units, clusters, glyphs) {
+        return refuses(19, 0);
+    }
+    let n = glyphs.len() / 4;
+    if room < n {
+        return refuses(18, n);
+    }
+    Plan {
+        count: n,
+        answer: Listing::Listed(n),
+    }
+}
+
+// Lists the glyphs of a run in `out`: 19 where the run is not sound, 18 where `out` is too short. The records behind stay, and a refusal changes none.
+pub fn list_records(units: &[u16], clusters: &[i32], glyphs: &[i32], out: &mut [Glyph]) -> Listing
+    ensures result { λ r. ⌜ listingOutcome r ≡ listedCount (listInto (length (now (out .entry))) (now (units .entry)) (now (clusters .entry)) (now (glyphs .entry))) ⌝ }
+    ensures records { λ r. ⌜ now (out .exit) ≡ recordsAfter (listInto (length (now (out .entry))) (now (units .entry)) (now (clusters .entry)) (now (glyphs .entry))) (now (out .entry)) ⌝ }
+{
+    let plan = decide(units, clusters, glyphs, out.len());
+    fill(out, glyphs, plan.count);
+    plan.answer
+}
+
+// Four records by value, and what the listing into them answers.
+pub struct Four {
+    pub answer: Listing,
+    pub records: [Glyph; 4],
+}
+
+// The same with four records that are passed by value and handed back.
+pub fn list_four(units: &[u16], clusters: &[i32], glyphs: &[i32], records: [Glyph; 4]) -> Four
+    ensures result { λ r. ⌜ listingOutcome (r .answer) ≡ listedCount (listInto 4 (now (units .entry)) (now (clusters .entry)) (now (glyphs .entry))) ⌝ }
+    ensures records { λ r. ⌜ r .records ≡ recordsAfter (listInto 4 (now (units .entry)) (now (clusters .entry)) (now (glyphs .entry))) records ⌝ }
+{
+    let mut out = records;
+    let answer = list_records(units, clusters, glyphs, &mut out);
+    Four {
+        answer,
+        records: out,
+    }
+}

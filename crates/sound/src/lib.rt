@@ -1,0 +1,158 @@
+// Whether the numbers of three buffers are a sound run: one that some accepted label reads as.
+ghost use mathlib.Core.Path.{_≡_};
+ghost use Prim.Native.Nat.{_+_, _<_, _≤_};
+ghost use lib.Dec.{leb};
+ghost use lib.ListN.{length};
+ghost use Rattle.label.specs.Limits.{maxThousandths};
+ghost use Rattle.label.specs.Bytes.{empty};
+ghost use Rattle.label.specs.Sound.{size, indexFits, advanceFits, glyphFits, numberIndex, numberAdvance, wholeClusters, wholeGlyphs, fits, clustersOf, glyphsOf, sound};
+ghost use Rattle.words.specs.Places.{place};
+ghost use Rattle.sound.specs.Sounds.{glyphAt, opensAt};
+
+// ── the numbers of a glyph, from place k on ──
+
+fn index_fits_at(s: &[i32], k: usize) -> bool
+    requires { ⌜ k < length (now s) ⌝ }
+    ensures { λ r. ⌜ r ≡ indexFits (numberIndex (place (now (s .entry)) k)) ⌝ }
+{
+    words::nat_at(s, k) as u64 <= label::Limits::INDEX
+}
+
+fn advance_fits_at(s: &[i32], k: usize) -> bool
+    requires { ⌜ k < length (now s) ⌝ }
+    ensures { λ r. ⌜ r ≡ advanceFits (numberAdvance (place (now (s .entry)) k)) ⌝ }
+{
+    words::nat_at(s, k) as u64 <= label::Limits::THOUSANDTHS
+}
+
+fn offset_fits_at(s: &[i32], k: usize) -> bool
+    requires { ⌜ k < length (now s) ⌝ }
+    ensures { λ r. ⌜ r ≡ leb (size (place (now (s .entry)) k)) maxThousandths ⌝ }
+{
+    words::size_at(s, k) as u64 <= label::Limits::THOUSANDTHS
+}
+
+fn glyph_fits_at(s: &[i32], k: usize) -> bool
+    requires { ⌜ k + 3 < length (now s) ⌝ }
+    ensures { λ r. ⌜ r ≡ glyphFits (glyphAt (now (s .entry)) k) ⌝ }
+{
+    let index = index_fits_at(s, k);
+    let advance = advance_fits_at(s, k + 1);
+    let u = offset_fits_at(s, k + 2);
+    let v = offset_fits_at(s, k + 3);
+    words::both(words::both(words::both(index, advance), u), v)
+}
+
+// ── whole clusters and glyphs ──
+
+fn whole_clusters(s: &[i32]) -> bool
+    ensures { λ r. ⌜ r ≡ wholeClusters (now (s .entry)) ⌝ }
+{
+    let mut i = 0;
+    while 2 <= s.len() - i {
+        let a = words::natural_at(s, i);
+        let b = words::natural_at(s, i + 1);
+        if !words::both(a, b) {
+            return false;
+        }
+        i += 2;
+    }
+    i == s.len()
+}
+
+fn whole_glyphs(s: &[i32]) -> bool
+    ensures { λ r. ⌜ r ≡ wholeGlyphs (now (s .entry)) ⌝ }
+{
+    let mut k = 0;
+    while 4 <= s.len() - k {
+        let index = words::choice_at(s, k);
+        let advance = words::choice_at(s, k + 1);
+        if !words::both(index, advance) {
+            return false;
+        }
+        k += 4;
+    }
+    k == s.len()
+}
+
+// ── the clusters over the units and the glyphs ──
+
+// Whether a cluster of a units and b glyphs may stand from unit `at` on. `bare`: the run has no units; `named`: its first glyph names an index.
+fn opens_at(bare: bool, us: &[u16], at: usize, a: usize, b: usize, named: bool) -> bool
+    requires { ⌜ (at ≤ length (now us)) × (a < 4294967296) ⌝ }
+    ensures { λ r. ⌜ r ≡ opensAt bare (now (us .entry)) at a b named ⌝ }
+{
+    if bare {
+        return words::both(words::both(a == 0, b == 1), named);
+    }
+    let counts = words::both(1 <= a, 1 <= b);
+    let split = text::is_low(text::unit_or_zero(us, at + a));
+    let index = words::either(named, words::both(a == 1, b == 1));
+    words::both(
+        words::both(words::both(counts, a <= us.len() - at), !split),
+        index,
+    )
+}
+
+// Whether the clusters use up the units and the glyphs, and each glyph keeps the limits. `lack`: glyphs that the open cluster still lacks.
+fn fits_run(us: &[u16], cs: &[i32], gs: &[i32]) -> bool
+    ensures { λ r. ⌜ r ≡ fits (empty (now (us .entry))) 0 (now (us .entry)) (clustersOf (now (cs .entry))) (glyphsOf (now (gs .entry))) ⌝ }
+{
+    let bare = us.len() == 0;
+    let mut lack = 0;
+    let mut at = 0;
+    let mut i = 0;
+    let mut k = 0;
+    while 4 <= gs.len() - k {
+        if !glyph_fits_at(gs, k) {
+            return false;
+        }
+        let named = words::natural_at(gs, k);
+        k += 4;
+        if 0 < lack {
+            if !named {
+                return false;
+            }
+            lack -= 1;
+            continue;
+        }
+        if cs.len() - i < 2 {
+            return false;
+        }
+        let a = words::widened(words::nat_at(cs, i));
+        let b = words::widened(words::nat_at(cs, i + 1));
+        if !opens_at(bare, us, at, a, b, named) {
+            return false;
+        }
+        at += a;
+        i += 2;
+        lack = words::less_one(b);
+    }
+    let none = cs.len() - i < 2;
+    words::both(words::both(lack == 0, none), at == us.len())
+}
+
+// Whether some accepted label reads as these numbers.
+pub fn is_sound(units: &[u16], clusters: &[i32], glyphs: &[i32]) -> bool
+    ensures { λ r. ⌜ r ≡ sound (now (units .entry)) (now (clusters .entry)) (now (glyphs .entry)) ⌝ }
+{
+    if !whole_clusters(clusters) {
+        return false;
+    }
+    if !whole_glyphs(glyphs) {
+        return false;
+    }
+    if !text::proper_units(units) {
+        return false;
+    }
+    let count = glyphs.len() / 4;
+    let few = words::both(
+        units.len() <= label::Limits::UNITS,
+        count <= label::Limits::GLYPHS,
+    );
+    let empty = words::both(units.len() == 0, count == 0);
+    if !words::both(few, !empty) {
+        return false;
+    }
+    fits_run(units, clusters, glyphs)
+}

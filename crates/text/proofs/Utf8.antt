@@ -1,0 +1,117 @@
+-- Laws of a run's text: the bytes of a character, of a unit, and of the units from a place on.
+-- Assumes nothing.
+use Prim.Native.Nat.{ℕ, _+_, _/_, _%_, _<_, _≤_}
+use native.Mathlib.Nat.{add-zero}
+use native.Mathlib.Numerals.{add-one}
+use native.Mathlib.Omega.{arith}
+use mathlib.Core.Path.{_≡_, sym, ap, _∙_}
+use mathlib.Core.Bool.{Bool, true, false, cond, and-false}
+use mathlib.Core.List.{List, [], _∷_, _++_}
+use borrow.Author.Tests.{le-leb, lt-leb, leb-true, eq-eqb, ne-eqb}
+use lib.Dec.{leb}
+use lib.ListN.{length, getD, drop, length-append, drop-of-length-le}
+use lib.Seq.{drop-cons, getD-drop}
+use Rattle.label.specs.Text.{isLow, isHigh, braced}
+use Rattle.label.specs.Write.{utf8, paired, unitBytes, unitsBytes, textOf}
+use Rattle.label.proofs.Basics.{and-l, and-r, cases}
+use Rattle.text.specs.Units.{unitLength, markLength}
+
+-- ── a character ──
+
+module _ (c : ℕ) where
+  pub utf-one : c ≤ 127 → c ∷ [] ≡ utf8 c
+  unfolding utf8
+  utf-one h = rw (le-leb c 127 h)
+
+  pub utf-two : 127 < c → c ≤ 2047 → ((192 + c / 64) ∷ []) ++ ((128 + c % 64) ∷ []) ≡ utf8 c
+  unfolding utf8
+  utf-two l h = rw (lt-leb c 127 l, le-leb c 2047 h)
+
+  pub utf-three : 127 < c → 2047 < c → c ≤ 65535 → ((224 + c / 4096) ∷ []) ++ (((128 + c / 64 % 64) ∷ []) ++ ((128 + c % 64) ∷ [])) ≡ utf8 c
+  unfolding utf8
+  utf-three l m h = rw (lt-leb c 127 l, lt-leb c 2047 m, le-leb c 65535 h)
+
+  pub utf-four : 127 < c → 2047 < c → 65535 < c → ((240 + c / 262144) ∷ []) ++ (((128 + c / 4096 % 64) ∷ []) ++ (((128 + c / 64 % 64) ∷ []) ++ ((128 + c % 64) ∷ []))) ≡ utf8 c
+  unfolding utf8
+  utf-four l m h = rw (lt-leb c 127 l, lt-leb c 2047 m, lt-leb c 65535 h)
+
+-- ── a unit ──
+
+module _ (u v : ℕ) {a : Bool} (e : a ≡ isLow u) where
+  pub unit-low : a ≡ true → [] ≡ unitBytes u v
+  unfolding unitBytes
+  unit-low k = rw (sym e ∙ k)
+
+  module _ (k : a ≡ false) {b : Bool} (f : b ≡ isHigh u) where
+    pub unit-high : {c : ℕ} → b ≡ true → c ≡ paired u v → utf8 c ≡ unitBytes u v
+    unfolding unitBytes
+    unit-high h d = rw (sym e ∙ k, sym f ∙ h, d)
+
+    pub unit-plain : b ≡ false → utf8 u ≡ unitBytes u v
+    unfolding unitBytes
+    unit-plain h = rw (sym e ∙ k, sym f ∙ h)
+
+pub high-range : (u : ℕ) {b : Bool} → b ≡ isHigh u → b ≡ true → (55296 ≤ u) × (u ≤ 56319)
+high-range u f h = (leb-true 55296 u (and-l _ _ (sym f ∙ h)), leb-true u 56319 (and-r (leb 55296 u) _ (sym f ∙ h)))
+
+-- ── the units from a place on ──
+
+pub units-at : (us : List ℕ) (i : ℕ) → i < length us → unitsBytes (drop i us) ≡ unitBytes (getD us i 0) (getD us (i + 1) 0) ++ unitsBytes (drop (i + 1) us)
+unfolding unitsBytes
+units-at us i h = rw (drop-cons us i 0 h, unitsBytes, getD-drop, add-zero, add-one)
+
+pub units-end : (us : List ℕ) (i : ℕ) → length us ≤ i → unitsBytes (drop i us) ≡ []
+unfolding unitsBytes
+units-end us i h = rw (drop-of-length-le us h)
+
+module _ (us : List ℕ) {n : ℕ} (e : n ≡ getD us 0 0) where
+  pub text-braced : n ≡ 123 → (123 ∷ []) ++ ((125 ∷ []) ++ unitsBytes us) ≡ textOf us
+  unfolding textOf
+  text-braced h = rw (eq-eqb (getD us 0 0) 123 (sym e ∙ h))
+
+  pub text-plain : (n ≡ 123 → ⊥) → unitsBytes us ≡ textOf us
+  unfolding textOf
+  text-plain h = rw (ne-eqb (getD us 0 0) 123 (λ z. h (e ∙ z)))
+
+  pub mark-two : n ≡ 123 → 2 ≡ markLength us
+  unfolding markLength
+  mark-two h = rw (eq-eqb (getD us 0 0) 123 (sym e ∙ h))
+
+  pub mark-none : (n ≡ 123 → ⊥) → 0 ≡ markLength us
+  unfolding markLength
+  mark-none h = rw (ne-eqb (getD us 0 0) 123 (λ z. h (e ∙ z)))
+
+-- ── lengths ──
+
+utf-length : (c : ℕ) → length (utf8 c) ≡ cond (leb c 127) 1 (cond (leb c 2047) 2 (cond (leb c 65535) 3 4))
+unfolding utf8
+utf-length c =
+    cases (leb c 127) (λ a. rw a)
+    (λ a. cases (leb c 2047) (λ b. rw (a, b)) (λ b. cases (leb c 65535) (λ d. rw (a, b, d)) (λ d. rw (a, b, d))))
+
+pub unit-length : (u v : ℕ) → u < 65536 → length (unitBytes u v) ≡ unitLength u
+unfolding unitBytes unitLength
+unit-length u v h =
+    cases (isLow u)
+    (λ a.
+    let l = leb-true 56320 u (and-l _ _ a) in
+    rw (a, lt-leb u 127 (omega arith), lt-leb u 2047 (omega arith), lt-leb u 56319 (omega arith), and-false (leb 55296 u)))
+    (λ a. cases (isHigh u)
+    (λ b.
+    let l = leb-true 55296 u (and-l _ _ b) in
+    rw (a, b, utf-length (paired u v), lt-leb (paired u v) 127 (omega arith), lt-leb (paired u v) 2047 (omega arith), lt-leb (paired u v) 65535 (omega arith), lt-leb u 127 (omega arith), lt-leb u 2047 (omega arith)))
+    (λ b. rw (a, b, utf-length u, le-leb u 65535 (omega arith))))
+
+-- what is left to count of the units' bytes, one unit further
+pub length-next : (us : List ℕ) (i n r w : ℕ) → i < length us → getD us i 0 < 65536 → r ≡ unitLength (getD us i 0) → n + length (unitsBytes (drop i us)) ≡ w
+    → n + r + length (unitsBytes (drop (i + 1) us)) ≡ w
+length-next us i n r w h f e k =
+    let q = unit-length (getD us i 0) (getD us (i + 1) 0) f in
+    omega (arith, rw length-append at (ap length (units-at us i h)))
+
+pub length-start : (us : List ℕ) {n : ℕ} → n ≡ markLength us → n + length (unitsBytes us) ≡ length (textOf us)
+unfolding markLength textOf
+length-start us {n} e = cases (braced us) (λ a. rw (e, a) (omega arith)) (λ a. rw (e, a) (omega arith))
+
+pub length-end : (us : List ℕ) (i n w : ℕ) → length us ≤ i → n + length (unitsBytes (drop i us)) ≡ w → n ≡ w
+length-end us i n w h k = sym (add-zero n) ∙ rw (units-end us i h) at k

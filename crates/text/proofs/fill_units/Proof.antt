@@ -1,0 +1,87 @@
+use Rattle.text.proofs.Fills.{Fill, fill-start, fill-room, fill-next, fill-end, good-small}
+use Rattle.text.proofs.Moves.{no-ill, no-outside}
+use Rattle.text.proofs.Chars.{reached-inside}
+use borrow.Author.Needs.{needs}
+use lib.ListN.{length}
+use mathlib.Core.Path.{sym, _∙_}
+use native.Mathlib.Omega.{arith}
+use Prim.Native.Nat.{_-_}
+use Rattle.text.proofs.fill_units.Statement.{statement}
+use Rattle.text.proofs.fill_units.Tie as tie
+use Rattle.text.proofs.fill_units.Reads as reads
+use Rattle.text.proofs.fill_units.Lts as lts
+use Rattle.text.proofs.char_at.Reads as char-at-reads
+use Rattle.text.proofs.put_char.Reads as put-char-reads
+
+abbrev Inv-loop : tie.InvT-loop
+Inv-loop text from out₀ i₀ n₀ out i n = Fill text out₀ out from i n
+
+abbrev μ-loop : tie.MeasureT-loop
+μ-loop text from out₀ i₀ n₀ out i n = length text - i
+
+loop-holds : tie.Need-loop-holds Inv-loop μ-loop
+loop-holds c = fill-start _ _ _ (c .before .before .pre .0)
+
+char-at-requires : tie.Need-char-at-requires Inv-loop μ-loop
+char-at-requires c κs = search needs
+
+enum-known-code : tie.Need-enum-known-code Inv-loop μ-loop
+enum-known-code c = search needs
+
+put-char-requires : tie.Need-put-char-requires Inv-loop μ-loop
+put-char-requires c κs =
+    let g = sym (c .before .before .before .before .char-at .ensures) ∙ c .before .before .code .given .1 in
+    (good-small _ _ _ _ g, fill-room (c .before .before .before .before .before .before .loop .inv) (c .before .before .before .before .before .loop-test .taken) g (c .before .before .before .before .before .before .before .before .before .pre .1))
+
+loop-less : tie.Need-loop-less Inv-loop μ-loop
+loop-less c =
+    let d = reached-inside _ _ _ _ (c .before .before .before .before .before .before .before .before .loop-test .taken) (sym (c .before .before .before .before .before .before .before .char-at .ensures) ∙ c .before .before .before .before .before .code .given .1) in
+    omega (arith, d)
+
+loop-again : tie.Need-loop-again Inv-loop μ-loop
+loop-again c = fill-next (c .before .before .before .before .before .before .before .before .before .loop .inv) (c .before .before .before .before .before .before .before .before .loop-test .taken) (sym (c .before .before .before .before .before .before .before .char-at .ensures) ∙ c .before .before .before .before .before .code .given .1) (c .before .before .put-char .ensures)
+
+enum-told : tie.Need-enum-told Inv-loop μ-loop
+enum-told c = search needs
+
+same-length : tie.Need-same-length Inv-loop μ-loop
+same-length c = c .before .before .before .before .loop .inv .same
+
+returns : tie.Need-returns Inv-loop μ-loop
+returns c = no-ill _ _ _ (c .before .before .before .before .loop .inv .here) (c .before .before .before .loop-test .taken) (sym (c .before .before .char-at .ensures) ∙ c .enum-told .given .1)
+
+enum-told-2 : tie.Need-enum-told-2 Inv-loop μ-loop
+enum-told-2 c = search needs
+
+same-length-2 : tie.Need-same-length-2 Inv-loop μ-loop
+same-length-2 c = c .before .before .before .before .loop .inv .same
+
+returns-2 : tie.Need-returns-2 Inv-loop μ-loop
+returns-2 c = no-outside _ _ _ (c .before .before .before .before .loop .inv .here) (c .before .before .before .loop-test .taken) (sym (c .before .before .char-at .ensures) ∙ c .enum-told2 .given .1)
+
+same-length-3 : tie.Need-same-length-3 Inv-loop μ-loop
+same-length-3 c = c .before .loop .inv .same
+
+returns-3 : tie.Need-returns-3 Inv-loop μ-loop
+returns-3 c = fill-end (c .before .loop .inv) (c .loop-test .left) (c .before .before .before .before .pre .1)
+
+pub fill-units-spec : {M : Type 1} → statement M
+fill-units-spec =
+    tie.close
+    (tie.spec
+    Inv-loop
+    μ-loop
+    loop-holds
+    char-at-requires
+    enum-known-code
+    put-char-requires
+    loop-less
+    loop-again
+    enum-told
+    same-length
+    returns
+    enum-told-2
+    same-length-2
+    returns-2
+    same-length-3
+    returns-3)

@@ -1,0 +1,19 @@
+use lib.Bits.{or-shifted-r}
+use native.Mathlib.Omega.{arith}
+use borrow.Author.Needs.{needs}
+use Rattle.text.proofs.high_half.Statement.{statement}
+use Rattle.text.proofs.high_half.Tie as tie
+use Rattle.text.proofs.high_half.Reads as reads
+use Rattle.text.proofs.high_half.Lts as lts
+
+sub-v : tie.Need-sub-v
+sub-v c = search needs
+
+cast-result : tie.Need-cast-result
+cast-result c = search needs
+
+returns : tie.Need-returns
+returns c = or-shifted-r 54 10 _ (omega arith)
+
+pub high-half-spec : {M : Type 1} → statement M
+high-half-spec = tie.close (tie.spec sub-v cast-result returns)

@@ -1,0 +1,18 @@
+use native.Mathlib.Omega.{arith}
+use borrow.Author.Tests.{le-leb, lt-leb}
+use Rattle.text.specs.Texts.{unitsWithin}
+use Rattle.text.proofs.limited.Statement.{statement}
+use Rattle.text.proofs.limited.Tie as tie
+use Rattle.text.proofs.limited.Reads as reads
+use Rattle.text.proofs.limited.Lts as lts
+
+returns : tie.Need-returns
+unfolding unitsWithin
+returns c = rw (le-leb (c .before .args .count) 4096 (omega arith))
+
+returns-2 : tie.Need-returns-2
+unfolding unitsWithin
+returns-2 c = rw (lt-leb (c .before .args .count) 4096 (omega arith))
+
+pub limited-spec : {M : Type 1} → statement M
+limited-spec = tie.close (tie.spec returns returns-2)

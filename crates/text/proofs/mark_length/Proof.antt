@@ -1,0 +1,20 @@
+use native.Mathlib.Omega.{arith}
+use Rattle.text.proofs.Utf8.{mark-two, mark-none}
+use borrow.Author.Needs.{needs}
+use Rattle.text.proofs.mark_length.Statement.{statement}
+use Rattle.text.proofs.mark_length.Tie as tie
+use Rattle.text.proofs.mark_length.Reads as reads
+use Rattle.text.proofs.mark_length.Lts as lts
+use Rattle.text.proofs.unit_or_zero.Reads as unit-or-zero-reads
+
+unit-or-zero-requires : tie.Need-unit-or-zero-requires
+unit-or-zero-requires c κs = search needs
+
+returns : tie.Need-returns
+returns c = (mark-two (c .before .before .before .args .us .now) (c .before .unit-or-zero .ensures) (c .if1 .taken), omega arith)
+
+returns-2 : tie.Need-returns-2
+returns-2 c = (mark-none (c .before .before .before .args .us .now) (c .before .unit-or-zero .ensures) (c .if1 .left), omega arith)
+
+pub mark-length-spec : {M : Type 1} → statement M
+mark-length-spec = tie.close (tie.spec unit-or-zero-requires returns returns-2)

@@ -1,0 +1,19 @@
+use mathlib.Core.Path.{sym, _∙_}
+use borrow.Author.Needs.{needs}
+use Rattle.text.proofs.one_byte.Statement.{statement}
+use Rattle.text.proofs.one_byte.Tie as tie
+use Rattle.text.proofs.one_byte.Reads as reads
+use Rattle.text.proofs.one_byte.Lts as lts
+use Rattle.text.proofs.is_xml.Reads as is-xml-reads
+
+is-xml-requires : tie.Need-is-xml-requires
+is-xml-requires c κs = search needs
+
+returns : tie.Need-returns
+returns c = rw (sym (c .before .is-xml .ensures) ∙ c .if1 .taken)
+
+returns-2 : tie.Need-returns-2
+returns-2 c = rw (sym (c .before .is-xml .ensures) ∙ c .if1 .left)
+
+pub one-byte-spec : {M : Type 1} → statement M
+one-byte-spec = tie.close (tie.spec is-xml-requires returns returns-2)

@@ -1,0 +1,51 @@
+use Rattle.text.proofs.Utf8.{text-braced, text-plain}
+use Rattle.words.proofs.Puts.{then, put-as}
+use borrow.Author.Needs.{needs}
+use Rattle.text.proofs.put_text.Statement.{statement}
+use Rattle.text.proofs.put_text.Tie as tie
+use Rattle.text.proofs.put_text.Reads as reads
+use Rattle.text.proofs.put_text.Lts as lts
+use Rattle.words.proofs.put_byte.Reads as put-byte-reads
+use Rattle.text.proofs.put_units.Reads as put-units-reads
+use Rattle.text.proofs.unit_or_zero.Reads as unit-or-zero-reads
+
+unit-or-zero-requires : tie.Need-unit-or-zero-requires
+unit-or-zero-requires c κs = search needs
+
+put-byte-requires : tie.Need-put-byte-requires
+put-byte-requires c κs = search needs
+
+put-byte-requires-2 : tie.Need-put-byte-requires-2
+put-byte-requires-2 c κs = search needs
+
+put-units-requires : tie.Need-put-units-requires
+put-units-requires c κs = search needs
+
+same-length : tie.Need-same-length
+same-length c = search needs
+
+returns : tie.Need-returns
+returns c = put-as (text-braced (c .before .before .before .before .before .before .before .before .before .before .before .before .before .before .before .before .args .us .now) (c .before .before .before .before .before .before .before .before .before .before .before .before .before .unit-or-zero .ensures) (c .before .before .before .before .before .before .before .before .before .before .before .before .if1 .taken)) (then (c .before .before .before .before .before .before .before .before .before .before .put-byte .ensures .0) (then (c .before .before .before .before .before .before .put-byte2 .ensures .0) (c .before .before .put-units .ensures)))
+
+put-units-requires-2 : tie.Need-put-units-requires-2
+put-units-requires-2 c κs = search needs
+
+same-length-2 : tie.Need-same-length-2
+same-length-2 c = search needs
+
+returns-2 : tie.Need-returns-2
+returns-2 c = put-as (text-plain (c .before .before .before .before .before .before .before .before .args .us .now) (c .before .before .before .before .before .unit-or-zero .ensures) (c .before .before .before .before .if1 .left)) (c .before .before .put-units2 .ensures)
+
+pub put-text-spec : {M : Type 1} → statement M
+put-text-spec =
+    tie.close
+    (tie.spec
+    unit-or-zero-requires
+    put-byte-requires
+    put-byte-requires-2
+    put-units-requires
+    same-length
+    returns
+    put-units-requires-2
+    same-length-2
+    returns-2)

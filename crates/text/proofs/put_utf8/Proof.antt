@@ -1,0 +1,139 @@
+use Rattle.text.proofs.Utf8.{utf-one, utf-two, utf-three, utf-four}
+use Rattle.words.proofs.Puts.{then, put-as, put-digit}
+use native.Mathlib.Omega.{arith}
+use borrow.Author.Needs.{needs}
+use Rattle.text.proofs.put_utf8.Statement.{statement}
+use Rattle.text.proofs.put_utf8.Tie as tie
+use Rattle.text.proofs.put_utf8.Reads as reads
+use Rattle.text.proofs.put_utf8.Lts as lts
+use Rattle.words.proofs.put_byte.Reads as put-byte-reads
+use Rattle.text.proofs.tail_byte.Reads as tail-byte-reads
+
+cast-put-byte : tie.Need-cast-put-byte
+cast-put-byte c = search needs
+
+put-byte-requires : tie.Need-put-byte-requires
+put-byte-requires c κs = search needs
+
+same-length : tie.Need-same-length
+same-length c = search needs
+
+returns : tie.Need-returns
+returns c = (put-as (utf-one (c .before .before .before .before .before .before .args .c) (c .before .before .before .before .if1 .taken)) (c .before .before .put-byte .ensures .0), omega arith)
+
+add-put-byte : tie.Need-add-put-byte
+add-put-byte c = search needs
+
+cast-put-byte-2 : tie.Need-cast-put-byte-2
+cast-put-byte-2 c = search needs
+
+put-byte-requires-2 : tie.Need-put-byte-requires-2
+put-byte-requires-2 c κs = search needs
+
+tail-byte-requires : tie.Need-tail-byte-requires
+tail-byte-requires c κs = search needs
+
+put-byte-requires-3 : tie.Need-put-byte-requires-3
+put-byte-requires-3 c κs = search needs
+
+same-length-2 : tie.Need-same-length-2
+same-length-2 c = search needs
+
+returns-2 : tie.Need-returns-2
+returns-2 c = (put-as (utf-two (c .before .before .before .before .before .before .before .before .before .before .before .before .args .c) (c .before .before .before .before .before .before .before .before .before .before .if1 .left) (c .before .before .before .before .before .before .before .before .before .if2 .taken)) (then (c .before .before .before .before .before .before .before .put-byte2 .ensures .0) (put-digit (c .before .before .before .tail-byte .ensures) (c .before .before .put-byte3 .ensures .0))), omega arith)
+
+add-put-byte-2 : tie.Need-add-put-byte-2
+add-put-byte-2 c = search needs
+
+cast-put-byte-3 : tie.Need-cast-put-byte-3
+cast-put-byte-3 c = search needs
+
+put-byte-requires-4 : tie.Need-put-byte-requires-4
+put-byte-requires-4 c κs = search needs
+
+tail-byte-requires-2 : tie.Need-tail-byte-requires-2
+tail-byte-requires-2 c κs = search needs
+
+put-byte-requires-5 : tie.Need-put-byte-requires-5
+put-byte-requires-5 c κs = search needs
+
+tail-byte-requires-3 : tie.Need-tail-byte-requires-3
+tail-byte-requires-3 c κs = search needs
+
+put-byte-requires-6 : tie.Need-put-byte-requires-6
+put-byte-requires-6 c κs = search needs
+
+same-length-3 : tie.Need-same-length-3
+same-length-3 c = search needs
+
+returns-3 : tie.Need-returns-3
+returns-3 c = (put-as (utf-three (c .before .before .before .before .before .before .before .before .before .before .before .before .before .before .before .before .before .before .args .c) (c .before .before .before .before .before .before .before .before .before .before .before .before .before .before .before .before .if1 .left) (c .before .before .before .before .before .before .before .before .before .before .before .before .before .before .before .if2 .left) (c .before .before .before .before .before .before .before .before .before .before .before .before .before .before .if3 .taken)) (then (c .before .before .before .before .before .before .before .before .before .before .before .before .put-byte4 .ensures .0) (then (put-digit (c .before .before .before .before .before .before .before .before .tail-byte2 .ensures) (c .before .before .before .before .before .before .before .put-byte5 .ensures .0)) (put-digit (c .before .before .before .tail-byte3 .ensures) (c .before .before .put-byte6 .ensures .0)))), omega arith)
+
+add-put-byte-3 : tie.Need-add-put-byte-3
+add-put-byte-3 c = search needs
+
+cast-put-byte-4 : tie.Need-cast-put-byte-4
+cast-put-byte-4 c = search needs
+
+put-byte-requires-7 : tie.Need-put-byte-requires-7
+put-byte-requires-7 c κs = search needs
+
+tail-byte-requires-4 : tie.Need-tail-byte-requires-4
+tail-byte-requires-4 c κs = search needs
+
+put-byte-requires-8 : tie.Need-put-byte-requires-8
+put-byte-requires-8 c κs = search needs
+
+tail-byte-requires-5 : tie.Need-tail-byte-requires-5
+tail-byte-requires-5 c κs = search needs
+
+put-byte-requires-9 : tie.Need-put-byte-requires-9
+put-byte-requires-9 c κs = search needs
+
+tail-byte-requires-6 : tie.Need-tail-byte-requires-6
+tail-byte-requires-6 c κs = search needs
+
+put-byte-requires-10 : tie.Need-put-byte-requires-10
+put-byte-requires-10 c κs = search needs
+
+same-length-4 : tie.Need-same-length-4
+same-length-4 c = search needs
+
+returns-4 : tie.Need-returns-4
+returns-4 c = (put-as (utf-four (c .before .before .before .before .before .before .before .before .before .before .before .before .before .before .before .before .before .before .before .before .before .before .before .args .c) (c .before .before .before .before .before .before .before .before .before .before .before .before .before .before .before .before .before .before .before .before .before .if1 .left) (c .before .before .before .before .before .before .before .before .before .before .before .before .before .before .before .before .before .before .before .before .if2 .left) (c .before .before .before .before .before .before .before .before .before .before .before .before .before .before .before .before .before .before .before .if3 .left)) (then (c .before .before .before .before .before .before .before .before .before .before .before .before .before .before .before .before .before .put-byte7 .ensures .0) (then (put-digit (c .before .before .before .before .before .before .before .before .before .before .before .before .before .tail-byte4 .ensures) (c .before .before .before .before .before .before .before .before .before .before .before .before .put-byte8 .ensures .0)) (then (put-digit (c .before .before .before .before .before .before .before .before .tail-byte5 .ensures) (c .before .before .before .before .before .before .before .put-byte9 .ensures .0)) (put-digit (c .before .before .before .tail-byte6 .ensures) (c .before .before .put-byte10 .ensures .0))))), omega arith)
+
+pub put-utf8-spec : {M : Type 1} → statement M
+put-utf8-spec =
+    tie.close
+    (tie.spec
+    cast-put-byte
+    put-byte-requires
+    same-length
+    returns
+    add-put-byte
+    cast-put-byte-2
+    put-byte-requires-2
+    tail-byte-requires
+    put-byte-requires-3
+    same-length-2
+    returns-2
+    add-put-byte-2
+    cast-put-byte-3
+    put-byte-requires-4
+    tail-byte-requires-2
+    put-byte-requires-5
+    tail-byte-requires-3
+    put-byte-requires-6
+    same-length-3
+    returns-3
+    add-put-byte-3
+    cast-put-byte-4
+    put-byte-requires-7
+    tail-byte-requires-4
+    put-byte-requires-8
+    tail-byte-requires-5
+    put-byte-requires-9
+    tail-byte-requires-6
+    put-byte-requires-10
+    same-length-4
+    returns-4)

@@ -1,0 +1,64 @@
+use native.Mathlib.Omega.{arith}
+use Rattle.text.proofs.Texts.{survey-refused, survey-plain, survey-braced, survey-marked, marked-two}
+use mathlib.Core.Path.{sym, _∙_}
+use borrow.Author.Needs.{needs}
+use Rattle.text.proofs.survey_text.Statement.{statement}
+use Rattle.text.proofs.survey_text.Tie as tie
+use Rattle.text.proofs.survey_text.Reads as reads
+use Rattle.text.proofs.survey_text.Lts as lts
+use Rattle.text.proofs.byte_or_zero.Reads as byte-or-zero-reads
+use Rattle.text.proofs.count_units.Reads as count-units-reads
+use Rattle.text.proofs.limited.Reads as limited-reads
+
+count-units-requires : tie.Need-count-units-requires
+count-units-requires c κs = search needs
+
+enum-known-n : tie.Need-enum-known-n
+enum-known-n c = search needs
+
+byte-or-zero-requires : tie.Need-byte-or-zero-requires
+byte-or-zero-requires c κs = search needs
+
+limited-requires : tie.Need-limited-requires
+limited-requires c κs = search needs
+
+returns : tie.Need-returns
+returns c = c .limited .ensures ∙ survey-plain (c .before .before .before .before .before .before .before .before .args .text .now) _ (sym (c .before .before .before .before .before .before .count-units .ensures) ∙ c .before .before .before .before .n .given .1) (c .before .before .byte-or-zero .ensures) (c .before .if1 .taken)
+
+byte-or-zero-requires-2 : tie.Need-byte-or-zero-requires-2
+byte-or-zero-requires-2 c κs = search needs
+
+returns-2 : tie.Need-returns-2
+returns-2 c = survey-braced (c .before .before .before .before .before .before .before .before .before .args .text .now) _ (sym (c .before .before .before .before .before .before .before .count-units .ensures) ∙ c .before .before .before .before .before .n .given .1) (c .before .before .before .byte-or-zero .ensures) (c .before .before .if1 .left) (c .before .byte-or-zero2 .ensures) (c .if2 .taken)
+
+sub-limited : tie.Need-sub-limited
+sub-limited c = omega (arith, marked-two (c .before .before .before .before .before .before .before .before .before .args .text .now) _ (sym (c .before .before .before .before .before .before .before .count-units .ensures) ∙ c .before .before .before .before .before .n .given .1) (c .before .before .before .byte-or-zero .ensures) (c .before .before .if1 .left) (c .before .byte-or-zero2 .ensures) (c .if2 .left))
+
+limited-requires-2 : tie.Need-limited-requires-2
+limited-requires-2 c κs = search needs
+
+enum-known-number : tie.Need-enum-known-number
+enum-known-number c = search needs
+
+returns-3 : tie.Need-returns-3
+returns-3 c = c .limited2 .ensures ∙ survey-marked (c .before .before .before .before .before .before .before .before .before .before .args .text .now) _ (sym (c .before .before .before .before .before .before .before .before .count-units .ensures) ∙ c .before .before .before .before .before .before .n .given .1) (c .before .before .before .before .byte-or-zero .ensures) (c .before .before .before .if1 .left) (c .before .before .byte-or-zero2 .ensures) (c .before .if2 .left)
+
+returns-4 : tie.Need-returns-4
+returns-4 c = survey-refused (c .before .before .before .before .before .args .text .now) _ _ (sym (c .before .before .before .count-units .ensures) ∙ c .before .number .given .1)
+
+pub survey-text-spec : {M : Type 1} → statement M
+survey-text-spec =
+    tie.close
+    (tie.spec
+    count-units-requires
+    enum-known-n
+    byte-or-zero-requires
+    limited-requires
+    returns
+    byte-or-zero-requires-2
+    returns-2
+    sub-limited
+    limited-requires-2
+    enum-known-number
+    returns-3
+    returns-4)

@@ -1,0 +1,42 @@
+use native.Mathlib.Omega.{arith}
+use mathlib.Core.Path.{sym, _∙_}
+use borrow.Author.Tests.{le-leb, lt-leb}
+use Rattle.text.specs.Units.{unitLength}
+use borrow.Author.Needs.{needs}
+use Rattle.text.proofs.unit_length.Statement.{statement}
+use Rattle.text.proofs.unit_length.Tie as tie
+use Rattle.text.proofs.unit_length.Reads as reads
+use Rattle.text.proofs.unit_length.Lts as lts
+use Rattle.text.proofs.is_high.Reads as is-high-reads
+use Rattle.text.proofs.is_low.Reads as is-low-reads
+
+returns : tie.Need-returns
+unfolding unitLength
+returns c = (rw (le-leb _ _ (c .if1 .taken)), omega arith)
+
+returns-2 : tie.Need-returns-2
+unfolding unitLength
+returns-2 c = (rw (lt-leb _ _ (c .before .if1 .left), le-leb _ _ (c .if2 .taken)), omega arith)
+
+is-high-requires : tie.Need-is-high-requires
+is-high-requires c κs = search needs
+
+returns-3 : tie.Need-returns-3
+unfolding unitLength
+returns-3 c = (rw (lt-leb _ _ (c .before .before .before .if1 .left), lt-leb _ _ (c .before .before .if2 .left), sym (c .before .is-high .ensures) ∙ c .if3 .taken), omega arith)
+
+is-low-requires : tie.Need-is-low-requires
+is-low-requires c κs = search needs
+
+returns-4 : tie.Need-returns-4
+unfolding unitLength
+returns-4 c = (rw (lt-leb _ _ (c .before .before .before .before .before .if1 .left), lt-leb _ _ (c .before .before .before .before .if2 .left), sym (c .before .before .before .is-high .ensures) ∙ c .before .before .if3 .left, sym (c .before .is-low .ensures) ∙ c .if4 .taken), omega arith)
+
+returns-5 : tie.Need-returns-5
+unfolding unitLength
+returns-5 c = (rw (lt-leb _ _ (c .before .before .before .before .before .if1 .left), lt-leb _ _ (c .before .before .before .before .if2 .left), sym (c .before .before .before .is-high .ensures) ∙ c .before .before .if3 .left, sym (c .before .is-low .ensures) ∙ c .if4 .left), omega arith)
+
+pub unit-length-spec : {M : Type 1} → statement M
+unit-length-spec =
+    tie.close
+    (tie.spec returns returns-2 is-high-requires returns-3 is-low-requires returns-4 returns-5)

@@ -1,0 +1,17 @@
+#!/usr/bin/env bash
+# Compares the programs and the archive with the independent reader on generated labels, runs, picks and faults.
+#   compare.sh --short          what the gate runs
+#   compare.sh [--seed N]       some minutes
+set -euo pipefail
+cd "$(dirname "$0")/.."
+seed=1 relabel=4000 trials=20000 archive=600000
+if [ "${1:-}" = --short ]; then relabel=1500 trials=4000 archive=100000; shift; fi
+if [ "${1:-}" = --seed ]; then seed=$2; fi
+
+rt check relabel trials > /dev/null
+rt staticlib glyph_label > /dev/null
+gcc -shared -o target/libglyph_label.so -Wl,--whole-archive target/staticlib/libglyph_label.a -Wl,--no-whole-archive
+compare=tests/independent/compare.py
+python3 $compare relabel target/bin/relabel --seed "$seed" --count $relabel
+python3 $compare trials target/bin/trials --seed "$seed" --count $trials
+python3 $compare archive target/libglyph_label.so --seed "$seed" --count $archive

@@ -1,0 +1,83 @@
+#!/usr/bin/env python3
+"""Compares the definitions of crates/label/specs with the independent reader: labels with that reader's answers become rows of one theorem, which the
+prover computes.
+
+  compare.py [--seed N] [--count N]
+
+The theorem is written into a copy of crates/label outside the repository and checked there.
+"""
+import argparse, json, os, shutil, subprocess, sys, tempfile
+
+ROOT = os.path.dirname(os.path.dirname(os.path.dirname(os.path.abspath(__file__))))
+
+
+def bytes_of(hexed):
+    return numbers(bytes.fromhex(hexed))
+
+
+def numbers(values):
+    return '(' + ' ∷ '.join([str(v) for v in values] + ['[]']) + ')'
+
+
+def signed(z):
+    return f'(pos {z})' if z >= 0 else f'(negsuc {-z - 1})'
+
+
+def pairs(flat, n):
+    return [flat[k:k + n] for k in range(0, len(flat), n)]
+
+
+def glyph(g):
+    index = f'Named {g[0]}' if g[0] >= 0 else 'Font'
+    advance = f'Given {g[1]}' if g[1] >= 0 else 'Own'
+    return f'record {{ index = {index}; advance = {advance}; u = {signed(g[2])}; v = {signed(g[3])} }}'
+
+
+def row(label):
+    answer = label['answer']
+    if 'no' in answer:
+        said = f"refused {answer['no'][0]} {answer['no'][1]}"
+    else:
+        clusters = numbers([f'cluster {a} {b}' for a, b in pairs(answer['clusters'], 2)])
+        glyphs = numbers([glyph(g) for g in pairs(answer['glyphs'], 4)])
+        said = f"reads {numbers(answer['units'])} {clusters} {glyphs} {bytes_of(answer['text'])} {bytes_of(answer['indices'])}"
+    return f"    row {bytes_of(label['text'])} {bytes_of(label['indices'])} ({said}) ∷"
+
+
+def theorem(labels, specs):
+    """specs/Labels.antt with these rows in place of its own."""
+    text = open(os.path.join(specs, 'Labels.antt'), encoding='utf-8').read()
+    head = text[:text.index('-- ── document 01, labels 1 to 11 ──')]
+    end = text[text.index('-- each row\'s label is answered as the row says'):text.index('-- "From `{}flow`')]
+    rows = 'unfoldable pub paperRows : List LabelRow\npaperRows =\n' + '\n'.join(map(row, labels)) + '\n    []\n\n'
+    none = 'unfoldable pub standardRows : List LabelRow\nstandardRows = []\n\n'
+    return head + rows + none + end
+
+
+def main():
+    parser = argparse.ArgumentParser()
+    parser.add_argument('--seed', default='1')
+    parser.add_argument('--count', default='60')
+    args = parser.parse_args()
+    reader = os.path.join(ROOT, 'tests', 'independent', 'rows.py')
+    out = subprocess.run([sys.executable, reader, '--seed', args.seed, '--count', args.count], capture_output=True, text=True, check=True).stdout
+    labels = [json.loads(line) for line in out.splitlines()]
+    with tempfile.TemporaryDirectory() as folder:
+        subprocess.run(['git', 'init', '-q', folder], check=True)
+        label = os.path.join(folder, 'crates', 'label')
+        shutil.copytree(os.path.join(ROOT, 'crates', 'label'), label, ignore=shutil.ignore_patterns('must-fail'))
+        open(os.path.join(folder, 'crates.txt'), 'w').write('label:\n')
+        specs = os.path.join(label, 'specs')
+        rows = theorem(labels, specs)
+        open(os.path.join(specs, 'Labels.antt'), 'w', encoding='utf-8').write(rows)
+        done = subprocess.run(['rt', 'check', 'label'], cwd=folder, capture_output=True, text=True)
+    accepted = sum('no' not in l['answer'] for l in labels)
+    numbers_seen = sorted({l['answer']['no'][0] for l in labels if 'no' in l['answer']})
+    if done.returncode != 0:
+        print((done.stdout + done.stderr)[-4000:])
+        sys.exit(f'definitions: the theorem of {len(labels)} labels was refused')
+    print(f'definitions: {len(labels)} labels computed by the prover agree with the independent reader'
+          f' ({accepted} accepted; refusals {" ".join(map(str, numbers_seen))})')
+
+
+main()

@@ -1,0 +1,348 @@
+"""Compares another implementation with labels.py on generated cases; exits non-zero on a difference.
+
+    compare.py relabel PROGRAM    a program that reads one label on two lines and prints what came of it
+    compare.py trials PROGRAM     a program that reads many labels, each on two lines, and prints the same for each
+    compare.py archive LIB.so     a shared library with the C functions of include/glyph_label.h
+
+    --seed N --count N            which random cases, and how many
+    --kinds edges,valid,..        only these kinds; `edges` are the fixed cases, all made before the random ones
+                                  (relabel: the papers' slips, then some of the others)
+    --trace                       prints each case before it is tried, to find one that ends the process
+"""
+
+import argparse
+import ctypes
+import struct
+import subprocess
+import sys
+from collections import Counter, defaultdict
+from itertools import chain
+from random import Random
+
+import edges
+import generate
+import labels
+
+class Report:
+    """Outcomes by call, and the differences found."""
+
+    def __init__(self, trace):
+        self.outcomes, self.differences, self.trace = defaultdict(Counter), [], trace
+
+    def count(self, call, answer):
+        self.outcomes[call][answer[1] if answer[0] == 'no' else answer[0]] += 1
+
+    def announce(self, **case):
+        if self.trace:
+            print(case, file=sys.stderr, flush=True)
+
+    def differ(self, **case):
+        self.differences.append('\n'.join(f'  {name}: {shown(value)}' for name, value in case.items() if value not in (None, ())))
+
+    def finished(self):
+        return len(self.differences) >= 10
+
+    def show(self):
+        for call, outcomes in self.outcomes.items():
+            words = sorted(name for name in outcomes if isinstance(name, str))
+            numbers = sorted(name for name in outcomes if not isinstance(name, str))
+            print(f'{call:10}', sum(outcomes.values()), 'calls:', ', '.join(
+                [f'{name} {outcomes[name]}' for name in words] + [f'refused with {n}: {outcomes[n]}' for n in numbers]))
+        for difference in sorted(self.differences, key=len)[:3]:
+            print('DIFFERENCE\n' + difference)
+        print('differences found' if self.differences else 'no difference')
+        return 1 if self.differences else 0
+
+def shown(value):
+    if isinstance(value, bytes):
+        return f'{len(value)} bytes\n    hex  {value.hex()}\n    repr {value!r}'
+    return repr(value)
+
+def random_cases(rng, count, kinds):
+    """(kind, case) of the kinds other than `edges`."""
+    kinds = {kind: made for kind, made in kinds.items() if kind != 'edges'}
+    draw = generate.chooser(rng, kinds)
+    return (draw() for _ in range(count if kinds else 0))
+
+# ---- Programs ----------------------------------------------------------------------------------------
+
+def long_lines(rng):
+    """Lines at and above the limits of the program."""
+    text = rng.choice((b'A', b'', b'\xff', b'{}A', b'A' * 16384, b'A' * 16385, b'{}' + b'A' * 4096, b'\xff' * 16385, b'A' * 40000))
+    size = rng.choice((5, 32767, 32768, 32769, 32770, 65536, 262144, 262145))
+    return text, rng.choice((b'0' * (size - 1) + b'5', (b'5;' * size)[:size], b'x' * size, b';' * size, b'5,' + b'0' * (size - 2)))
+
+def answer_of(output):
+    """The answer that an output begins with, for the counts."""
+    word, *numbers = output.split(b'\n')[0].split()
+    return 'accepted' if word == b'ok' else 'no', *map(int, numbers)
+
+def run_program(path, stdin):
+    """What it printed, and what else is to be said."""
+    try:
+        done = subprocess.run([path], input=stdin, capture_output=True, timeout=120)
+    except subprocess.TimeoutExpired as late:
+        return (late.stdout or b''), 'no end within 120 s'
+    return done.stdout, f'ended by signal {-done.returncode}; {done.stderr!r}' if done.returncode < 0 else None
+
+def relabel_mode(path, rng, count, kinds, report):
+    draw = generate.chooser(rng, kinds)
+    fixed = [('edges', label) for label in edges.slips()] if 'edges' in kinds else []
+    for kind, (text, indices) in chain(fixed, (draw() for _ in range(count))):
+        stdin = text + b'\n' + indices + rng.choice((b'\n',) * 9 + (b'', b'\nthird', b'\n\n\n', b'\n5\n6'))
+        if rng.random() < .03:
+            stdin = rng.choice((b'', b'\n', b'\n\n', text, text + b'\n', stdin.replace(b'\n', b'\r\n')))
+        report.announce(kind=kind, stdin=stdin)
+        expected = labels.relabel(stdin)
+        got, trouble = run_program(path, stdin)
+        report.count('relabel', answer_of(expected))
+        if got != expected or trouble:
+            report.differ(kind=kind, stdin=stdin, expected=expected, got=got, trouble=trouble)
+            if report.finished():
+                return
+
+def compare_batch(path, batch, report):
+    stdin = b''.join(text + b'\n' + indices + b'\n' for _, text, indices in batch)
+    report.announce(batch=stdin)
+    got, trouble = run_program(path, stdin)
+    for kind, text, indices in batch:
+        expected = labels.relabel(text + b'\n' + indices + b'\n')
+        report.count('trials', answer_of(expected))
+        if not got.startswith(expected):
+            got = got[:len(expected) + 40]
+            return report.differ(kind=kind, text=text, indices=indices, expected=expected, got_from_there=got, trouble=trouble)
+        got = got[len(expected):]
+    if got or trouble:
+        report.differ(batch=stdin, behind_the_last_answer=got, trouble=trouble)
+
+def trials_mode(path, rng, count, kinds, report):
+    """Batches of at most 200 labels and less than 1,000,000 bytes."""
+    batch, size = [], 0
+    fixed = [('edges', label) for label in edges.label_edges()] if 'edges' in kinds else []
+    for kind, (text, indices) in chain(fixed, random_cases(rng, count, kinds)):
+        if b'\n' in text + indices:
+            continue
+        if len(batch) == 200 or size + len(text) + len(indices) > 990_000:
+            compare_batch(path, batch, report)
+            batch, size = [], 0
+            if report.finished():
+                return
+        batch.append((kind, text, indices))
+        size += len(text) + len(indices) + 2
+    if batch:
+        compare_batch(path, batch, report)
+
+# ---- The C interface ---------------------------------------------------------------------------------
+
+def result_type(name, **fields):
+    return type(name, (ctypes.Structure,), {'_fields_': list(fields.items())})
+
+U32, SIZE = ctypes.c_uint32, ctypes.c_size_t
+SLICE = ctypes.c_void_p, SIZE
+Reading = result_type('Reading', number=U32, place=U32, units=U32, clusters=U32, glyphs=U32)
+Writing = result_type('Writing', number=U32, place=U32, text=U32, indices=U32)
+Stretch = result_type('Stretch', number=U32, place=U32, first=U32, end=U32)
+Part = result_type('Part', in_indices=U32, start=SIZE, length=SIZE)
+FUNCTIONS = {
+    'read': (Reading, *SLICE * 5), 'write': (Writing, *SLICE * 5), 'units_of': (Stretch, *SLICE * 3, SIZE, SIZE),
+    'glyphs_of': (Stretch, *SLICE * 3, SIZE, SIZE), 'fault': (Part, *SLICE * 2, U32, SIZE)}
+STEPS = 2, 8, 16                # bytes of a unit, of a cluster, of a glyph
+RUN = 'units', 'clusters', 'glyphs'
+LABEL = 'text', 'indices'
+
+def as_bytes(run):
+    """A run's places in C: a unit 2 bytes, other numbers 4, two's complement, low byte first."""
+    return [struct.pack(f'<{len(part)}{code}', *part) for part, code in zip(run, 'Hii')]
+
+def as_numbers(run):
+    """The run that such bytes are; None where some are left over."""
+    if any(len(part) % step for part, step in zip(run, STEPS)):
+        return None
+    return [list(struct.unpack(f'<{len(part) // size}{code}', part)) for part, size, code in zip(run, (2, 4, 4), 'Hii')]
+
+class Lent:
+    """Memory for one lent buffer, with guard bytes around it that must stay."""
+    GUARD, MEMORY = 24, 400_000
+
+    def __init__(self, rng, alphabet):
+        self.rng, self.whole, self.start = rng, b'', 0
+        self.memory = ctypes.create_string_buffer(self.MEMORY)
+        self.base = ctypes.addressof(self.memory)
+        self.pool = bytes(rng.choices(alphabet, k=self.MEMORY))
+
+    def lend(self, data=None, length=None):
+        """The data, or else room of that length, as a slice in C: at any alignment, and NULL now and then where it has no
+        byte. Bytes around it are of the pool, as are those of the room."""
+        self.start, at = self.GUARD + int(self.rng.random() * 8), int(self.rng.random() * 1000)
+        if data is None:
+            self.whole = self.pool[at:at + self.start + length + self.GUARD]
+        else:
+            self.whole, length = self.pool[at:at + self.start] + data + self.pool[at:at + self.GUARD], len(data)
+        ctypes.memmove(self.base, self.whole, len(self.whole))
+        return (None if length == 0 and self.rng.random() < .5 else self.base + self.start), length
+
+    def difference(self, written):
+        """None if the buffer now begins with those bytes and all else is as it was."""
+        after = self.whole[:self.start] + written + self.whole[self.start + len(written):]
+        got = ctypes.string_at(self.base, len(after))
+        return None if got == after else (self.start, after, got)
+
+class Archive:
+    def __init__(self, path, rng, report):
+        self.rng, self.report, self.functions = rng, report, {}
+        library = ctypes.CDLL(path)
+        for name, (result, *arguments) in FUNCTIONS.items():
+            self.functions[name] = getattr(library, 'glyph_label_' + name)
+            self.functions[name].restype, self.functions[name].argtypes = result, arguments
+        self.lent = {name: Lent(rng, b'0123456789;,.:()+-eE5{}A\x80\xbf') for name in LABEL}
+        self.lent |= {name: Lent(rng, range(256)) for name in RUN}
+
+    def call(self, name, answer, expected, inputs, outputs=(), extra=()):
+        """One call. `inputs` are (buffer, bytes), `outputs` (buffer, size, bytes it must begin with afterwards)."""
+        slices = [self.lent[buffer].lend(data) for buffer, data in inputs]
+        slices += [self.lent[buffer].lend(length=size) for buffer, size, _ in outputs]
+        self.report.announce(call=name, inputs=inputs, outputs=[(buffer, size) for buffer, size, _ in outputs], extra=extra)
+        result = self.functions[name](*chain(*slices), *extra)
+        fields = [field for field, _ in result._fields_]
+        got = tuple(getattr(result, field) for field in fields)
+        changes = [(buffer, self.lent[buffer].difference(b'')) for buffer, _ in inputs]
+        changes += [(buffer, self.lent[buffer].difference(after)) for buffer, _, after in outputs]
+        self.report.count(name, ('accepted',) if answer[0] == 'ok' else answer)
+        if got != expected or any(change for _, change in changes):
+            shown_changes = {}
+            for buffer, change in changes:
+                if change:
+                    shown_changes |= zip((f'{buffer}, guard bytes in front', f'{buffer}, expected', f'{buffer}, got'), change)
+            self.report.differ(call=name, **dict(inputs), sizes={buffer: size for buffer, size, _ in outputs}, extra=extra,
+                               expected=dict(zip(fields, expected)), got=dict(zip(fields, got)), **shown_changes)
+
+    def read(self, text, indices, answer, sizes):
+        """The reader, with buffers of these sizes in bytes; `answer` is that of large enough ones."""
+        answer = labels.fit_reading(answer, sizes[0] // 2, sizes[1] // 4, sizes[2] // 4)
+        stored, expected = (b'', b'', b''), (*answer[1:], 0, 0, 0)
+        if answer[0] == 'ok':
+            stored, expected = as_bytes(labels.flat(answer[1])), (0, 0, *map(len, answer[1]))
+        self.call('read', answer, expected, [('text', text), ('indices', indices)], list(zip(RUN, sizes, stored)))
+
+    def needed(self, answer):
+        return [len(part) * step for part, step in zip(answer[1], STEPS)] if answer[0] == 'ok' else [0, 0, 0]
+
+    def read_around(self, text, indices, answer):
+        self.read(text, indices, answer, [generate.around(self.rng, n, step) for n, step in zip(self.needed(answer), STEPS)])
+
+    def write(self, run, sizes=None):
+        """The writer on three byte strings, with outputs of these sizes, or exact and short ones by chance."""
+        numbers = as_numbers(run)
+        answer = labels.write(*numbers) if numbers else ('no', 19, 0)
+        if sizes is None:
+            lengths = map(len, answer[1:]) if answer[0] == 'ok' else (self.rng.randrange(40), self.rng.randrange(40))
+            sizes = [generate.around(self.rng, length, 1) for length in lengths]
+        answer = labels.fit_writing(answer, *sizes)
+        stored, expected = (b'', b''), (*answer[1:], 0, 0)
+        if answer[0] == 'ok':
+            stored, expected = answer[1:], (0, 0, len(answer[1]), len(answer[2]))
+        self.call('write', answer, expected, list(zip(RUN, run)), list(zip(LABEL, sizes, stored)))
+
+    def picks(self, run, first, end):
+        numbers = as_numbers(run)
+        for name, pick in (('units_of', labels.units_of), ('glyphs_of', labels.glyphs_of)):
+            answer = pick(*numbers, first, end) if numbers else ('no', 19, 0)
+            expected = (0, 0, *answer[1:]) if answer[0] == 'ok' else (*answer[1:], 0, 0)
+            self.call(name, answer, expected, list(zip(RUN, run)), extra=(first, end))
+
+    def fault(self, text, indices, number, place):
+        part = labels.fault(text, indices, number, place)
+        outcome = 'an entry' if part[0] else 'part of the text' if part[2] else 'empty start'
+        self.call('fault', (outcome,), part, [('text', text), ('indices', indices)], extra=(number, place))
+
+    def cut(self, run):
+        """The run's bytes, now and then some too many or too few."""
+        run = as_bytes(run)
+        if self.rng.random() < .08:
+            which, off = self.rng.randrange(3), self.rng.randint(1, 16)
+            run[which] = run[which] + bytes(off) if self.rng.random() < .5 else run[which][:-off]
+        return run
+
+    def label_edge(self, text, indices):
+        """Exact buffers, each too short by a byte, the fault shown."""
+        answer = labels.read(text, indices)
+        needed = self.needed(answer)
+        self.read(text, indices, answer, needed)
+        self.read_around(text, indices, answer)
+        if answer[0] == 'no':
+            self.fault(text, indices, *answer[1:])
+        for short in range(3):
+            if needed[short]:
+                self.read(text, indices, answer, [n - (k == short) for k, n in enumerate(needed)])
+
+    def run_edge(self, *run):
+        """Exact outputs, each too short by a byte; left-over bytes; picks of all small stretches and beyond any end."""
+        answer, run = labels.write(*run), as_bytes(run)
+        lengths = list(map(len, answer[1:])) if answer[0] == 'ok' else [9, 9]
+        for short in ((0, 0), (1, 0), (0, 1), (1, 1)):
+            self.write(run, [max(0, length - less) for length, less in zip(lengths, short)])
+        small = len(run[1]) < 80
+        for which, off in ((0, 1), (1, 1), (1, 4), (2, 1), (2, 4), (2, 8), (2, 15)) if small else ():
+            self.write(run[:which] + [run[which] + bytes(off)] + run[which + 1:], lengths)
+            self.write(run[:which] + [run[which][:-off]] + run[which + 1:], lengths)
+        ends = (0, 1, 2, 3, 4, 5, 6, 2 ** 32, 2 ** 32 + 1, 2 ** 64 - 1) if small else (0, 1, 4095, 4096, 4097)
+        for first in ends:
+            for end in ends if small else {first, min(4097, first + 1), 4096}:
+                self.picks(run, first, end)
+
+    def case(self, kind, case):
+        if kind in ('label_edge', 'run_edge', 'fault'):
+            getattr(self, kind)(*case)
+        elif kind in generate.LABEL_KINDS:
+            answer = labels.read(*case)
+            self.read_around(*case, answer)
+            if answer[0] == 'ok' and self.rng.random() < .2:
+                self.write(self.cut(labels.flat(answer[1])))
+        elif kind in generate.RUN_KINDS:
+            self.write(self.cut(case))
+        elif kind in generate.PICK_KINDS:
+            self.picks(self.cut(case[0]), *case[1:])
+        else:
+            self.fault(*case)
+
+def archive_mode(path, rng, count, kinds, report):
+    archive = Archive(path, rng, report)
+    fixed = ('label_edge', edges.label_edges()), ('run_edge', edges.run_edges()), ('fault', edges.fault_edges())
+    fixed_cases = ((kind, case) for kind, cases in fixed if 'edges' in kinds for case in cases)
+    for kind, case in chain(fixed_cases, random_cases(rng, count, kinds)):
+        archive.case(kind, case)
+        if report.finished():
+            return
+
+# ---- Command line ------------------------------------------------------------------------------------
+
+def kinds_of(mode):
+    if mode == 'archive':
+        return {'edges': None, **generate.LABEL_KINDS, **generate.RUN_KINDS, **generate.PICK_KINDS, **generate.FAULT_KINDS}
+    fixed = list(edges.label_edges()) if mode == 'relabel' else None
+    return {'edges': (40, lambda rng: rng.choice(fixed)), **generate.LABEL_KINDS, 'large': (.5, generate.large_label),
+            'lines': (1, long_lines)}
+
+def main():
+    parser = argparse.ArgumentParser(description=__doc__, formatter_class=argparse.RawDescriptionHelpFormatter)
+    parser.add_argument('mode', choices=('relabel', 'trials', 'archive'))
+    parser.add_argument('path')
+    parser.add_argument('--seed', type=int, default=1)
+    parser.add_argument('--count', type=int, default=2000)
+    parser.add_argument('--kinds')
+    parser.add_argument('--trace', action='store_true')
+    options = parser.parse_args()
+    kinds = kinds_of(options.mode)
+    if options.kinds:
+        unknown = set(options.kinds.split(',')) - set(kinds)
+        if unknown:
+            parser.error(f'{", ".join(sorted(unknown))}: not among the kinds {", ".join(kinds)}')
+        kinds = {kind: kinds[kind] for kind in options.kinds.split(',')}
+    report = Report(options.trace)
+    mode = {'relabel': relabel_mode, 'trials': trials_mode, 'archive': archive_mode}[options.mode]
+    mode(options.path, Random(options.seed), options.count, kinds, report)
+    print(f'{options.mode}, seed {options.seed}, count {options.count}, kinds {",".join(kinds)}')
+    return report.show()
+
+if __name__ == '__main__':
+    sys.exit(main())

@@ -1,0 +1,308 @@
+"""Checks labels.py against the papers' own examples and against itself. Exits non-zero on any failure.
+
+    selftest.py [--seed N] [--count N]
+"""
+
+import argparse
+import itertools
+import re
+import sys
+from collections import Counter
+from decimal import ROUND_HALF_UP, Context, Decimal
+from random import Random
+
+import edges
+import generate
+import labels
+from edges import GRIN
+
+checks, failures = Counter(), Counter()
+
+def check(group, holds, *about):
+    checks[group] += 1
+    if not holds:
+        failures[group] += 1
+        if failures[group] <= 5:
+            print(f'FAILED {group}:', *map(repr, about))
+
+def as_bytes(part):
+    return part.encode() if isinstance(part, str) else part
+
+def refused(group, text, indices, number, place=0):
+    answer = labels.read(as_bytes(text), as_bytes(indices))
+    check(group, answer == ('no', number, place), text, indices, answer, (number, place))
+
+def accepted(group, text, indices, clusters=None, glyphs=None, normal=None):
+    """Read as these clusters and glyphs, and written as these indices (or text and indices)."""
+    answer = labels.read(as_bytes(text), as_bytes(indices))
+    check(group, answer[0] == 'ok', text, indices, answer)
+    if answer[0] == 'ok':
+        check(group, clusters is None or answer[1].clusters == clusters, text, indices, answer)
+        check(group, glyphs is None or answer[1].glyphs == glyphs, text, indices, answer)
+        written = labels.write(*labels.flat(answer[1]))
+        check(group, normal is None or written[2 if isinstance(normal, str) else slice(1, 3)]
+              == (normal.encode() if isinstance(normal, str) else tuple(map(as_bytes, normal))), text, indices, written)
+
+def named(*indices):
+    return [(index, -1, 0, 0) for index in indices]
+
+FONT = labels.WHOLLY_FONT
+
+# ---- The papers' examples ----------------------------------------------------------------------------
+
+def paper_labels():
+    g = 'labels 1 to 11'
+    accepted(g, 'fl', '(2:1)192', [(2, 1)], named(192), '(2)192')
+    accepted(g, '\u0e33', '(1:2)124;181', [(1, 2)], named(124, 181), '(1:2)124;181')
+    accepted(g, '\u0baa\u0bcb', '(2:3)34;76;88', [(2, 3)], named(34, 76, 88), '(2:3)34;76;88')
+    refused(g, 'A', ';', 12, 1)
+    accepted(g, 'AB', ';', [(1, 1)] * 2, [FONT] * 2, '')
+    refused(g, '{}', '', 6)
+    refused(g, '{a', '', 4)
+    accepted(g, '{}{a', '', [(1, 1)] * 2, [FONT] * 2, ('{}{a', ''))
+    check(g, labels.read(b'{}{a', b'')[1].units == [0x7B, 0x61])
+    refused(g, 'A', '5,-1', 7)
+    accepted(g, 'A', '5,.0005', [(1, 1)], [(5, 1, 0, 0)], '5,.001')
+    accepted(g, 'A', '5,.0004', [(1, 1)], [(5, 0, 0, 0)], '5,0')
+    for number in ('1e6', '1000000.0004'):
+        accepted(g, 'A', '5,' + number, [(1, 1)], [(5, 10 ** 9, 0, 0)], '5,1000000')
+    refused(g, 'A', '5,1000000.0005', 9)
+    accepted(g, 'A', '065535', [(1, 1)], named(65535), '65535')
+    refused(g, 'A', '65536', 8)
+    refused(g, 'AB', '(2:2)5', 14, 0)
+    refused(g, 'AB', '(2:2)5;', 11, 1)
+    refused(g, 'AB', '(0)5', 10)
+    refused(g, GRIN, '', 13, 1)
+    accepted(g, GRIN, '(2)9', [(2, 1)], named(9), (GRIN, '(2)9'))
+    accepted(g, '', '5;6', [(0, 1)] * 2, named(5, 6), '5;6')
+    for stdin, stdout in (
+            (b'{}flow\n(2:1)192;07,+55.50,,0', b'ok 4 3 3\nflow\n(2)192;7,55.5\n'), (b'A\n;', b'no 12 1\n'), (b'', b'no 6 0\n'),
+            (b'A', b'ok 1 1 1\nA\n\n'), (b'\n5', b'ok 0 1 1\n\n5\n'), (b'A\r\n5', b'ok 2 2 2\nA\r\n5\n'), (b'A\n5\r', b'no 7 0\n'),
+            (b'\xff\n' + b'5' * 32769, b'no 1 0\n'), (b'\xff\n' + b'5' * 32768, b'no 2 0\n'), (b'A' * 16385, b'no 1 0\n'),
+            (b'A\n' + b'0' * 32767 + b'5', b'ok 1 1 1\nA\n5\n'), (b'A\n' + b'0' * 32768 + b'5', b'no 1 0\n')):
+        for more in ((b'', b'\n', b'\nthird', b'\n\n\n') if b'\n' in stdin else (b'', b'\n', b'\n\n', b'\n\nthird')):
+            check('relabel', labels.relabel(stdin + more) == stdout, stdin[:40], more, labels.relabel(stdin + more), stdout)
+
+def standard_examples():
+    g = 'examples 12-3 to 12-6 and 12-17 of ECMA-388'
+    accepted(g, '\u0e20\u0e31\u0e33!', '153;106,,,16;(1:2)124;198;4', [(1, 1), (1, 1), (1, 2), (1, 1)],
+             named(153) + [(106, -1, 0, 16000)] + named(124, 198, 4), '153;106,,,16;(1:2)124;198;4')
+    accepted(g, '\u0baa\u0bcb\u0ba4\u0bc1', '(2:3)94;76;88;(2:1)162', [(2, 3), (2, 1)], named(94, 76, 88, 162),
+             '(2:3)94;76;88;(2)162')
+    accepted(g, 'seventh', ';;;;;;,40', [(1, 1)] * 7, [FONT] * 6 + [(-1, 40000, 0, 0)], ';;;;;;,40')
+    accepted(g, 'seventh', ';;;;;(2:1)191', [(1, 1)] * 5 + [(2, 1)], [FONT] * 5 + named(191), ';;;;;(2)191')
+    accepted(g, '\u0451\u0436\u0438\u043a', '(1:2)72;142,0,-40', [(1, 2)] + [(1, 1)] * 3,
+             named(72) + [(142, 0, -40000, 0)] + [FONT] * 3, '(1:2)72;142,0,-40')
+
+def readings_a():
+    g = 'readings A'
+    for text, number, place in (
+            (b'\x61\xe1\x80\x41', 2, 1), (b'\x61\xf0\x9f\x98', 2, 1), (b'\xed\xa0\x80', 2, 0), (b'\xc0\x80', 2, 0),
+            (b'\xf4\x90\x80\x80', 2, 0), (b'{a\xff', 2, 2), (b'{\1', 3, 1), (b'{' + b'A' * 5000, 4, 0),
+            (b'{}' + b'A' * 16382, 5, 0), (b'{', 4, 0)):
+        refused(g, text, '', number, place)
+    for c in [c for c in range(0x20) if c not in (9, 10, 13)] + [0xFFFE, 0xFFFF]:
+        refused(g, 'A' + chr(c), '', 3, 1)
+    for c in (9, 10, 13, *range(0x7F, 0xA0), *range(0xFDD0, 0xFDF0), 0xFEFF):
+        accepted(g, chr(c), '', [(1, 1)], [FONT], (chr(c), ''))
+    accepted(g, '\U0001FFFE', '(2)9', [(2, 1)], named(9))
+    for text, units in (('{}{a', 2), ('{}{}', 2), ('{}{', 1)):
+        accepted(g, text, '', [(1, 1)] * units, [FONT] * units, (text, ''))
+    accepted(g, '{}', '5', [(0, 1)], named(5), ('', '5'))
+    refused(g, '', ';', 11)
+
+def readings_b():
+    g = 'readings B'
+    accepted(g, 'A', '5,,,', [(1, 1)], named(5), '5')
+    refused(g, 'A', '5,,,,', 7)
+    accepted(g, 'A', ',', [(1, 1)], [FONT], '')
+    accepted(g, 'A', '0' * 262143 + '5', [(1, 1)], named(5))
+    refused(g, 'A', f'({"9" * 50})5', 12)
+    refused(g, 'A', f'(1:{"9" * 50})5', 14)
+    for number in ('0' * 18 + '1', '.' + '0' * 18 + '1', '1.' + '0' * 18, '1e001', '1e-001'):
+        refused(g, 'A', '5,' + number, 9)
+    for number, value in (('0' * 17 + '1', 1000), ('1e01', 10000), ('0e99', 0), ('.000e+99', 0), ('1e3', 10 ** 6)):
+        accepted(g, 'A', '5,' + number, [(1, 1)], [(5, value, 0, 0)])
+    for text, indices, number, place in (
+            ('A', '(0)70000', 8, 0), ('A', '(0)5,1e9', 9, 0), ('AB', '(1:2)5;(0)5', 10, 1), ('', '(0)5', 10, 0),
+            ('A', '70000,x', 7, 0), ('AB', '(1:2)5;(9)5', 11, 1), (GRIN, '5;x', 13, 1), ('', '5;' * 5000 + 'x', 7, 5000),
+            (GRIN, '(1:2)5;x', 13, 1), (GRIN, '(1:2)5', 13, 1), ('AB' + GRIN, '5;(1:3)6;7', 14, 1), ('A', '5,-0', 7, 0),
+            ('A', '5,-.0', 7, 0), ('A', ' 5', 7, 0), ('A', '5 ', 7, 0), ('A', '5, 1', 7, 0)):
+        refused(g, text, indices, number, place)
+    accepted(g, 'A', '5,,-0,-.0004', [(1, 1)], named(5), '5')
+    accepted(g, 'A', '(01:001)5', [(1, 1)], named(5), '5')
+    accepted(g, 'A', ',40', [(1, 1)], [(-1, 40000, 0, 0)], ',40')
+
+def readings_c():
+    g, five = 'readings C', [5, -1, 0, 0]
+    for sizes, answer in (((3, 6, 12), 'ok'), ((2, 6, 12), ('no', 16, 3)), ((3, 5, 12), ('no', 17, 3)), ((3, 4, 0), ('no', 17, 3)),
+                          ((3, 6, 11), ('no', 18, 3)), ((0, 0, 0), ('no', 16, 3))):
+        got = labels.read_into(b'ABC', b'5', *sizes)
+        check(g, answer in (got, got[0]), sizes, got)
+    check(g, labels.read_into(b'ABC', b'x', 0, 0, 0) == ('no', 7, 0))
+    text, indices = labels.write(*edges.longest_writing())[1:]
+    check(g, (len(text), len(indices)) == (12288, 178857), len(text), len(indices))
+    for run in (([0x41, 0x42], [1, 1, 1, 1, 0, 1], five * 3), ([65536], [1, 1], five), ([-1], [1, 1], five),
+                ([0x41], [2 ** 40, 1], five), ([0x41], [1, 1], [-2, -1, 0, 0]), ([0x41], [1, 1], [5, -2, 0, 0]),
+                ([0x41], [1, 1], [5, 10 ** 9 + 1, 0, 0]), ([0x41], [1, 1], [5, -1, 0, -10 ** 9 - 1]), ([0x41], [1], five),
+                ([0x41], [1, 1], five[:3])):
+        check(g, labels.write(*run) == ('no', 19, 0), run)
+    for sizes, answer in (((1, 1), ('ok', b'A', b'5')), ((0, 1), ('no', 20, 1)), ((1, 0), ('no', 21, 1)), ((0, 0), ('no', 20, 1))):
+        check(g, labels.write_into([0x41], [1, 1], five, *sizes) == answer, sizes)
+
+def readings_d():
+    for text, indices, normal in (
+            ('fl', '(2:1)192', '(2)192'), ('A', '(1:2)5;6', '(1:2)5;6'), ('AB', '(2:3)5;6;7', '(2:3)5;6;7'), ('A', '(1)5', '5'),
+            ('A', '5,,0.5', '5,,.5'), ('A', '5,,-0.50', '5,,-.5'), ('A', '5,10.5', '5,10.5'), ('A', '5,0.0', '5,0'),
+            ('A', '5,,,16', '5,,,16'), ('A', '5,,0,0', '5'), ('A', ',0', ',0'), ('ABCD', '5;;,,;', '5'), ('ABCD', ';5;;', ';5'),
+            ('ABC', '5;;6', '5;;6'), ('ABC', ';;', '')):
+        accepted('readings D', text, indices, None, None, normal)
+
+def readings_e():
+    g = 'readings E'
+    run = [0x41] * 5, [2, 1, 1, 2, 2, 2], [5, -1, 0, 0] * 5             # units 2 1 2, glyphs 1 2 2
+    bare = [], [0, 1] * 3, [5, -1, 0, 0] * 3
+    empty = [], [], []
+    for pick, run, first, end, answer in (
+            (labels.units_of, run, 0, 1, ('ok', 0, 2)), (labels.units_of, run, 0, 2, ('ok', 0, 3)),
+            (labels.units_of, run, 2, 3, ('ok', 2, 3)), (labels.units_of, run, 2, 4, ('ok', 2, 5)),
+            (labels.units_of, run, 1, 1, ('no', 22, 0)), (labels.units_of, run, 2, 1, ('no', 22, 0)),
+            (labels.units_of, run, 0, 6, ('no', 22, 0)), (labels.units_of, run, -1, 1, ('no', 22, 0)),
+            (labels.glyphs_of, run, 1, 2, ('ok', 0, 1)), (labels.glyphs_of, run, 2, 3, ('ok', 1, 3)),
+            (labels.glyphs_of, run, 2, 4, ('ok', 1, 5)), (labels.glyphs_of, run, 0, 5, ('ok', 0, 5)),
+            (labels.glyphs_of, run, 5, 6, ('no', 22, 0)), (labels.glyphs_of, run, 0, 2 ** 64 - 1, ('no', 22, 0)),
+            (labels.units_of, bare, 0, 1, ('ok', 0, 0)), (labels.units_of, bare, 1, 3, ('ok', 0, 0)),
+            (labels.units_of, bare, 0, 4, ('no', 22, 0)), (labels.units_of, bare, 0, 0, ('no', 22, 0)),
+            (labels.glyphs_of, bare, 0, 0, ('no', 22, 0)), (labels.glyphs_of, bare, 0, 1, ('no', 22, 0)),
+            (labels.units_of, empty, 0, 0, ('no', 19, 0)), (labels.glyphs_of, empty, 0, 1, ('no', 19, 0))):
+        check(g, pick(*run, first, end) == answer, pick.__name__, run, first, end, pick(*run, first, end))
+    for text, indices, number, place, part in (
+            (b'A', b'(1:2)5;', 11, 1, (1, 7, 0)), (b'A', b'(1:2)5;', 11, 2, (0, 0, 0)), (b'A', b'5;x', 7, 1, (1, 2, 1)),
+            (b'A', b'', 7, 0, (0, 0, 0)), (b'a\xff', b'', 2, 1, (0, 1, 1)), (b'a\xff', b'', 2, 2, (0, 0, 0)),
+            (b'{a', b'', 4, 0, (0, 0, 2)), (b'AB', b'5', 14, 0, (1, 0, 1)),
+            *((b'AB', b'5', number, 0, (0, 0, 0)) for number in (0, 1, 5, 6, 13, *range(15, 41)))):
+        check(g, labels.fault(text, indices, number, place) == part, text, indices, number, place)
+
+# ---- Other ways to the same answers ------------------------------------------------------------------
+
+def utf8():
+    """Table 3-7 against Python's strict decoder: the same texts, and the same place of the first fault."""
+    some = (0x00, 0x41, 0x7F, 0x80, 0x8F, 0x90, 0x9F, 0xA0, 0xBF, 0xC0, 0xC2, 0xE0, 0xF4, 0xFF)
+    texts = [bytes(t) for n in (1, 2) for t in itertools.product(range(256), repeat=n)]
+    texts += [bytes(t) for t in itertools.product(range(0xE0, 0x100), range(0x7F, 0xC1), some)]
+    texts += [bytes(t) for t in itertools.product(range(0xF0, 0xF6), range(0x7F, 0xC1), some, some)]
+    for text in texts:
+        at, fault, units = 0, None, []
+        while at < len(text) and fault is None:
+            found = labels.character_at(text, at)
+            if found is None:
+                fault = at
+            else:
+                units += labels.units_of_character(found[0])
+                at += found[1]
+        try:
+            expected = generate.utf16(text.decode('utf-8')), None
+        except UnicodeDecodeError as error:
+            expected = generate.utf16(text[:error.start].decode('utf-8')), error.start
+        check('UTF-8 against the strict decoder', (units, fault) == expected, text, units, fault, expected)
+
+def grammar():
+    """Entries of up to five bytes against one pattern for the whole entry."""
+    digits, sign = '[0-9]+', '[+-]?'
+    number = rf'({digits}|{digits}\.{digits}|\.{digits})([eE]{sign}{digits})?'
+    index_part = rf'(\({digits}\)|\({digits}:{digits}\))?{digits}'
+    entry = re.compile(rf'({index_part})?(,(\+?{number})?(,({sign}{number})?(,({sign}{number})?)?)?)?')
+    for length in range(6):
+        for letters in itertools.product('1,.e+-(:)', repeat=length):
+            text = ''.join(letters)
+            well_formed = labels.read_entry(text.encode()) is not None
+            check('grammar of short entries', well_formed == (entry.fullmatch(text) is not None), text)
+
+def rounding(rng, count):
+    """Values against the decimal module; its ROUND_HALF_UP takes a half away from zero."""
+    context = Context(prec=300)
+    numbers = [indices.split(b',')[-1] for _, indices in edges.number_edges()]
+    numbers += [generate.number_label(rng)[1].split(b',')[-1] for _ in range(count)]
+    for field in numbers:
+        number = labels.read_number(labels.OFFSET, field)
+        if number and len(number.exponent) <= 3:
+            exact = Decimal(field.decode()).scaleb(3, context)
+            rounded = int(exact.quantize(Decimal(1), ROUND_HALF_UP, context))
+            check('rounding against decimal', labels.thousandths(number) == rounded, field)
+
+def reads_back(run):
+    """Whether the run's writing, made without asking for soundness, reads as the run."""
+    try:
+        written = labels.normal_writing(run[0], labels.grouped(run[1], 2), labels.grouped(run[2], 4))
+    except (IndexError, TypeError, ValueError):
+        return False
+    answer = labels.read(*written)
+    return answer[0] == 'ok' and labels.flat(answer[1]) == run
+
+def round_trips(rng, count):
+    draw = generate.chooser(rng, generate.LABEL_KINDS)
+    for text, indices in itertools.chain(edges.label_edges(), (draw()[1] for _ in range(count))):
+        answer = labels.read(text, indices)
+        checks['labels accepted' if answer[0] == 'ok' else f'labels refused with {answer[1]:2}'] += 1
+        if answer[0] == 'ok':
+            run = answer[1]
+            counts = sum(a for a, b in run.clusters), sum(b for a, b in run.clusters)
+            check('every unit and glyph in one cluster', counts == (len(run.units), len(run.glyphs)), text, indices)
+            normal = labels.write(*labels.flat(run))
+            check('written, read back', normal[0] == 'ok' and labels.read(*normal[1:]) == answer, text, indices, normal)
+            check('written back unchanged', labels.write(*labels.flat(labels.read(*normal[1:])[1])) == normal, text, indices)
+    for _ in range(count):
+        run = generate.sound_run(rng)
+        check('written any way, read as the run', labels.flat(labels.read(*generate.spelled_label(rng, run))[1]) == run, run)
+    makers = generate.sound_run, generate.nearly_run, generate.random_run
+    for run in itertools.chain(edges.run_edges(), (rng.choice(makers)(rng) for _ in range(2 * count))):
+        sound = labels.sound(*run)
+        checks['runs sound' if sound else 'runs not sound'] += 1
+        check('sound exactly when its writing reads back', sound == reads_back(run), run)
+
+def picks(rng, count):
+    """Picks against the list of owners: which cluster each unit and each glyph is in."""
+    for _ in range(count):
+        run, first, end = generate.pick_case(rng)
+        owners = [[k for k, n in enumerate(run[1][side::2]) for _ in range(min(n, 5000))] for side in (0, 1)]
+        for pick, source, target in ((labels.units_of, 1, 0), (labels.glyphs_of, 0, 1)):
+            if not labels.sound(*run):
+                expected = 'no', 19, 0
+            elif not first < end <= len(owners[source]):
+                expected = 'no', 22, 0
+            else:
+                touched = set(owners[source][first:end])
+                places = [at for at, owner in enumerate(owners[target]) if owner in touched]
+                expected = ('ok', places[0], places[-1] + 1) if places else ('ok', 0, 0)
+            check('picks against owners', pick(*run, first, end) == expected, pick.__name__, run, first, end, expected)
+
+def faults(rng, count):
+    for case in itertools.chain(edges.fault_edges(), (generate.fault_case(rng) for _ in range(count))):
+        text, indices, number, place = case
+        in_indices, start, length = labels.fault(*case)
+        part = (indices if in_indices else text)[start:start + length]
+        if number in (2, 3, 4) and place < len(text):
+            holds = (in_indices, start) == (0, place) and part == text[place:]
+        elif number in (7, 8, 9, 10, 11, 12, 14) and indices and place <= indices.count(b';'):
+            holds = in_indices == 1 and part == indices.split(b';')[place] and indices[:start].count(b';') == place
+        else:
+            holds = (in_indices, start, length) == (0, 0, 0)
+        check('faults against slices', holds, *case)
+
+def main():
+    parser = argparse.ArgumentParser()
+    parser.add_argument('--seed', type=int, default=1)
+    parser.add_argument('--count', type=int, default=5000)
+    options = parser.parse_args()
+    rng = Random(options.seed)
+    for part in (paper_labels, standard_examples, readings_a, readings_b, readings_c, readings_d, readings_e, utf8, grammar):
+        part()
+    for part in (rounding, round_trips, picks, faults):
+        part(rng, options.count)
+    for group in sorted(checks):
+        print(f'{checks[group]:8} {group}' + (f'   {failures[group]} FAILED' if failures[group] else ''))
+    print('failed' if failures else 'all passed')
+    return 1 if failures else 0
+
+if __name__ == '__main__':
+    sys.exit(main())

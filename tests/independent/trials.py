@@ -1,0 +1,64 @@
+"""Writes the labels that the program `trials` is run on, and what it must print for them by labels.py.
+
+    trials.py FOLDER    writes FOLDER/stdin and FOLDER/stdout
+
+The labels: those of document 01, the slips listed at its end, the limits from both sides, pairs of different labels with equal runs, accepted labels in
+Latin and Thai, and some generated ones.
+"""
+
+import os
+import sys
+from random import Random
+
+import edges
+import generate
+import labels
+
+GRIN = '\U0001f600'.encode()
+PAPER = [
+    (b'fl', b'(2:1)192'), ('\u0e33'.encode(), b'(1:2)124;181'), ('\u0baa\u0bcb'.encode(), b'(2:3)34;76;88'), (b'A', b';'), (b'AB', b';'),
+    (b'{}', b''), (b'{a', b''), (b'{}{a', b''), (b'A', b'5,-1'), (b'A', b'5,.0005'), (b'A', b'5,.0004'), (b'A', b'5,1e6'), (b'A', b'5,1000000.0004'),
+    (b'A', b'5,1000000.0005'), (b'A', b'065535'), (b'A', b'65536'), (b'AB', b'(2:2)5'), (b'AB', b'(2:2)5;'), (b'AB', b'(0)5'), (GRIN, b''), (GRIN, b'(2)9'),
+    (b'', b'5;6'), (b'{}flow', b'(2:1)192;07,+55.50,,0'),
+]
+LIMITS = [
+    (b'A' * 16385, b''), (b'{}' + b'A' * 16382, b''), (b'A', b'5' * 32769), (b'A', b'0' * 32767 + b'5'), (b'A' * 4096, b''), (b'A' * 4097, b''),
+    (b'{}' + b'A' * 4096, b''), (b'A' * 4096, b'(1:2)5;6'), (b'A' * 4096, b'(2:2)5;6'), (b'A' * 4096, b';' * 4095), (b'A' * 4096, b';' * 4096),
+    (b'', b';'.join([b'7'] * 4096)), (b'', b';'.join([b'7'] * 4097)), (b'', b';'.join([b'7'] * 4500) + b';x'),
+]
+EQUAL = [
+    ((b'AB', b'5;6'), (b'{}AB', b'05;(1:1)6')), ((b'A', b'5,55.5'), (b'A', b'5,+55.50,,0')), ((b'A', b'5,,-0'), (b'A', b'5')),
+    ((b'ABC', b'5'), (b'ABC', b'5;;')), ((b'fl', b'(2)192'), (b'{}fl', b'(02:001)0192,,,')), ((b'A', b'5,1.5e1'), (b'A', b'5,150E-1')),
+    (('\u0e01\u0e33'.encode(), b'9;(1:2)124;181'), (b'{}' + '\u0e01\u0e33'.encode(), b'09;(1:2)124,;181,,')), ((b'', b'5;6'), (b'{}', b'05;06')),
+]
+
+
+def on_lines(label):
+    return b'\n' not in label[0] and b'\n' not in label[1]
+
+
+def all_labels():
+    rng = Random(20)
+    found = PAPER + LIMITS + [label for pair in EQUAL for label in pair] + [case[:2] for case in edges.slips()]
+    found += rng.sample([case[:2] for case in edges.label_edges() if len(case[0]) + len(case[1]) < 300], 300)
+    for make in (generate.valid_label, generate.damaged_label, generate.mixed_label, generate.number_label, generate.utf8_label):
+        found += [make(rng)[:2] for _ in range(40)]
+    return list(dict.fromkeys(label for label in found if on_lines(label)))
+
+
+def main():
+    for (a, b) in EQUAL:
+        assert labels.read(*a) == labels.read(*b) and a != b, (a, b)
+    found = all_labels()
+    shown = [labels.relabel(text + b'\n' + indices + b'\n') for text, indices in found]
+    numbers = {int(s.split()[1]) for s in shown if s.startswith(b'no')}
+    assert numbers == set(range(1, 16)), numbers
+    folder = sys.argv[1]
+    with open(os.path.join(folder, 'stdin'), 'wb') as f:
+        f.write(b''.join(text + b'\n' + indices + b'\n' for text, indices in found))
+    with open(os.path.join(folder, 'stdout'), 'wb') as f:
+        f.write(b''.join(shown))
+    print(f'{len(found)} labels, {sum(s.startswith(b"ok") for s in shown)} accepted, refusals {sorted(numbers)}')
+
+
+main()
