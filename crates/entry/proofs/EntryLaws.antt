@@ -1,0 +1,238 @@
+-- What the code makes of an entry's parts is what the definitions say of the entry. Assumes nothing.
+use mathlib.Core.Path.{_≡_, refl, ap, sym, _∙_}
+use mathlib.Core.Bool.{Bool, true, false, not, _&&_, _||_, and-true}
+use mathlib.Core.List.{List}
+use Prim.Native.Nat.{ℕ, _+_, _≤_, _<_, min}
+use native.Mathlib.Omega.{arith}
+use native.Mathlib.Nat.{add-zero}
+use lib.Dec.{leb, ltb, eqb}
+use lib.IntN.{ℤ, pos}
+use lib.ListN.{length, drop}
+use lib.Seq.{drop-drop}
+use borrow.Author.Tests.{eq-eqb, ne-eqb, le-leb, lt-leb, leb-true}
+use Rattle.label.specs.Limits.{maxIndex, maxThousandths}
+use Rattle.label.specs.Bytes.{value}
+use Rattle.label.specs.Entry.{entry, scaled}
+use Rattle.label.specs.Calls.{refusal}
+use Rattle.label.specs.declared.Index.{Index}
+use Rattle.label.specs.declared.Advance.{Advance}
+use Rattle.label.specs.declared.Advance.the-variants.{Own}
+use Rattle.label.proofs.Basics.{cases}
+use Rattle.entry.specs.declared.Thousandths.{Thousandths}
+use Rattle.entry.specs.declared.Digits.{Digits}
+use Rattle.entry.specs.declared.Number.{Number}
+use Rattle.entry.specs.declared.MapPart.{MapPart}
+use Rattle.entry.specs.declared.Front.{Front}
+use Rattle.entry.specs.declared.Field.{Field}
+use Rattle.entry.specs.declared.EntryRead.the-variants.{Read, Refused}
+use Rattle.entry.specs.Items.{cap, isSemi, here, entryRead}
+use Rattle.entry.specs.Digits.{headOf, ends, isBreak, lead, digitsFrom}
+use Rattle.entry.specs.Numbers.{sized, within, signLength, numberOf, Mant, Expo, mantissaOf, exponentOf, sizeOf}
+use Rattle.entry.specs.Parts.{mapOf, mapWith, noMap, badMap, leadAt, cutMap, indexAt, frontWith, frontOf, fieldOf, fieldWith, headAt, notGiven, givenBy, Small, Parts, partsOf, wellParted, indexChoice, advanceChoice, offsetBy, judged, scanned}
+use Rattle.entry.proofs.EntryBridge.{bridge}
+
+-- ── the map ──
+
+pub map-none : (s : List ℕ) → (headOf s ≡ 40 → ⊥) → mapOf s ≡ noMap
+unfolding mapOf
+map-none s h = rw (ne-eqb _ _ h)
+
+map-some : (s : List ℕ) → headOf s ≡ 40 → mapOf s ≡ mapWith s (leadAt 1 s) (leadAt (1 + (length (leadAt 1 s) + 1)) s)
+unfolding mapOf
+map-some s h = rw (eq-eqb _ _ h)
+
+module _ (s : List ℕ) (p : headOf s ≡ 40) (r : Digits) (e : r ≡ digitsFrom 0 (drop 1 s)) where
+  pub code-one : headOf (drop (1 + r .count) s) ≡ 41
+      → _≡_ {A = MapPart} (record { ok = ltb 0 (r .count); used = 1 + r .count + 1; mapped = true; units = r .value; glyphs = 1 }) (cutMap (mapOf s))
+  code-one h = rw (map-some s p, eq-eqb _ _ (rw e at h), e)
+
+  pub code-odd : (headOf (drop (1 + r .count) s) ≡ 41 → ⊥) → (headOf (drop (1 + r .count) s) ≡ 58 → ⊥) → cutMap badMap ≡ cutMap (mapOf s)
+  code-odd h k = rw (map-some s p, ne-eqb _ _ (rw e at h), ne-eqb _ _ (rw e at k))
+
+  module _ (h : headOf (drop (1 + r .count) s) ≡ 41 → ⊥) (k : headOf (drop (1 + r .count) s) ≡ 58) (q : Digits) (f : q ≡ digitsFrom 0 (drop (1 + (r .count + 1)) s)) where
+    pub code-two : headOf (drop (1 + (r .count + 1) + q .count) s) ≡ 41 → (ok : Bool) → ok ≡ (ltb 0 (r .count) && ltb 0 (q .count))
+        → _≡_ {A = MapPart} (record { ok = ok; used = 1 + (r .count + 1) + q .count + 1; mapped = true; units = r .value; glyphs = q .value }) (cutMap (mapOf s))
+    code-two l ok eo = rw (map-some s p, ne-eqb _ _ (rw e at h), eq-eqb _ _ (rw e at k), eq-eqb _ _ (rw (f, e) at l), eo, f, e)
+
+    pub code-open : (headOf (drop (1 + (r .count + 1) + q .count) s) ≡ 41 → ⊥) → cutMap badMap ≡ cutMap (mapOf s)
+    code-open l = rw (map-some s p, ne-eqb _ _ (rw e at h), eq-eqb _ _ (rw e at k), ne-eqb _ _ (rw (f, e) at l))
+
+-- ── map and index ──
+
+pub code-front : (s : List ℕ) (m : MapPart) → m ≡ cutMap (mapOf s) → (d : Digits) → d ≡ digitsFrom 0 (drop (m .used) s) → (q o : Bool) → q ≡ (ltb 0 (d .count) || not (m .mapped)) → o ≡ (m .ok && q)
+    → _≡_ {A = Front} (record { ok = o; used = m .used + d .count; mapped = m .mapped; units = m .units; glyphs = m .glyphs; named = ltb 0 (d .count); index = d .value }) (frontOf s)
+unfolding frontOf
+code-front s m em d ed q o eq eo = rw (eo, eq, ed, em)
+
+-- ── a field ──
+
+field-none : (t : List ℕ) → (headOf t ≡ 44 → ⊥) → fieldOf t ≡ notGiven 0
+unfolding fieldOf
+field-none t h = rw (ne-eqb _ _ h)
+
+field-some : (t : List ℕ) → headOf t ≡ 44 → fieldOf t ≡ fieldWith (headAt 1 t) t
+unfolding fieldOf
+field-some t h = rw (eq-eqb _ _ h)
+
+pub code-absent : (s : List ℕ) (at : ℕ) → (headOf (drop at s) ≡ 44 → ⊥) → notGiven 0 ≡ fieldOf (drop at s)
+code-absent s at h = sym (field-none (drop at s) h)
+
+module _ (s : List ℕ) (at : ℕ) (p : headOf (drop at s) ≡ 44) where
+  pub code-empty : ends isBreak (drop (at + 1) s) ≡ true → notGiven 1 ≡ fieldOf (drop at s)
+  code-empty h = rw (field-some (drop at s) p, drop-drop 1 at s, h)
+
+  pub code-given : (b : ℕ) → b ≡ headOf (drop (at + 1) s) → ends isBreak (drop (at + 1) s) ≡ false → (k : ℕ) → k ≡ signLength b → (n : Number) → n ≡ numberOf (drop (at + (1 + k)) s)
+      → givenBy b (1 + k) n ≡ fieldOf (drop at s)
+  code-given b eb h k ek n en = rw (field-some (drop at s) p, drop-drop 1 at s, h, ← eb, ← ek, drop-drop, ← en)
+
+-- a size is within its limit
+sized-small : (v : ℕ) → Small (sized v)
+sized-small v = cases (leb v maxThousandths) (λ e. rw e (leb-true v maxThousandths e)) (λ e. rw e tt)
+
+size-small : (m : Mant) (x : Expo) → Small (sizeOf m x)
+size-small m x = go (leb (length (m .digits)) 18 && leb (length (x .digits)) 2) refl
+  where
+    go : (b : Bool) → (leb (length (m .digits)) 18 && leb (length (x .digits)) 2) ≡ b → Small (sizeOf m x)
+    go true e = rw e (sized-small (scaled (value (m .digits)) (m .behind) (x .negative) (value (x .digits))))
+    go false e = rw e tt
+
+number-small : (t : List ℕ) → Small (numberOf t .size)
+unfolding numberOf
+number-small t = size-small (mantissaOf t) (exponentOf (drop (mantissaOf t .used) t))
+
+pub field-small : (t : List ℕ) → Small (fieldOf t .size)
+unfolding fieldOf
+field-small t = go (eqb (headOf t) 44) refl (ends isBreak (drop 1 t)) refl
+  where
+    go : (a : Bool) → eqb (headOf t) 44 ≡ a → (b : Bool) → ends isBreak (drop 1 t) ≡ b → Small (fieldOf t .size)
+    go false e b f = rw e (omega arith)
+    go true e true f = rw (e, f) (omega arith)
+    go true e false f = rw (e, f) (number-small (drop (1 + signLength (headAt 1 t)) t))
+
+-- ── an entry with fields ──
+
+-- what the code tests for 7 and for 9
+unfoldable pub Well : List ℕ → Front → Field → Field → Field → Bool
+Well s f x y z =
+    (f .ok && ((x .ok && not (x .negative)) && (y .ok && z .ok))) && ends isSemi (drop (f .used + x .used + y .used + z .used) s)
+
+unfoldable pub Fit : Thousandths → Thousandths → Thousandths → Bool
+Fit x y z = within x && within y && within z
+
+module _ (k : ℕ) (s : List ℕ) (f : Front) (ef : f ≡ frontOf s)
+    (x : Field) (ex : x ≡ fieldOf (drop (f .used) s))
+    (y : Field) (ey : y ≡ fieldOf (drop (f .used + x .used) s))
+    (z : Field) (ez : z ≡ fieldOf (drop (f .used + x .used + y .used) s))
+    (bound : f .used + x .used + y .used + z .used ≤ length s) where
+  abbrev parts : Parts
+  parts = record { map = mapOf s; digits = indexAt s; x = x; y = y; z = z; used = f .used + x .used + y .used + z .used }
+
+  front-is : f ≡ frontWith (mapOf s) (indexAt s)
+  unfolding frontOf
+  front-is = ef
+
+  parts-are : partsOf s ≡ parts
+  unfolding partsOf
+  parts-are = rw (ez, ey, ex, front-is)
+
+  scanned-is : scanned k s ≡ judged k parts s
+  unfolding scanned
+  scanned-is = rw parts-are
+
+  well-is : wellParted parts s ≡ Well s f x y z
+  unfolding Well
+  well-is = rw front-is
+
+  value-is : f .index ≡ min (value (indexAt s)) cap
+  value-is = ap (λ (r : Front). r .index) front-is
+
+  -- the answer of the definitions, told by the parts
+  said : entryRead (f .used + x .used + y .used + z .used) (judged k parts s) ≡ entryRead (length (here s)) (entry k (here s))
+  said = rw (parts-are, scanned-is) at (bridge k s (rw parts-are bound))
+
+  pub code-wrong : Well s f x y z ≡ false → Refused (refusal 7 k) ≡ entryRead (length (here s)) (entry k (here s))
+  unfolding entryRead
+  code-wrong h = rw (well-is, h) at said
+
+  module _ (h : Well s f x y z ≡ true) where
+    pub code-index : maxIndex < f .index → Refused (refusal 8 k) ≡ entryRead (length (here s)) (entry k (here s))
+    unfolding entryRead
+    code-index l = rw (well-is, h, lt-leb (value (indexAt s)) maxIndex (omega (arith, value-is))) at said
+
+    module _ (l : f .index ≤ maxIndex) where
+      small : leb (value (indexAt s)) maxIndex ≡ true
+      small = le-leb (value (indexAt s)) maxIndex (omega (arith, value-is))
+
+      exact : min (value (indexAt s)) cap ≡ value (indexAt s)
+      exact = omega (arith, value-is)
+
+      pub code-limits : Fit (x .size) (y .size) (z .size) ≡ false → Refused (refusal 9 k) ≡ entryRead (length (here s)) (entry k (here s))
+      unfolding entryRead Fit
+      code-limits n = rw (well-is, h, small, n) at said
+
+      pub code-read : Fit (x .size) (y .size) (z .size) ≡ true
+          → (i : Index) → i ≡ indexChoice (f .named) (f .index) → (a : Advance) → a ≡ advanceChoice (x .given) (x .size)
+          → (u v : ℤ) → u ≡ offsetBy (y .negative) (y .size) → v ≡ offsetBy (z .negative) (z .size)
+          → Read (record {
+            mapped = f .mapped;
+            units = f .units;
+            glyphs = f .glyphs;
+            glyph = record { index = i; advance = a; u = u; v = v };
+            used = f .used + x .used + y .used + z .used;
+          }) ≡ entryRead (length (here s)) (entry k (here s))
+      unfolding entryRead Fit
+      code-read n i ei a ea u v eu ev = rw (ei, ea, eu, ev, front-is, exact) (rw (well-is, h, small, n, front-is) at said)
+
+-- the flags that lead to a test, put together
+pub well-chain : (s : List ℕ) (f : Front) (x y z : Field) {a b fields g e r : Bool}
+    → a ≡ (x .ok && not (x .negative)) → b ≡ (y .ok && z .ok) → fields ≡ (a && b) → g ≡ (f .ok && fields)
+    → e ≡ ends isSemi (drop (f .used + x .used + y .used + z .used) s) → r ≡ (g && e) → r ≡ Well s f x y z
+unfolding Well
+well-chain s f x y z e1 e2 e3 e4 e5 e6 = rw (← e1, ← e2, ← e3, ← e4, ← e5) e6
+
+pub within-chain : (x y z : Thousandths) {a b c q r : Bool} → a ≡ within x → b ≡ within y → c ≡ within z → q ≡ (a && b) → r ≡ (q && c)
+    → r ≡ Fit x y z
+unfolding Fit
+within-chain x y z e1 e2 e3 e4 e5 = rw (← e1, ← e2, ← e3, ← e4) e5
+
+-- ── an entry without fields ──
+
+module _ (k : ℕ) (s : List ℕ) (f : Front) (ef : f ≡ frontOf s) (h : headOf (drop (f .used) s) ≡ 44 → ⊥) (bound : f .used ≤ length s) where
+  x0 : notGiven 0 ≡ fieldOf (drop (f .used) s)
+  x0 = code-absent s (f .used) h
+
+  y0 : notGiven 0 ≡ fieldOf (drop (f .used + 0) s)
+  y0 = rw (add-zero (f .used)) x0
+
+  z0 : notGiven 0 ≡ fieldOf (drop (f .used + 0 + 0) s)
+  z0 = rw (add-zero (f .used + 0), add-zero (f .used)) x0
+
+  sum : f .used + 0 + 0 + 0 ≡ f .used
+  sum = omega arith
+
+  bare-bound : f .used + 0 + 0 + 0 ≤ length s
+  bare-bound = rw sum bound
+
+  bare-well : Well s f (notGiven 0) (notGiven 0) (notGiven 0) ≡ (f .ok && ends isSemi (drop (f .used) s))
+  unfolding Well
+  bare-well = rw (sum, and-true)
+
+  pub bare-wrong : (f .ok && ends isSemi (drop (f .used) s)) ≡ false → Refused (refusal 7 k) ≡ entryRead (length (here s)) (entry k (here s))
+  bare-wrong w = code-wrong k s f ef (notGiven 0) x0 (notGiven 0) y0 (notGiven 0) z0 bare-bound (bare-well ∙ w)
+
+  module _ (w : (f .ok && ends isSemi (drop (f .used) s)) ≡ true) where
+    pub bare-index : maxIndex < f .index → Refused (refusal 8 k) ≡ entryRead (length (here s)) (entry k (here s))
+    bare-index l = code-index k s f ef (notGiven 0) x0 (notGiven 0) y0 (notGiven 0) z0 bare-bound (bare-well ∙ w) l
+
+    pub bare-read : f .index ≤ maxIndex → (i : Index) → i ≡ indexChoice (f .named) (f .index)
+        → Read (record {
+          mapped = f .mapped;
+          units = f .units;
+          glyphs = f .glyphs;
+          glyph = record { index = i; advance = Own; u = pos 0; v = pos 0 };
+          used = f .used;
+        }) ≡ entryRead (length (here s)) (entry k (here s))
+    unfolding Fit
+    bare-read l i ei =
+        rw (← sum)
+        (code-read k s f ef (notGiven 0) x0 (notGiven 0) y0 (notGiven 0) z0 bare-bound (bare-well ∙ w) l refl i ei Own refl (pos 0) (pos 0) refl refl)

@@ -1,0 +1,12 @@
+pub mod DigitLaws
+pub mod ValueLaws
+pub mod NumberLaws
+pub mod Scan
+pub mod NumberBridge
+pub mod FieldBridge
+pub mod FrontBridge
+pub mod EntryBridge
+pub mod EntryLaws
+pub mod CutLaws
+pub mod DecimalLaws
+pub mod WriteLaws

@@ -1,0 +1,115 @@
+-- Laws of rounding, of powers of ten and of the limit. Assumes nothing.
+use mathlib.Core.Path.{_≡_, refl, ap, _∙_}
+use mathlib.Core.Bool.{true, false}
+use Prim.Native.Nat.{ℕ, suc, zero, _+_, _-_, _*_, _/_, _%_, _^_, _≤_, _<_}
+use native.Mathlib.Omega.{arith}
+use native.Mathlib.Nat.{div-eq-of-lt-le, mul-div-mul-right, div-eq-of-lt, mul-assoc, one-le-pow, mod-lt, div-add-mod', pow-le-pow-right, mul-le-mul, mul-le-mul-right}
+use lib.Pow.{pow-add}
+use lib.Dec.{ltb, lit<}
+use lib.IntN.{pos, negℤ}
+use mir.Syntax.{w32}
+use mir.Val.{SFits}
+use borrow.Author.Tests.{le-leb, lt-leb, ltb-true, ltb-false}
+use Rattle.label.specs.Limits.{maxThousandths}
+use Rattle.label.specs.Entry.{nearest, scaled}
+use Rattle.label.proofs.Basics.{cases}
+use Rattle.entry.specs.declared.Thousandths.the-variants.{Of, Over}
+use Rattle.entry.specs.Items.{cap}
+use Rattle.entry.specs.Numbers.{sized}
+
+-- ── powers of ten ──
+
+pub ten-pos : (k : ℕ) → 0 < 10 ^ k
+ten-pos k = one-le-pow k 10 (lit< tt)
+
+pub ten-mono : (i j : ℕ) → i ≤ j → 10 ^ i ≤ 10 ^ j
+ten-mono i j h = pow-le-pow-right (lit< tt) h
+
+ten-split : (a b : ℕ) → b ≤ a → 10 ^ a ≡ 10 ^ (a - b) * 10 ^ b
+ten-split a b h =
+    let p : a ≡ (a - b) + b = omega arith in
+    ap (λ (n : ℕ). 10 ^ n) p ∙ pow-add 10 (a - b) b
+
+-- k is none of 0, 1, .. below n
+abbrev Above : ℕ → ℕ → Type 0
+Above zero k = Unit {0}
+Above (suc n) k = Above n k × (k ≡ n → ⊥)
+
+-- the last arm of a match over 0, 1, ..
+pub last-key : (n k : ℕ) → k < suc n → Above n k → k ≡ n
+last-key zero k h a = omega arith
+last-key (suc n) k h a = cases (ltb k (suc n)) (λ e. absurd (a .1 (last-key n k (ltb-true k (suc n) e) (a .0)))) (λ e. let l : suc n ≤ k = ltb-false k (suc n) e in omega arith)
+
+-- ── rounding ──
+
+nearest-exact : (n d : ℕ) → 0 < d → nearest (n * d) d ≡ n
+unfolding nearest
+nearest-exact n d h = div-eq-of-lt-le (2 * d) (omega arith) (omega arith)
+
+nearest-cancel : (m d c : ℕ) → 0 < c → nearest (m * c) (d * c) ≡ nearest m d
+unfolding nearest
+nearest-cancel m d c h =
+    let e₁ : 2 * (m * c) + d * c ≡ (2 * m + d) * c = omega arith in
+    let e₂ : 2 * (d * c) ≡ 2 * d * c = omega arith in
+    rw (e₁, e₂) (mul-div-mul-right (2 * m + d) (2 * d) h)
+
+nearest-none : (m d : ℕ) → 2 * m < d → nearest m d ≡ 0
+unfolding nearest
+nearest-none m d h = div-eq-of-lt (omega arith)
+
+nearest-up : (m d q r : ℕ) → q * d + r ≡ m → r < d → d ≤ r * 2 → nearest m d ≡ q + 1
+unfolding nearest
+nearest-up m d q r e h k = div-eq-of-lt-le (2 * d) (omega arith) (omega arith)
+
+nearest-down : (m d q r : ℕ) → q * d + r ≡ m → r < d → r * 2 < d → nearest m d ≡ q
+unfolding nearest
+nearest-down m d q r e h k = div-eq-of-lt-le (2 * d) (omega arith) (omega arith)
+
+-- by quotient and remainder
+pub round-up : (m d : ℕ) → 0 < d → d ≤ (m % d) * 2 → nearest m d ≡ m / d + 1
+round-up m d h k = nearest-up m d (m / d) (m % d) (div-add-mod' m d) (mod-lt m h) k
+
+pub round-down : (m d : ℕ) → 0 < d → (m % d) * 2 < d → nearest m d ≡ m / d
+round-down m d h k = nearest-down m d (m / d) (m % d) (div-add-mod' m d) (mod-lt m h) k
+
+-- ── one shift ──
+
+pub scale-grow : (m up down : ℕ) → down ≤ up → nearest (m * 10 ^ up) (10 ^ down) ≡ m * 10 ^ (up - down)
+scale-grow m up down h = rw (ten-split up down h, ← mul-assoc m (10 ^ (up - down)) (10 ^ down)) (nearest-exact (m * 10 ^ (up - down)) (10 ^ down) (ten-pos down))
+
+pub scale-shrink : (m up down : ℕ) → up ≤ down → nearest (m * 10 ^ up) (10 ^ down) ≡ nearest m (10 ^ (down - up))
+scale-shrink m up down h = rw (ten-split down up h) (nearest-cancel m (10 ^ (down - up)) (10 ^ up) (ten-pos up))
+
+pub shrink-none : (m k : ℕ) → m < cap → 18 < k → nearest m (10 ^ k) ≡ 0
+shrink-none m k h b = nearest-none m (10 ^ k) (omega (arith, ten-mono 19 k b))
+
+pub scaled-down : (m f e : ℕ) → scaled m f true e ≡ nearest (m * 10 ^ 3) (10 ^ (f + e))
+unfolding scaled
+scaled-down m f e = refl
+
+pub scaled-up : (m f e : ℕ) → scaled m f false e ≡ nearest (m * 10 ^ (e + 3)) (10 ^ f)
+unfolding scaled
+scaled-up m f e = refl
+
+-- ── the limit ──
+
+pub sized-of : (v : ℕ) → v ≤ maxThousandths → sized v ≡ Of v
+sized-of v h = rw (le-leb v maxThousandths h)
+
+pub sized-over : (v : ℕ) → maxThousandths < v → sized v ≡ Over
+sized-over v h = rw (lt-leb v maxThousandths h)
+
+pub grow-over : (m k : ℕ) → 0 < m → 9 < k → maxThousandths < m * 10 ^ k
+grow-over m k h b = omega (arith, ten-mono 10 k b, mul-le-mul-right (10 ^ k) h)
+
+pub grow-large : (m k : ℕ) → maxThousandths < m → maxThousandths < m * 10 ^ k
+grow-large m k h = omega (arith, mul-le-mul-right (10 ^ k) h, ten-pos k)
+
+pub grow-fits : (m k : ℕ) → m ≤ maxThousandths → k ≤ 9 → m * 10 ^ k ≤ cap
+grow-fits m k h b = mul-le-mul h (ten-mono k 9 b)
+
+-- ── the sign ──
+
+pub neg-fits : (v : ℕ) → v ≤ maxThousandths → SFits w32 (negℤ (pos v))
+neg-fits zero h = record { sfits = omega arith }
+neg-fits (suc n) h = record { sfits = omega arith }

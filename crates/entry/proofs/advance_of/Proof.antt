@@ -1,0 +1,35 @@
+-- `entry::advance_of` meets its contract. Assumes nothing.
+use mathlib.Core.Bool.{false}
+use mathlib.Core.Path.{_≡_, refl}
+use borrow.Author.Needs.{needs}
+use Rattle.label.specs.declared.Advance.the-variants.{Own}
+use Rattle.entry.specs.Parts.{advanceChoice}
+use Rattle.entry.specs.declared.Thousandths.the-variants.{Of, Over}
+use Rattle.entry.specs.declared.Thousandths.{Thousandths}
+use Rattle.entry.proofs.advance_of.Statement.{statement}
+use Rattle.entry.proofs.advance_of.Tie as tie
+
+-- (ours)
+own : (z : Thousandths) → Own ≡ advanceChoice false z
+own (Of v) = refl
+own Over = refl
+
+-- (end)
+
+enum-known-z : tie.Need-enum-known-z
+enum-known-z c = search needs
+
+enum-told : tie.Need-enum-told
+enum-told c = search needs
+
+returns : tie.Need-returns
+returns c = rw (c .before .z .given .1, c .before .before .before .if1 .taken)
+
+returns-2 : tie.Need-returns-2
+returns-2 c = search needs
+
+returns-3 : tie.Need-returns-3
+returns-3 c = rw (c .if1 .left) (own (c .before .args .z))
+
+pub advance-of-spec : {M : Type 1} → statement M
+advance-of-spec = tie.close (tie.spec enum-known-z enum-told returns returns-2 returns-3)

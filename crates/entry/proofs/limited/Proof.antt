@@ -1,0 +1,18 @@
+-- `entry::limited` meets its contract. Assumes nothing.
+use mathlib.Core.Path.{sym}
+use borrow.Author.Needs.{needs}
+use Rattle.entry.proofs.ValueLaws.{sized-of, sized-over}
+use Rattle.entry.proofs.limited.Statement.{statement}
+use Rattle.entry.proofs.limited.Tie as tie
+
+cast-t4 : tie.Need-cast-t4
+cast-t4 c = search needs
+
+returns : tie.Need-returns
+returns c = sym (sized-of _ (c .if1 .taken))
+
+returns-2 : tie.Need-returns-2
+returns-2 c = sym (sized-over _ (c .if1 .left))
+
+pub limited-spec : {M : Type 1} → statement M
+limited-spec = tie.close (tie.spec cast-t4 returns returns-2)

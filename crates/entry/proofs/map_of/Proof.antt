@@ -1,0 +1,116 @@
+-- `entry::map_of` meets its contract. Assumes nothing.
+use mathlib.Core.Path.{ap, sym, _∙_}
+use Prim.Native.Nat.{_+_}
+use native.Mathlib.Omega.{arith}
+use lib.Dec.{lit<}
+use borrow.Author.Needs.{needs}
+use Rattle.entry.specs.Parts.{cutMap}
+use Rattle.entry.proofs.EntryLaws.{map-none, code-one, code-two, code-odd, code-open}
+use Rattle.entry.proofs.DigitLaws.{head-in, next-in}
+use Rattle.entry.proofs.map_of.Statement.{statement}
+use Rattle.entry.proofs.map_of.Tie as tie
+
+byte-at-requires : tie.Need-byte-at-requires
+byte-at-requires c κs = search needs
+
+returns : tie.Need-returns
+returns c = (ap cutMap (sym (map-none _ (λ h. c .if1 .taken (c .before .byte-at .ensures ∙ h)))), omega arith)
+
+digits-at-requires : tie.Need-digits-at-requires
+digits-at-requires c κs = (head-in (c .before .before .before .args .s .now) 0 _ (sym (c .before .byte-at .ensures) ∙ c .if1 .left) (lit< tt), search needs)
+
+add-byte-at : tie.Need-add-byte-at
+add-byte-at c = search needs
+
+byte-at-requires-2 : tie.Need-byte-at-requires-2
+byte-at-requires-2 c κs = search needs
+
+add-t11 : tie.Need-add-t11
+add-t11 c = search needs
+
+add-t12 : tie.Need-add-t12
+add-t12 c = search needs
+
+returns-2 : tie.Need-returns-2
+returns-2 c = (code-one _ (sym (c .before .before .before .before .byte-at .ensures) ∙ c .before .before .before .if1 .left) _ (c .before .before .digits-at .ensures .0) (sym (c .before .byte-at2 .ensures) ∙ c .if2 .taken), omega (arith, next-in (c .before .before .before .before .before .before .args .s .now) 1 (c .before .before .digits-at .result .count) 41 (sym (c .before .byte-at2 .ensures) ∙ c .if2 .taken) (lit< tt)))
+
+bad-map-requires : tie.Need-bad-map-requires
+bad-map-requires c κs = search needs
+
+returns-3 : tie.Need-returns-3
+returns-3 c = (c .bad-map .ensures ∙ code-odd _ (sym (c .before .before .before .before .before .before .byte-at .ensures) ∙ c .before .before .before .before .before .if1 .left) _ (c .before .before .before .before .digits-at .ensures .0) (λ h. c .before .before .if2 .left (c .before .before .before .byte-at2 .ensures ∙ h)) (λ h. c .before .if3 .taken (c .before .before .before .byte-at2 .ensures ∙ h)), rw (c .bad-map .ensures) (omega arith))
+
+add-digits-at : tie.Need-add-digits-at
+add-digits-at c = search needs
+
+add-digits-at-2 : tie.Need-add-digits-at-2
+add-digits-at-2 c = search needs
+
+digits-at-requires-2 : tie.Need-digits-at-requires-2
+digits-at-requires-2 c κs = (next-in _ 1 _ _ (sym (c .before .before .byte-at2 .ensures) ∙ c .if3 .left) (lit< tt), search needs)
+
+add-byte-at-2 : tie.Need-add-byte-at-2
+add-byte-at-2 c = search needs
+
+add-byte-at-3 : tie.Need-add-byte-at-3
+add-byte-at-3 c = search needs
+
+add-byte-at-4 : tie.Need-add-byte-at-4
+add-byte-at-4 c = search needs
+
+byte-at-requires-3 : tie.Need-byte-at-requires-3
+byte-at-requires-3 c κs = search needs
+
+bad-map-requires-2 : tie.Need-bad-map-requires-2
+bad-map-requires-2 c κs = search needs
+
+returns-4 : tie.Need-returns-4
+returns-4 c = (c .bad-map2 .ensures ∙ code-open _ (sym (c .before .before .before .before .before .before .before .before .before .byte-at .ensures) ∙ c .before .before .before .before .before .before .before .before .if1 .left) _ (c .before .before .before .before .before .before .before .digits-at .ensures .0) (λ h. c .before .before .before .before .before .if2 .left (c .before .before .before .before .before .before .byte-at2 .ensures ∙ h)) (sym (c .before .before .before .before .before .before .byte-at2 .ensures) ∙ c .before .before .before .before .if3 .left) _ (c .before .before .before .digits-at2 .ensures .0) (λ h. c .before .if4 .taken (c .before .before .byte-at3 .ensures ∙ h)), rw (c .bad-map2 .ensures) (omega arith))
+
+both-requires : tie.Need-both-requires
+both-requires c κs = search needs
+
+add-t14 : tie.Need-add-t14
+add-t14 c = search needs
+
+add-t15 : tie.Need-add-t15
+add-t15 c = search needs
+
+add-t9 : tie.Need-add-t9
+add-t9 c = search needs
+
+add-t18 : tie.Need-add-t18
+add-t18 c = search needs
+
+returns-5 : tie.Need-returns-5
+returns-5 c = (code-two _ (sym (c .before .before .before .before .before .before .before .before .before .byte-at .ensures) ∙ c .before .before .before .before .before .before .before .before .if1 .left) _ (c .before .before .before .before .before .before .before .digits-at .ensures .0) (λ h. c .before .before .before .before .before .if2 .left (c .before .before .before .before .before .before .byte-at2 .ensures ∙ h)) (sym (c .before .before .before .before .before .before .byte-at2 .ensures) ∙ c .before .before .before .before .if3 .left) _ (c .before .before .before .digits-at2 .ensures .0) (sym (c .before .before .byte-at3 .ensures) ∙ c .before .if4 .left) _ (c .both .ensures), omega (arith, head-in (c .before .before .before .before .before .before .before .before .before .before .before .args .s .now) (1 + (c .before .before .before .before .before .before .before .digits-at .result .count + 1) + c .before .before .before .digits-at2 .result .count) 41 (sym (c .before .before .byte-at3 .ensures) ∙ c .before .if4 .left) (lit< tt)))
+
+pub map-of-spec : {M : Type 1} → statement M
+map-of-spec =
+    tie.close
+    (tie.spec
+    byte-at-requires
+    returns
+    digits-at-requires
+    add-byte-at
+    byte-at-requires-2
+    add-t11
+    add-t12
+    returns-2
+    bad-map-requires
+    returns-3
+    add-digits-at
+    add-digits-at-2
+    digits-at-requires-2
+    add-byte-at-2
+    add-byte-at-3
+    add-byte-at-4
+    byte-at-requires-3
+    bad-map-requires-2
+    returns-4
+    both-requires
+    add-t14
+    add-t15
+    add-t9
+    add-t18
+    returns-5)

@@ -1,0 +1,126 @@
+-- `entry::read_fields` meets its contract. Assumes nothing.
+use mathlib.Core.Path.{sym, _∙_}
+use mir.Syntax.{w32}
+use mir.Facts.{toZ-ofZ}
+use borrow.Author.Tests.{not-true, not-false}
+use borrow.Author.Needs.{sfits-of, needs}
+use Rattle.entry.proofs.EntryLaws.{well-chain, within-chain, code-wrong, code-index, code-limits, code-read, field-small}
+use Rattle.entry.proofs.read_fields.Statement.{statement}
+use Rattle.entry.proofs.read_fields.Tie as tie
+
+field-at-requires : tie.Need-field-at-requires
+field-at-requires c κs = search needs
+
+add-i : tie.Need-add-i
+add-i c = search needs
+
+field-at-requires-2 : tie.Need-field-at-requires-2
+field-at-requires-2 c κs = search needs
+
+add-j : tie.Need-add-j
+add-j c = search needs
+
+field-at-requires-3 : tie.Need-field-at-requires-3
+field-at-requires-3 c κs = search needs
+
+add-end : tie.Need-add-end
+add-end c = search needs
+
+both-requires : tie.Need-both-requires
+both-requires c κs = search needs
+
+both-requires-2 : tie.Need-both-requires-2
+both-requires-2 c κs = search needs
+
+both-requires-3 : tie.Need-both-requires-3
+both-requires-3 c κs = search needs
+
+both-requires-4 : tie.Need-both-requires-4
+both-requires-4 c κs = search needs
+
+ends-at-requires : tie.Need-ends-at-requires
+ends-at-requires c κs = search needs
+
+both-requires-5 : tie.Need-both-requires-5
+both-requires-5 c κs = search needs
+
+refuse-requires : tie.Need-refuse-requires
+refuse-requires c κs = search needs
+
+returns : tie.Need-returns
+returns c = c .refuse .ensures ∙ code-wrong _ _ _ (c .before .before .before .before .before .before .before .before .before .before .before .before .before .before .before .before .before .pre .0) _ (c .before .before .before .before .before .before .before .before .before .before .before .before .before .before .before .field-at .ensures .0) _ (c .before .before .before .before .before .before .before .before .before .before .before .before .field-at2 .ensures .0) _ (c .before .before .before .before .before .before .before .before .before .before .field-at3 .ensures .0) (c .before .before .before .before .before .before .before .before .before .before .field-at3 .ensures .1) (sym (well-chain _ _ _ _ _ (c .before .before .before .before .before .before .before .both .ensures) (c .before .before .before .before .before .before .both2 .ensures) (c .before .before .before .before .before .both3 .ensures) (c .before .before .before .before .both4 .ensures) (c .before .before .before .ends-at .ensures) (c .before .before .both5 .ensures)) ∙ not-true _ (c .before .if1 .taken))
+
+refuse-requires-2 : tie.Need-refuse-requires-2
+refuse-requires-2 c κs = search needs
+
+returns-2 : tie.Need-returns-2
+returns-2 c = c .refuse2 .ensures ∙ code-index _ _ _ (c .before .before .before .before .before .before .before .before .before .before .before .before .before .before .before .before .before .before .before .pre .0) _ (c .before .before .before .before .before .before .before .before .before .before .before .before .before .before .before .before .before .field-at .ensures .0) _ (c .before .before .before .before .before .before .before .before .before .before .before .before .before .before .field-at2 .ensures .0) _ (c .before .before .before .before .before .before .before .before .before .before .before .before .field-at3 .ensures .0) (c .before .before .before .before .before .before .before .before .before .before .before .before .field-at3 .ensures .1) (sym (well-chain _ _ _ _ _ (c .before .before .before .before .before .before .before .before .before .both .ensures) (c .before .before .before .before .before .before .before .before .both2 .ensures) (c .before .before .before .before .before .before .before .both3 .ensures) (c .before .before .before .before .before .before .both4 .ensures) (c .before .before .before .before .before .ends-at .ensures) (c .before .before .before .before .both5 .ensures)) ∙ not-false _ (c .before .before .before .if1 .left)) (c .before .if2 .taken)
+
+is-within-requires : tie.Need-is-within-requires
+is-within-requires c κs = search needs
+
+is-within-requires-2 : tie.Need-is-within-requires-2
+is-within-requires-2 c κs = search needs
+
+both-requires-6 : tie.Need-both-requires-6
+both-requires-6 c κs = search needs
+
+is-within-requires-3 : tie.Need-is-within-requires-3
+is-within-requires-3 c κs = search needs
+
+both-requires-7 : tie.Need-both-requires-7
+both-requires-7 c κs = search needs
+
+refuse-requires-3 : tie.Need-refuse-requires-3
+refuse-requires-3 c κs = search needs
+
+returns-3 : tie.Need-returns-3
+returns-3 c = c .refuse3 .ensures ∙ code-limits _ _ _ (c .before .before .before .before .before .before .before .before .before .before .before .before .before .before .before .before .before .before .before .before .before .before .before .before .before .pre .0) _ (c .before .before .before .before .before .before .before .before .before .before .before .before .before .before .before .before .before .before .before .before .before .before .before .field-at .ensures .0) _ (c .before .before .before .before .before .before .before .before .before .before .before .before .before .before .before .before .before .before .before .before .field-at2 .ensures .0) _ (c .before .before .before .before .before .before .before .before .before .before .before .before .before .before .before .before .before .before .field-at3 .ensures .0) (c .before .before .before .before .before .before .before .before .before .before .before .before .before .before .before .before .before .before .field-at3 .ensures .1) (sym (well-chain _ _ _ _ _ (c .before .before .before .before .before .before .before .before .before .before .before .before .before .before .before .both .ensures) (c .before .before .before .before .before .before .before .before .before .before .before .before .before .before .both2 .ensures) (c .before .before .before .before .before .before .before .before .before .before .before .before .before .both3 .ensures) (c .before .before .before .before .before .before .before .before .before .before .before .before .both4 .ensures) (c .before .before .before .before .before .before .before .before .before .before .before .ends-at .ensures) (c .before .before .before .before .before .before .before .before .before .before .both5 .ensures)) ∙ not-false _ (c .before .before .before .before .before .before .before .before .before .if1 .left)) (c .before .before .before .before .before .before .before .if2 .left) (sym (within-chain _ _ _ (c .before .before .before .before .before .before .is-within .ensures) (c .before .before .before .before .before .is-within2 .ensures) (c .before .before .before .is-within3 .ensures) (c .before .before .before .before .both6 .ensures) (c .before .before .both7 .ensures)) ∙ not-true _ (c .before .if3 .taken))
+
+index-of-requires : tie.Need-index-of-requires
+index-of-requires c κs = search needs
+
+advance-of-requires : tie.Need-advance-of-requires
+advance-of-requires c κs = search needs
+
+offset-of-requires : tie.Need-offset-of-requires
+offset-of-requires c κs = rw (c .before .before .before .before .before .before .before .before .before .before .before .before .before .before .before .before .before .before .before .before .before .field-at2 .ensures .0) (field-small _)
+
+offset-of-requires-2 : tie.Need-offset-of-requires-2
+offset-of-requires-2 c κs = rw (c .before .before .before .before .before .before .before .before .before .before .before .before .before .before .before .before .before .before .before .before .field-at3 .ensures .0) (field-small _)
+
+returns-4 : tie.Need-returns-4
+returns-4 c = code-read _ _ _ (c .before .before .before .before .before .before .before .before .before .before .before .before .before .before .before .before .before .before .before .before .before .before .before .before .before .before .before .before .pre .0) _ (c .before .before .before .before .before .before .before .before .before .before .before .before .before .before .before .before .before .before .before .before .before .before .before .before .before .before .field-at .ensures .0) _ (c .before .before .before .before .before .before .before .before .before .before .before .before .before .before .before .before .before .before .before .before .before .before .before .field-at2 .ensures .0) _ (c .before .before .before .before .before .before .before .before .before .before .before .before .before .before .before .before .before .before .before .before .before .field-at3 .ensures .0) (c .before .before .before .before .before .before .before .before .before .before .before .before .before .before .before .before .before .before .before .before .before .field-at3 .ensures .1) (sym (well-chain _ _ _ _ _ (c .before .before .before .before .before .before .before .before .before .before .before .before .before .before .before .before .before .before .both .ensures) (c .before .before .before .before .before .before .before .before .before .before .before .before .before .before .before .before .before .both2 .ensures) (c .before .before .before .before .before .before .before .before .before .before .before .before .before .before .before .before .both3 .ensures) (c .before .before .before .before .before .before .before .before .before .before .before .before .before .before .before .both4 .ensures) (c .before .before .before .before .before .before .before .before .before .before .before .before .before .before .ends-at .ensures) (c .before .before .before .before .before .before .before .before .before .before .before .before .before .both5 .ensures)) ∙ not-false _ (c .before .before .before .before .before .before .before .before .before .before .before .before .if1 .left)) (c .before .before .before .before .before .before .before .before .before .before .if2 .left) (sym (within-chain _ _ _ (c .before .before .before .before .before .before .before .before .before .is-within .ensures) (c .before .before .before .before .before .before .before .before .is-within2 .ensures) (c .before .before .before .before .before .before .is-within3 .ensures) (c .before .before .before .before .before .before .before .both6 .ensures) (c .before .before .before .before .before .both7 .ensures)) ∙ not-false _ (c .before .before .before .before .if3 .left)) _ (c .before .before .before .index-of .ensures) _ (c .before .before .advance-of .ensures) _ _ (toZ-ofZ {w = w32} (sfits-of (c .before .offset-of .ok)) ∙ c .before .offset-of .ensures) (toZ-ofZ {w = w32} (sfits-of (c .offset-of2 .ok)) ∙ c .offset-of2 .ensures)
+
+pub read-fields-spec : {M : Type 1} → statement M
+read-fields-spec =
+    tie.close
+    (tie.spec
+    field-at-requires
+    add-i
+    field-at-requires-2
+    add-j
+    field-at-requires-3
+    add-end
+    both-requires
+    both-requires-2
+    both-requires-3
+    both-requires-4
+    ends-at-requires
+    both-requires-5
+    refuse-requires
+    returns
+    refuse-requires-2
+    returns-2
+    is-within-requires
+    is-within-requires-2
+    both-requires-6
+    is-within-requires-3
+    both-requires-7
+    refuse-requires-3
+    returns-3
+    index-of-requires
+    advance-of-requires
+    offset-of-requires
+    offset-of-requires-2
+    returns-4)

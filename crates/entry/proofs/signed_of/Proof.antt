@@ -1,0 +1,24 @@
+-- `entry::signed_of` meets its contract. Assumes nothing.
+use native.Mathlib.Omega.{arith}
+use lib.IntN.{+ℤ-idl}
+use mir.Facts.{toZ-pos, toZ-ofZ}
+use mir.Syntax.{w32}
+use borrow.Author.Needs.{needs}
+use Rattle.entry.proofs.ValueLaws.{neg-fits}
+use Rattle.entry.proofs.signed_of.Statement.{statement}
+use Rattle.entry.proofs.signed_of.Tie as tie
+
+cast-x : tie.Need-cast-x
+cast-x c = search needs
+
+sub-result : tie.Need-sub-result
+sub-result c = rw (toZ-pos w32 {n = c .before .args .v} (omega arith), +ℤ-idl) (neg-fits (c .before .args .v) (search needs))
+
+returns : tie.Need-returns
+returns c = rw (c .if1 .taken, toZ-pos w32 {n = c .before .args .v} (omega arith), +ℤ-idl) (toZ-ofZ (neg-fits (c .before .args .v) (search needs)))
+
+returns-2 : tie.Need-returns-2
+returns-2 c = rw (c .if1 .left) (toZ-pos w32 {n = c .before .args .v} (omega arith))
+
+pub signed-of-spec : {M : Type 1} → statement M
+signed-of-spec = tie.close (tie.spec cast-x sub-result returns returns-2)

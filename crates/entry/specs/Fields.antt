@@ -1,0 +1,28 @@
+-- The parts of an entry as the code writes them: a glyph at a place of a run's numbers, and its fields from one on.
+-- Assumes nothing.
+use Prim.Native.Nat.{ℕ, _+_}
+use mathlib.Core.List.{List, [], _∷_}
+use lib.IntN.{ℤ}
+use Rattle.label.specs.Bytes.{joinRest, trim}
+use Rattle.label.specs.Write.{advanceBytes, offsetBytes}
+use Rattle.label.specs.Sound.{numberIndex, numberAdvance}
+use Rattle.label.specs.declared.Glyph.{Glyph}
+use Rattle.words.specs.Places.{place}
+
+-- the glyph record whose four numbers begin at place k
+unfoldable pub glyphAt : List ℤ → ℕ → Glyph
+glyphAt s k = record { index = numberIndex (place s k); advance = numberAdvance (place s (k + 1)); u = place s (k + 2); v = place s (k + 3) }
+
+-- an entry's fields from the v offset on, from the u offset on, from the advance on
+unfoldable pub partsV : ℤ → List (List ℕ)
+partsV v = offsetBytes v ∷ []
+
+unfoldable pub partsUV : ℤ → ℤ → List (List ℕ)
+partsUV u v = offsetBytes u ∷ partsV v
+
+unfoldable pub partsAUV : ℤ → ℤ → ℤ → List (List ℕ)
+partsAUV a u v = advanceBytes (numberAdvance a) ∷ partsUV u v
+
+-- the parts, without the empty ones at the end, each behind a comma
+unfoldable pub fields : List (List ℕ) → List ℕ
+fields l = joinRest 44 (trim l)

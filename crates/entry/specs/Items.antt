@@ -1,0 +1,39 @@
+-- What reading one entry answers.
+-- Assumes nothing.
+use Prim.Native.Nat.{ℕ, min}
+use mathlib.Core.Bool.{Bool}
+use mathlib.Core.List.{List}
+use lib.Dec.{eqb}
+use Rattle.label.specs.Outcome.{Outcome, ok, no}
+use Rattle.label.specs.Bytes.{cut}
+use Rattle.label.specs.Entry.{Entry}
+use Rattle.label.specs.Calls.{refusal}
+use Rattle.entry.specs.declared.Item.{Item}
+use Rattle.entry.specs.declared.EntryRead.{EntryRead}
+use Rattle.entry.specs.declared.EntryRead.the-variants.{Read, Refused}
+
+-- a number of digits of any length is kept up to 10^18, which no count of units or glyphs reaches
+abbrev pub cap : ℕ
+cap = 1000000000000000000
+
+-- an entry of n bytes as the code keeps it
+abbrev pub cutItem : ℕ → Entry → Item
+cutItem n e = record { mapped = e .mapped; units = min (e .units) cap; glyphs = min (e .glyphs) cap; glyph = e .glyph; used = n }
+
+-- `;`
+abbrev pub isSemi : ℕ → Bool
+isSemi b = eqb b 59
+
+-- the entry that a list begins with: its bytes up to a `;` or the end
+abbrev pub here : List ℕ → List ℕ
+here t = cut isSemi t .before
+
+-- the answer for an entry of n bytes
+abbrev pub entryRead : ℕ → Outcome Entry → EntryRead
+entryRead n (ok e) = Read (cutItem n e)
+entryRead n (no i p) = Refused (refusal i p)
+
+-- the paper's number and values for each case of the answer
+abbrev pub entryOutcome : EntryRead → Outcome Entry
+entryOutcome (Read i) = ok (record { mapped = i .mapped; units = i .units; glyphs = i .glyphs; glyph = i .glyph })
+entryOutcome (Refused x) = no (x .number) (x .place)

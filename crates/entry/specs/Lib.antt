@@ -1,0 +1,5 @@
+pub mod Items
+pub mod Digits
+pub mod Numbers
+pub mod Parts
+pub mod Fields

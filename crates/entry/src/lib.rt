@@ -1,0 +1,833 @@
+// One entry of the indices: read in one pass, and written in its normal form.
+ghost use mathlib.Core.Path.{_≡_};
+ghost use mathlib.Core.Bool.{Bool, true, false, _&&_, _||_, cond};
+ghost use Prim.Native.Nat.{ℕ, _+_, _-_, _*_, _^_, _≤_, _<_};
+ghost use lib.IntN.{ℤ};
+ghost use lib.ListN.{length, drop};
+ghost use Rattle.label.specs.Calls.{refusal};
+ghost use Rattle.label.specs.Bytes.{isDigit, empty, decimal, trim};
+ghost use Rattle.label.specs.Entry.{isE, nearest, scaled, entry};
+ghost use Rattle.entry.specs.declared.EntryRead.the-variants.{Refused};
+ghost use Rattle.entry.specs.Items.{cap, isSemi, here, entryRead};
+ghost use Rattle.entry.specs.Digits.{headOf, ends, isBreak, pushed, digitsFrom};
+ghost use Rattle.entry.specs.Numbers.{sized, within, mantissaOf, cutMantissa, signLength, exponentOf, cutExponent, numberOf};
+ghost use Rattle.entry.specs.Parts.{mapOf, badMap, cutMap, frontOf, notGiven, fieldOf, indexChoice, advanceChoice, signedBy, offsetBy, Small};
+ghost use mathlib.Core.List.{[], _∷_};
+ghost use lib.Dec.{eqb};
+ghost use Rattle.label.specs.Sound.{numberIndex, numberAdvance};
+ghost use Rattle.label.specs.Write.{fraction, valueBytes, offsetBytes, advanceBytes, indexBytes, mapBytes, entryBytes};
+ghost use Rattle.words.specs.Places.{place};
+ghost use Rattle.words.specs.Puts.{Put};
+ghost use Rattle.entry.specs.Fields.{glyphAt, partsV, partsUV, partsAUV, fields};
+use label::Advance;
+use label::Glyph;
+use label::Index;
+use label::Limits;
+use label::Refusal;
+
+// What an entry says: whether it has a map, the map's two counts (1 and 1 without one; cut at 10^18), its glyph record, and how many bytes it has.
+pub struct Item {
+    pub mapped: bool,
+    pub units: usize,
+    pub glyphs: usize,
+    pub glyph: Glyph,
+    pub used: usize,
+}
+
+pub enum EntryRead {
+    Read(Item),
+    Refused(Refusal),
+}
+
+fn refuse(number: usize, place: usize) -> EntryRead
+    ensures { λ r. ⌜ r ≡ Refused (refusal number place) ⌝ }
+{
+    EntryRead::Refused(Refusal { number, place })
+}
+
+// ── bytes ──
+
+// The byte at a place; 0 at the end, which is no byte that an entry may have.
+fn byte_at(s: &[u8], at: usize) -> u8
+    ensures { λ r. ⌜ r ≡ headOf (drop at (now (s .entry))) ⌝ }
+{
+    if at < s.len() { s[at] } else { 0 }
+}
+
+// Whether the entry ends at a place.
+fn ends_at(s: &[u8], at: usize) -> bool
+    ensures { λ r. ⌜ r ≡ ends isSemi (drop at (now (s .entry))) ⌝ }
+{
+    if at < s.len() { s[at] == 59 } else { true }
+}
+
+// Whether a field ends at a place.
+fn breaks_at(s: &[u8], at: usize) -> bool
+    ensures { λ r. ⌜ r ≡ ends isBreak (drop at (now (s .entry))) ⌝ }
+{
+    if at < s.len() {
+        words::either(s[at] == 44, s[at] == 59)
+    } else {
+        true
+    }
+}
+
+// ── digits ──
+
+// The digits that stand at a place: how many, and their value, cut at 10^18.
+pub struct Digits {
+    pub count: usize,
+    pub value: u64,
+}
+
+const CAP: u64 = 1_000_000_000_000_000_000;
+
+fn is_digit(b: u8) -> bool
+    ensures { λ r. ⌜ r ≡ isDigit b ⌝ }
+{
+    words::both(48 <= b, b <= 57)
+}
+
+// One more digit behind v.
+fn push_digit(v: u64, b: u8) -> u64
+    requires { ⌜ (v ≤ cap) × (isDigit b ≡ true) ⌝ }
+    ensures { λ r. ⌜ r ≡ pushed v b ⌝ }
+{
+    let w = v * 10 + (b - 48) as u64;
+    if w < CAP { w } else { CAP }
+}
+
+// The digits at a place, read behind `start`.
+fn digits_at(s: &[u8], at: usize, start: u64) -> Digits
+    requires { ⌜ (at ≤ length (now s)) × (start ≤ cap) ⌝ }
+    ensures { λ r. ⌜ r ≡ digitsFrom start (drop at (now (s .entry))) ⌝ }
+    ensures bounds { λ r. ⌜ (at + r .count ≤ length (now (s .entry))) × (r .value ≤ cap) ⌝ }
+{
+    let mut i = at;
+    let mut v = start;
+    while i < s.len() {
+        let b = s[i];
+        if !is_digit(b) {
+            return Digits {
+                count: i - at,
+                value: v,
+            };
+        }
+        v = push_digit(v, b);
+        i += 1;
+    }
+    Digits {
+        count: i - at,
+        value: v,
+    }
+}
+
+// ── values ──
+
+// Whole thousandths, where they are within the limit.
+pub enum Thousandths {
+    Of(u32),
+    Over,
+}
+
+// 10^k
+fn power(k: usize) -> u64
+    requires { ⌜ k < 19 ⌝ }
+    ensures { λ r. ⌜ r ≡ 10 ^ k ⌝ }
+{
+    match k {
+        0 => 1,
+        1 => 10,
+        2 => 100,
+        3 => 1_000,
+        4 => 10_000,
+        5 => 100_000,
+        6 => 1_000_000,
+        7 => 10_000_000,
+        8 => 100_000_000,
+        9 => 1_000_000_000,
+        10 => 10_000_000_000,
+        11 => 100_000_000_000,
+        12 => 1_000_000_000_000,
+        13 => 10_000_000_000_000,
+        14 => 100_000_000_000_000,
+        15 => 1_000_000_000_000_000,
+        16 => 10_000_000_000_000_000,
+        17 => 100_000_000_000_000_000,
+        _ => 1_000_000_000_000_000_000,
+    }
+}
+
+fn limited(v: u64) -> Thousandths
+    ensures { λ r. ⌜ r ≡ sized v ⌝ }
+{
+    if v <= Limits::THOUSANDTHS {
+        Thousandths::Of(v as u32)
+    } else {
+        Thousandths::Over
+    }
+}
+
+// m × 10^k
+fn grown(m: u64, k: usize) -> Thousandths
+    ensures { λ r. ⌜ r ≡ sized (m * 10 ^ k) ⌝ }
+{
+    if m == 0 {
+        return Thousandths::Of(0);
+    }
+    if 9 < k {
+        return Thousandths::Over;
+    }
+    if Limits::THOUSANDTHS < m {
+        return Thousandths::Over;
+    }
+    limited(m * power(k))
+}
+
+// m / 10^k, rounded: the one place where a value is rounded, by its quotient and its remainder.
+fn shrunk(m: u64, k: usize) -> Thousandths
+    requires { ⌜ m < cap ⌝ }
+    ensures { λ r. ⌜ r ≡ sized (nearest m (10 ^ k)) ⌝ }
+{
+    if 18 < k {
+        return Thousandths::Of(0);
+    }
+    let d = power(k);
+    let q = m / d;
+    let r = m % d;
+    if d <= r * 2 {
+        limited(q + 1)
+    } else {
+        limited(q)
+    }
+}
+
+// m × 10^up / 10^down, rounded.
+fn shifted(m: u64, up: usize, down: usize) -> Thousandths
+    requires { ⌜ m < cap ⌝ }
+    ensures { λ r. ⌜ r ≡ sized (nearest (m * 10 ^ up) (10 ^ down)) ⌝ }
+{
+    if down <= up {
+        grown(m, up - down)
+    } else {
+        shrunk(m, down - up)
+    }
+}
+
+fn to_thousandths(m: u64, f: usize, negative: bool, e: usize) -> Thousandths
+    requires { ⌜ (m < cap) × (f ≤ 18) × (e ≤ 99) ⌝ }
+    ensures { λ r. ⌜ r ≡ sized (scaled m f negative e) ⌝ }
+{
+    if negative {
+        shifted(m, 3, f + e)
+    } else {
+        shifted(m, e + 3, f)
+    }
+}
+
+// ── numbers ──
+
+// The digits before any exponent: whether they are well formed, the bytes used, the count of digits, their value, and the count behind the point.
+pub struct Mantissa {
+    pub ok: bool,
+    pub used: usize,
+    pub count: usize,
+    pub value: u64,
+    pub behind: usize,
+}
+
+// The exponent, of no bytes where there is none.
+pub struct Exponent {
+    pub ok: bool,
+    pub used: usize,
+    pub negative: bool,
+    pub count: usize,
+    pub value: u64,
+}
+
+pub struct Number {
+    pub ok: bool,
+    pub used: usize,
+    pub size: Thousandths,
+}
+
+fn mantissa_at(s: &[u8], at: usize) -> Mantissa
+    requires { ⌜ at ≤ length (now s) ⌝ }
+    ensures { λ r. ⌜ r ≡ cutMantissa (mantissaOf (drop at (now (s .entry)))) ⌝ }
+    ensures bounds { λ r. ⌜ at + r .used ≤ length (now (s .entry)) ⌝ }
+{
+    let whole = digits_at(s, at, 0);
+    let n = whole.count;
+    let v = whole.value;
+    let b = byte_at(s, at + n);
+    if b == 46 {
+        let part = digits_at(s, at + (n + 1), v);
+        let k = part.count;
+        Mantissa {
+            ok: 0 < k,
+            used: n + 1 + k,
+            count: n + k,
+            value: part.value,
+            behind: k,
+        }
+    } else {
+        Mantissa {
+            ok: 0 < n,
+            used: n,
+            count: n,
+            value: v,
+            behind: 0,
+        }
+    }
+}
+
+fn is_exponent(b: u8) -> bool
+    ensures { λ r. ⌜ r ≡ isE b ⌝ }
+{
+    words::either(b == 101, b == 69)
+}
+
+// The bytes of a sign, where b is one.
+fn sign_length(b: u8) -> usize
+    ensures { λ r. ⌜ r ≡ signLength b ⌝ }
+    ensures bounds { λ r. ⌜ r ≤ 1 ⌝ }
+{
+    if words::either(b == 43, b == 45) {
+        1
+    } else {
+        0
+    }
+}
+
+fn exponent_at(s: &[u8], at: usize) -> Exponent
+    requires { ⌜ at ≤ length (now s) ⌝ }
+    ensures { λ r. ⌜ r ≡ cutExponent (exponentOf (drop at (now (s .entry)))) ⌝ }
+    ensures bounds { λ r. ⌜ at + r .used ≤ length (now (s .entry)) ⌝ }
+{
+    if is_exponent(byte_at(s, at)) {
+        let b = byte_at(s, at + 1);
+        let k = 1 + sign_length(b);
+        let d = digits_at(s, at + k, 0);
+        let n = d.count;
+        Exponent {
+            ok: 0 < n,
+            used: k + n,
+            negative: b == 45,
+            count: n,
+            value: d.value,
+        }
+    } else {
+        Exponent {
+            ok: true,
+            used: 0,
+            negative: false,
+            count: 0,
+            value: 0,
+        }
+    }
+}
+
+fn number_at(s: &[u8], at: usize) -> Number
+    requires { ⌜ at ≤ length (now s) ⌝ }
+    ensures { λ r. ⌜ r ≡ numberOf (drop at (now (s .entry))) ⌝ }
+    ensures bounds { λ r. ⌜ at + r .used ≤ length (now (s .entry)) ⌝ }
+{
+    let m = mantissa_at(s, at);
+    let x = exponent_at(s, at + m.used);
+    let ok = words::both(m.ok, x.ok);
+    let used = m.used + x.used;
+    if Limits::DIGITS < m.count {
+        return Number {
+            ok,
+            used,
+            size: Thousandths::Over,
+        };
+    }
+    if Limits::EXPONENT_DIGITS < x.count {
+        return Number {
+            ok,
+            used,
+            size: Thousandths::Over,
+        };
+    }
+    let size = to_thousandths(m.value, m.behind, x.negative, x.value as usize);
+    Number { ok, used, size }
+}
+
+// ── the index part ──
+
+// The map at the start of an entry, of no bytes where there is none.
+pub struct MapPart {
+    pub ok: bool,
+    pub used: usize,
+    pub mapped: bool,
+    pub units: usize,
+    pub glyphs: usize,
+}
+
+// A map that is not well formed.
+fn bad_map() -> MapPart
+    ensures { λ r. ⌜ r ≡ cutMap badMap ⌝ }
+{
+    MapPart {
+        ok: false,
+        used: 0,
+        mapped: true,
+        units: 0,
+        glyphs: 0,
+    }
+}
+
+fn map_of(s: &[u8]) -> MapPart
+    ensures { λ r. ⌜ r ≡ cutMap (mapOf (now (s .entry))) ⌝ }
+    ensures bounds { λ r. ⌜ r .used ≤ length (now (s .entry)) ⌝ }
+{
+    if byte_at(s, 0) != 40 {
+        return MapPart {
+            ok: true,
+            used: 0,
+            mapped: false,
+            units: 1,
+            glyphs: 1,
+        };
+    }
+    let x = digits_at(s, 1, 0);
+    let n = x.count;
+    let h = byte_at(s, 1 + n);
+    if h == 41 {
+        return MapPart {
+            ok: 0 < n,
+            used: 1 + n + 1,
+            mapped: true,
+            units: x.value as usize,
+            glyphs: 1,
+        };
+    }
+    if h != 58 {
+        return bad_map();
+    }
+    let y = digits_at(s, 1 + (n + 1), 0);
+    let k = y.count;
+    if byte_at(s, 1 + (n + 1) + k) != 41 {
+        return bad_map();
+    }
+    MapPart {
+        ok: words::both(0 < n, 0 < k),
+        used: 1 + (n + 1) + k + 1,
+        mapped: true,
+        units: x.value as usize,
+        glyphs: y.value as usize,
+    }
+}
+
+// The map and the index's digits: whether they are well formed, the bytes used, what the map says, whether an index is named, and which (cut at 10^18).
+pub struct Front {
+    pub ok: bool,
+    pub used: usize,
+    pub mapped: bool,
+    pub units: usize,
+    pub glyphs: usize,
+    pub named: bool,
+    pub index: u64,
+}
+
+fn front_of(s: &[u8]) -> Front
+    ensures { λ r. ⌜ r ≡ frontOf (now (s .entry)) ⌝ }
+    ensures bounds { λ r. ⌜ r .used ≤ length (now (s .entry)) ⌝ }
+{
+    let m = map_of(s);
+    let d = digits_at(s, m.used, 0);
+    let named = 0 < d.count;
+    Front {
+        ok: words::both(m.ok, words::either(named, !m.mapped)),
+        used: m.used + d.count,
+        mapped: m.mapped,
+        units: m.units,
+        glyphs: m.glyphs,
+        named,
+        index: d.value,
+    }
+}
+
+// ── fields ──
+
+// A field behind its comma, of no bytes where the entry has ended.
+pub struct Field {
+    pub ok: bool,
+    pub used: usize,
+    pub given: bool,
+    pub negative: bool,
+    pub size: Thousandths,
+}
+
+// A field of n bytes that gives nothing.
+fn not_given(n: usize) -> Field
+    ensures { λ r. ⌜ r ≡ notGiven n ⌝ }
+{
+    Field {
+        ok: true,
+        used: n,
+        given: false,
+        negative: false,
+        size: Thousandths::Of(0),
+    }
+}
+
+fn field_at(s: &[u8], at: usize) -> Field
+    requires { ⌜ at ≤ length (now s) ⌝ }
+    ensures { λ r. ⌜ r ≡ fieldOf (drop at (now (s .entry))) ⌝ }
+    ensures bounds { λ r. ⌜ at + r .used ≤ length (now (s .entry)) ⌝ }
+{
+    if byte_at(s, at) != 44 {
+        return not_given(0);
+    }
+    if breaks_at(s, at + 1) {
+        return not_given(1);
+    }
+    let b = byte_at(s, at + 1);
+    let k = 1 + sign_length(b);
+    let n = number_at(s, at + k);
+    let size = n.size;
+    Field {
+        ok: n.ok,
+        used: k + n.used,
+        given: true,
+        negative: b == 45,
+        size,
+    }
+}
+
+fn is_within(z: Thousandths) -> bool
+    ensures { λ r. ⌜ r ≡ within z ⌝ }
+{
+    match z {
+        Thousandths::Of(_) => true,
+        Thousandths::Over => false,
+    }
+}
+
+// ── the glyph record ──
+
+fn index_of(named: bool, n: u64) -> Index
+    requires { ⌜ n ≤ 65535 ⌝ }
+    ensures { λ r. ⌜ r ≡ indexChoice named n ⌝ }
+{
+    if named {
+        Index::Named(n as u16)
+    } else {
+        Index::Font
+    }
+}
+
+fn advance_of(given: bool, z: Thousandths) -> Advance
+    ensures { λ r. ⌜ r ≡ advanceChoice given z ⌝ }
+{
+    if given {
+        match z {
+            Thousandths::Of(v) => Advance::Given(v),
+            Thousandths::Over => Advance::Own,
+        }
+    } else {
+        Advance::Own
+    }
+}
+
+fn signed_of(negative: bool, v: u32) -> i32
+    requires { ⌜ v ≤ 1000000000 ⌝ }
+    ensures { λ r. ⌜ r ≡ signedBy negative v ⌝ }
+{
+    let x = v as i32;
+    if negative { 0 - x } else { x }
+}
+
+fn offset_of(negative: bool, z: Thousandths) -> i32
+    requires { ⌜ Small z ⌝ }
+    ensures { λ r. ⌜ r ≡ offsetBy negative z ⌝ }
+{
+    match z {
+        Thousandths::Of(v) => signed_of(negative, v),
+        Thousandths::Over => 0,
+    }
+}
+
+// ── an entry ──
+
+// An entry with fields behind its front.
+fn read_fields(s: &[u8], k: usize, f: Front) -> EntryRead
+    requires { ⌜ (f ≡ frontOf (now s)) × (f .used ≤ length (now s)) ⌝ }
+    ensures { λ r. ⌜ r ≡ entryRead (length (here (now (s .entry)))) (entry k (here (now (s .entry)))) ⌝ }
+{
+    let x = field_at(s, f.used);
+    let i = f.used + x.used;
+    let y = field_at(s, i);
+    let j = i + y.used;
+    let z = field_at(s, j);
+    let end = j + z.used;
+    let fields = words::both(words::both(x.ok, !x.negative), words::both(y.ok, z.ok));
+    let ok = words::both(words::both(f.ok, fields), ends_at(s, end));
+    if !ok {
+        return refuse(7, k);
+    }
+    if Limits::INDEX < f.index {
+        return refuse(8, k);
+    }
+    let advance = x.size;
+    let u = y.size;
+    let v = z.size;
+    if !words::both(words::both(is_within(advance), is_within(u)), is_within(v)) {
+        return refuse(9, k);
+    }
+    let glyph = Glyph {
+        index: index_of(f.named, f.index),
+        advance: advance_of(x.given, advance),
+        u: offset_of(y.negative, u),
+        v: offset_of(z.negative, v),
+    };
+    EntryRead::Read(Item {
+        mapped: f.mapped,
+        units: f.units,
+        glyphs: f.glyphs,
+        glyph,
+        used: end,
+    })
+}
+
+// Entry number k, where s is the indices from its start on: 7, 8 and 9 in order, or what it says.
+pub fn read_entry(s: &[u8], k: usize) -> EntryRead
+    ensures { λ r. ⌜ r ≡ entryRead (length (here (now (s .entry)))) (entry k (here (now (s .entry)))) ⌝ }
+{
+    let f = front_of(s);
+    let end = f.used;
+    if byte_at(s, end) == 44 {
+        return read_fields(s, k, f);
+    }
+    if !words::both(f.ok, ends_at(s, end)) {
+        return refuse(7, k);
+    }
+    if Limits::INDEX < f.index {
+        return refuse(8, k);
+    }
+    let glyph = Glyph {
+        index: index_of(f.named, f.index),
+        advance: Advance::Own,
+        u: 0,
+        v: 0,
+    };
+    EntryRead::Read(Item {
+        mapped: f.mapped,
+        units: f.units,
+        glyphs: f.glyphs,
+        glyph,
+        used: end,
+    })
+}
+
+// ── writing ──
+// Each `put_..` stores its bytes from `at` on and returns the place behind them; where `out` ends, it only counts.
+
+fn digit(n: u32) -> u8
+    requires { ⌜ n < 10 ⌝ }
+    ensures { λ r. ⌜ r ≡ 48 + n ⌝ }
+{
+    48 + n as u8
+}
+
+fn put_decimal(out: &mut [u8], at: usize, n: u32) -> usize
+    requires { ⌜ at < 1152921504606846000 ⌝ }
+    ensures { λ r. ⌜ Put (now (out .entry)) at (decimal n) r (now (out .exit)) ⌝ }
+    ensures bounds { λ r. ⌜ r ≤ at + 10 ⌝ }
+{
+    if n < 10 {
+        return words::put_byte(out, at, digit(n));
+    }
+    let p = put_decimal(out, at, n / 10);
+    words::put_byte(out, p, digit(n % 10))
+}
+
+// The digits behind the point.
+fn put_fraction(out: &mut [u8], at: usize, f: u32) -> usize
+    requires { ⌜ (at < 1152921504606846000) × (f < 1000) ⌝ }
+    ensures { λ r. ⌜ Put (now (out .entry)) at (fraction f) r (now (out .exit)) ⌝ }
+    ensures bounds { λ r. ⌜ r ≤ at + 3 ⌝ }
+{
+    let p = words::put_byte(out, at, digit(f / 100));
+    if f % 100 == 0 {
+        return p;
+    }
+    let q = words::put_byte(out, p, digit(f / 10 % 10));
+    if f % 10 == 0 {
+        return q;
+    }
+    words::put_byte(out, q, digit(f % 10))
+}
+
+// The whole part of a value that has a fraction.
+fn put_whole(out: &mut [u8], at: usize, n: u32) -> usize
+    requires { ⌜ at < 1152921504606846000 ⌝ }
+    ensures { λ r. ⌜ Put (now (out .entry)) at (cond (eqb n 0) [] (decimal n)) r (now (out .exit)) ⌝ }
+    ensures bounds { λ r. ⌜ r ≤ at + 10 ⌝ }
+{
+    if n == 0 {
+        return at;
+    }
+    put_decimal(out, at, n)
+}
+
+fn put_value(out: &mut [u8], at: usize, n: u32) -> usize
+    requires { ⌜ at < 1152921504606845000 ⌝ }
+    ensures { λ r. ⌜ Put (now (out .entry)) at (valueBytes n) r (now (out .exit)) ⌝ }
+    ensures bounds { λ r. ⌜ r ≤ at + 14 ⌝ }
+{
+    if n % 1000 == 0 {
+        return put_decimal(out, at, n / 1000);
+    }
+    let p = put_whole(out, at, n / 1000);
+    let q = words::put_byte(out, p, 46);
+    put_fraction(out, q, n % 1000)
+}
+
+fn put_offset_at(out: &mut [u8], at: usize, s: &[i32], k: usize) -> usize
+    requires { ⌜ (at < 1152921504606844000) × (k < length (now s)) ⌝ }
+    ensures { λ r. ⌜ Put (now (out .entry)) at (offsetBytes (place (now (s .entry)) k)) r (now (out .exit)) ⌝ }
+    ensures bounds { λ r. ⌜ r ≤ at + 15 ⌝ }
+{
+    let n = words::size_at(s, k);
+    if n == 0 {
+        return at;
+    }
+    if words::natural_at(s, k) {
+        return put_value(out, at, n);
+    }
+    let p = words::put_byte(out, at, 45);
+    put_value(out, p, n)
+}
+
+fn put_advance_at(out: &mut [u8], at: usize, s: &[i32], k: usize) -> usize
+    requires { ⌜ (at < 1152921504606844000) × (k < length (now s)) ⌝ }
+    ensures { λ r. ⌜ Put (now (out .entry)) at (advanceBytes (numberAdvance (place (now (s .entry)) k))) r (now (out .exit)) ⌝ }
+    ensures bounds { λ r. ⌜ r ≤ at + 14 ⌝ }
+{
+    if words::natural_at(s, k) {
+        return put_value(out, at, words::size_at(s, k));
+    }
+    at
+}
+
+fn put_index_at(out: &mut [u8], at: usize, s: &[i32], k: usize) -> usize
+    requires { ⌜ (at < 1152921504606844000) × (k < length (now s)) ⌝ }
+    ensures { λ r. ⌜ Put (now (out .entry)) at (indexBytes (numberIndex (place (now (s .entry)) k))) r (now (out .exit)) ⌝ }
+    ensures bounds { λ r. ⌜ r ≤ at + 10 ⌝ }
+{
+    if words::natural_at(s, k) {
+        return put_decimal(out, at, words::size_at(s, k));
+    }
+    at
+}
+
+fn put_colon(out: &mut [u8], at: usize, b: u32) -> usize
+    requires { ⌜ at < 1152921504606844000 ⌝ }
+    ensures { λ r. ⌜ Put (now (out .entry)) at (cond (eqb b 1) [] (58 ∷ decimal b)) r (now (out .exit)) ⌝ }
+    ensures bounds { λ r. ⌜ r ≤ at + 11 ⌝ }
+{
+    if b == 1 {
+        return at;
+    }
+    let p = words::put_byte(out, at, 58);
+    put_decimal(out, p, b)
+}
+
+fn put_map(out: &mut [u8], at: usize, a: u32, b: u32) -> usize
+    requires { ⌜ at < 1152921504606843000 ⌝ }
+    ensures { λ r. ⌜ Put (now (out .entry)) at (mapBytes a b) r (now (out .exit)) ⌝ }
+    ensures bounds { λ r. ⌜ r ≤ at + 23 ⌝ }
+{
+    if words::both(a <= 1, b == 1) {
+        return at;
+    }
+    let p = words::put_byte(out, at, 40);
+    let q = put_decimal(out, p, a);
+    let t = put_colon(out, q, b);
+    words::put_byte(out, t, 41)
+}
+
+fn blank_v(s: &[i32], k: usize) -> bool
+    requires { ⌜ k < length (now s) ⌝ }
+    ensures { λ r. ⌜ r ≡ empty (trim (partsV (place (now (s .entry)) k))) ⌝ }
+{
+    words::size_at(s, k) == 0
+}
+
+fn blank_uv(s: &[i32], k: usize) -> bool
+    requires { ⌜ k + 1 < length (now s) ⌝ }
+    ensures { λ r. ⌜ r ≡ empty (trim (partsUV (place (now (s .entry)) k) (place (now (s .entry)) (k + 1)))) ⌝ }
+{
+    let n = words::size_at(s, k);
+    words::both(n == 0, blank_v(s, k + 1))
+}
+
+fn blank_auv(s: &[i32], k: usize) -> bool
+    requires { ⌜ k + 2 < length (now s) ⌝ }
+    ensures { λ r. ⌜ r ≡ empty (trim (partsAUV (place (now (s .entry)) k) (place (now (s .entry)) (k + 1)) (place (now (s .entry)) (k + 1 + 1)))) ⌝ }
+{
+    let n = words::natural_at(s, k);
+    words::both(!n, blank_uv(s, k + 1))
+}
+
+fn put_v(out: &mut [u8], at: usize, s: &[i32], k: usize) -> usize
+    requires { ⌜ (at < 1152921504606843000) × (k < length (now s)) ⌝ }
+    ensures { λ r. ⌜ Put (now (out .entry)) at (fields (partsV (place (now (s .entry)) k))) r (now (out .exit)) ⌝ }
+    ensures bounds { λ r. ⌜ r ≤ at + 16 ⌝ }
+{
+    if blank_v(s, k) {
+        return at;
+    }
+    let p = words::put_byte(out, at, 44);
+    put_offset_at(out, p, s, k)
+}
+
+fn put_uv(out: &mut [u8], at: usize, s: &[i32], k: usize) -> usize
+    requires { ⌜ (at < 1152921504606842000) × (k + 1 < length (now s)) ⌝ }
+    ensures { λ r. ⌜ Put (now (out .entry)) at (fields (partsUV (place (now (s .entry)) k) (place (now (s .entry)) (k + 1)))) r (now (out .exit)) ⌝ }
+    ensures bounds { λ r. ⌜ r ≤ at + 32 ⌝ }
+{
+    if blank_uv(s, k) {
+        return at;
+    }
+    let p = words::put_byte(out, at, 44);
+    let q = put_offset_at(out, p, s, k);
+    put_v(out, q, s, k + 1)
+}
+
+fn put_auv(out: &mut [u8], at: usize, s: &[i32], k: usize) -> usize
+    requires { ⌜ (at < 1152921504606841000) × (k + 2 < length (now s)) ⌝ }
+    ensures { λ r. ⌜ Put (now (out .entry)) at (fields (partsAUV (place (now (s .entry)) k) (place (now (s .entry)) (k + 1)) (place (now (s .entry)) (k + 1 + 1)))) r (now (out .exit)) ⌝ }
+    ensures bounds { λ r. ⌜ r ≤ at + 47 ⌝ }
+{
+    if blank_auv(s, k) {
+        return at;
+    }
+    let p = words::put_byte(out, at, 44);
+    let q = put_advance_at(out, p, s, k);
+    put_uv(out, q, s, k + 1)
+}
+
+// The entry of the glyph at place k of a run's numbers, which opens a cluster a:b.
+pub fn put_entry(out: &mut [u8], at: usize, a: u32, b: u32, s: &[i32], k: usize) -> usize
+    requires { ⌜ (at < 1152921504606840000) × (k + 3 < length (now s)) ⌝ }
+    ensures { λ r. ⌜ Put (now (out .entry)) at (entryBytes a b (glyphAt (now (s .entry)) k)) r (now (out .exit)) ⌝ }
+    ensures bounds { λ r. ⌜ r ≤ at + 80 ⌝ }
+{
+    let p = put_map(out, at, a, b);
+    let q = put_index_at(out, p, s, k);
+    put_auv(out, q, s, k + 1)
+}
+
+// Whether that entry has no bytes: no map, no index and no field.
+pub fn empty_entry(a: u32, b: u32, s: &[i32], k: usize) -> bool
+    requires { ⌜ k + 3 < length (now s) ⌝ }
+    ensures { λ r. ⌜ r ≡ empty (entryBytes a b (glyphAt (now (s .entry)) k)) ⌝ }
+{
+    let unmapped = words::both(a <= 1, b == 1);
+    let font = !words::natural_at(s, k);
+    words::both(words::both(unmapped, font), blank_auv(s, k + 1))
+}
