@@ -5,8 +5,8 @@
     compare.py archive LIB.so     a shared library with the C functions of include/glyph_label.h
 
     --seed N --count N            which random cases, and how many
-    --kinds edges,valid,..        only these kinds; `edges` are the fixed cases, all made before the random ones
-                                  (relabel: the papers' slips, then some of the others)
+    --kinds edges,valid,..        only these kinds; `edges` and `lines` are fixed cases, all tried before the random ones
+                                  (relabel: of the edges the papers' slips, then some of the others)
     --trace                       prints each case before it is tried, to find one that ends the process
 """
 
@@ -59,18 +59,12 @@ def shown(value):
     return repr(value)
 
 def random_cases(rng, count, kinds):
-    """(kind, case) of the kinds other than `edges`."""
-    kinds = {kind: made for kind, made in kinds.items() if kind != 'edges'}
+    """(kind, case) of the kinds that aren't fixed."""
+    kinds = {kind: made for kind, made in kinds.items() if kind not in ('edges', 'lines')}
     draw = generate.chooser(rng, kinds)
     return (draw() for _ in range(count if kinds else 0))
 
 # ---- Programs ----------------------------------------------------------------------------------------
-
-def long_lines(rng):
-    """Lines at and above the limits of the program."""
-    text = rng.choice((b'A', b'', b'\xff', b'{}A', b'A' * 16384, b'A' * 16385, b'{}' + b'A' * 4096, b'\xff' * 16385, b'A' * 40000))
-    size = rng.choice((5, 32767, 32768, 32769, 32770, 65536, 262144, 262145))
-    return text, rng.choice((b'0' * (size - 1) + b'5', (b'5;' * size)[:size], b'x' * size, b';' * size, b'5,' + b'0' * (size - 2)))
 
 def answer_of(output):
     """The answer that an output begins with, for the counts."""
@@ -85,13 +79,21 @@ def run_program(path, stdin):
         return (late.stdout or b''), 'no end within 120 s'
     return done.stdout, f'ended by signal {-done.returncode}; {done.stderr!r}' if done.returncode < 0 else None
 
-def relabel_mode(path, rng, count, kinds, report):
+def relabel_inputs(rng, count, kinds):
+    """(kind, input): the slips, line ends and limits of lines; then random labels, some with other lines around."""
+    if 'edges' in kinds:
+        yield from (('edges', text + b'\n' + indices + b'\n') for text, indices in edges.slips())
+    if 'lines' in kinds:
+        yield from (('lines', text + b'\n' + indices + end) for text, indices in edges.line_edges() for end in (b'', b'\n'))
+        yield from (('lines', stdin) for stdin in edges.INPUTS)
     draw = generate.chooser(rng, kinds)
-    fixed = [('edges', label) for label in edges.slips()] if 'edges' in kinds else []
-    for kind, (text, indices) in chain(fixed, (draw() for _ in range(count))):
+    for _ in range(count):
+        kind, (text, indices) = draw()
         stdin = text + b'\n' + indices + rng.choice((b'\n',) * 9 + (b'', b'\nthird', b'\n\n\n', b'\n5\n6'))
-        if rng.random() < .03:
-            stdin = rng.choice((b'', b'\n', b'\n\n', text, text + b'\n', stdin.replace(b'\n', b'\r\n')))
+        yield kind, stdin if rng.random() < .98 else rng.choice((text, text + b'\n', stdin.replace(b'\n', b'\r\n')))
+
+def relabel_mode(path, rng, count, kinds, report):
+    for kind, stdin in relabel_inputs(rng, count, kinds):
         report.announce(kind=kind, stdin=stdin)
         expected = labels.relabel(stdin)
         got, trouble = run_program(path, stdin)
@@ -118,7 +120,8 @@ def compare_batch(path, batch, report):
 def trials_mode(path, rng, count, kinds, report):
     """Batches of at most 200 labels and less than 1,000,000 bytes."""
     batch, size = [], 0
-    fixed = [('edges', label) for label in edges.label_edges()] if 'edges' in kinds else []
+    fixed = [('edges', label) for label in edges.label_edges() if 'edges' in kinds]
+    fixed += [('lines', label) for label in edges.line_edges() if 'lines' in kinds]
     for kind, (text, indices) in chain(fixed, random_cases(rng, count, kinds)):
         if b'\n' in text + indices:
             continue
@@ -319,9 +322,9 @@ def archive_mode(path, rng, count, kinds, report):
 def kinds_of(mode):
     if mode == 'archive':
         return {'edges': None, **generate.LABEL_KINDS, **generate.RUN_KINDS, **generate.PICK_KINDS, **generate.FAULT_KINDS}
-    fixed = list(edges.label_edges()) if mode == 'relabel' else None
-    return {'edges': (40, lambda rng: rng.choice(fixed)), **generate.LABEL_KINDS, 'large': (.5, generate.large_label),
-            'lines': (1, long_lines)}
+    labels_of = {'edges': list(edges.label_edges()), 'lines': list(edges.line_edges())}
+    return {'edges': (40, lambda rng: rng.choice(labels_of['edges'])), 'lines': (1, lambda rng: rng.choice(labels_of['lines'])),
+            **generate.LABEL_KINDS, 'large': (.5, generate.large_label)}
 
 def main():
     parser = argparse.ArgumentParser(description=__doc__, formatter_class=argparse.RawDescriptionHelpFormatter)

@@ -178,6 +178,22 @@ def label_edges():
     for part in (slips, text_edges, entry_edges, number_edges, count_edges, size_edges):
         yield from part()
 
+def line_edges():
+    """Labels whose lines are at and above the limits of the programs."""
+    for size in (32766, 32767, 32768, 32769, 32770, 65536, 262144, 262145):
+        for text in (b'A', b'', b'\xff', b'A' * 16385):
+            for first, filler, last in ((b'', b'0', b'5'), (b'5,', b'0', b''), (b'', b'x', b''), (b'', b';', b'')):
+                yield text, first + filler * (size - len(first + last)) + last
+            yield text, (b'5;' * size)[:size]
+    for text in (b'A' * 4096, b'{}' + b'A' * 4096, b'A' * 4097, THAI.encode() * 4096, THAI.encode() * 4097, b'A' * 16384,
+                 b'A' * 16385, b'\xff' * 16384, b'\xff' * 16385, b'A' * 40000, b'A' * 300000):
+        for indices in (b'', b'5', b'x'):
+            yield text, indices
+
+# Whole inputs of a program that reads one label: lines missing, unended, too many, ended as on other systems.
+INPUTS = (b'', b'\n', b'\n\n', b'\n\n\n', b'A', b'A\n', b'A\n5', b'A\n5\n', b'A\n5\nx', b'A\n5\n\n', b'\n5', b'\n5\n', b'\n5\nx',
+          b'A\n\n5', b'A\r\n5', b'A\r\n5\r\n', b'A\n5\r\n', b'A\r', b'\r\n\r\n', b'{}\n', b'{}\n5', b'A\0\n5', b'A\n5\0\n')
+
 # ---- Runs --------------------------------------------------------------------------------------------
 
 def longest_writing():

@@ -325,8 +325,8 @@ def around(rng, needed, step):
 
 # ---- Kinds, with their weights -----------------------------------------------------------------------
 
-LABEL_KINDS = {'valid': (30, valid_label), 'damaged': (25, damaged_label), 'mixed': (30, mixed_label), 'numbers': (8, number_label),
-               'utf8': (7, utf8_label), 'large': (.05, large_label)}
+LABEL_KINDS = {'valid': (30, valid_label), 'damaged': (25, damaged_label), 'mixed': (30, mixed_label),
+               'numbers': (8, number_label), 'utf8': (7, utf8_label), 'large': (.05, large_label)}
 RUN_KINDS = {'sound': (15, sound_run), 'nearly': (30, nearly_run), 'random': (10, random_run), 'large-runs': (.05, large_run)}
 PICK_KINDS = {'picks': (25, pick_case)}
 FAULT_KINDS = {'faults': (20, fault_case)}

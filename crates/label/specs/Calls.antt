@@ -97,8 +97,12 @@ writeInto text indices us cs gs = do
   need (leb (length (l .indices)) indices) 21 (length (l .indices))
   ok l
 
+-- what the writer returns of a label: how many bytes each output got
+abbrev pub lengthsOf : Label → Lengths
+lengthsOf l = record { text = length (l .text); indices = length (l .indices) }
+
 abbrev pub lengths : Outcome Label → Outcome Lengths
-lengths (ok l) = ok (record { text = length (l .text); indices = length (l .indices) })
+lengths (ok l) = ok (lengthsOf l)
 lengths (no n p) = no n p
 
 -- "Bytes behind either output stay."

@@ -1,22 +1,23 @@
--- The three demands, stated on the definitions that the contracts of the calls cite: a record for each, with a field for each of its sentences. proofs/Demands.antt
+-- The three demands, stated on the definitions that the contracts of the calls cite: a record for each, whose fields are its sentences. proofs/Demands.antt
 -- has a value of each record.
 -- Assumes nothing.
-use Prim.Native.Nat.{ℕ, zero, suc, _+_, _*_, _-_, _≤_, _<_}
+use Prim.Native.Nat.{ℕ, zero, suc, _+_, _*_, _/_, _≤_, _<_}
 use mathlib.Core.Path.{_≡_}
 use mathlib.Core.Logic.{_↔_, _⊎_}
-use mathlib.Core.Bool.{true, false}
-use mathlib.Core.List.{List, [], _∷_}
+use mathlib.Core.Bool.{Bool, true, false, _&&_}
+use mathlib.Core.List.{List, [], _∷_, _++_}
+use lib.Dec.{ltb}
 use lib.IntN.{ℤ}
-use lib.ListN.{length, take}
+use lib.ListN.{length, getD, take, replicate}
 use Rattle.label.specs.Outcome.{Outcome, ok, no}
 use Rattle.label.specs.Run.{Run, read}
-use Rattle.label.specs.Sound.{flatClusters, flatGlyphs, Readable, sound, runOf, clustersOf}
+use Rattle.label.specs.Sound.{flatClusters, flatGlyphs, Readable, sound, runOf, clustersOf, glyphsOf}
 use Rattle.label.specs.Write.{Label, normal, write}
 use Rattle.label.specs.Pick.{pickUnits, pickGlyphs}
-use Rattle.label.specs.Calls.{filled, readInto, counts, counted, unitsAfter, clustersAfter, glyphsAfter, writeInto, lengths, textAfter, indicesAfter}
+use Rattle.label.specs.Calls.{filled, readInto, counts, counted, unitsAfter, clustersAfter, glyphsAfter, writeInto, lengths, lengthsOf, textAfter, indicesAfter}
+use Rattle.label.specs.Wire.{fromHalves, fromWords, readBytes, unitBytesAfter, clusterBytesAfter, glyphBytesAfter, writeBytes}
 use Rattle.label.specs.Checks.{Given, refuses, saidRun, labelChecks, readChecks, writeChecks, pickChecks}
 use Rattle.label.specs.declared.Cluster.{Cluster}
-use Rattle.label.specs.declared.Lengths.{Lengths}
 use Rattle.label.specs.declared.Stretch.{Stretch}
 
 -- ── parts by their counts ──
@@ -85,69 +86,132 @@ pub record RoomyFor (l : Label) (text indices : ℕ) : Type 0 where
 abbrev pub writes : ℕ → ℕ → Run → Outcome Label
 writes text indices r = writeInto text indices (r .units) (flatClusters (r .clusters)) (flatGlyphs (r .glyphs))
 
+-- ── runs as bytes ──
+
+-- numbers of 8 bits
+unfoldable pub bytes : List ℕ → Bool
+bytes [] = true
+bytes (b ∷ bs) = ltb b 256 && bytes bs
+
+-- "some label that this paper accepts reads as it", of a run handed in as bytes
+pub record ReadableBytes (us cs gs : List ℕ) : Type 0 where
+  pub run : Run
+  pub text : List ℕ
+  pub indices : List ℕ
+  pub reads : read text indices ≡ ok run
+  pub units-are : fromHalves (run .units) ≡ us
+  pub clusters-are : fromWords (flatClusters (run .clusters)) ≡ cs
+  pub glyphs-are : fromWords (flatGlyphs (run .glyphs)) ≡ gs
+
 -- ── demand 1 ──
 
 -- the three buffers hold the complete run, each with what was behind it; or exactly what they held before
-pub record Complete (r : Run) (us us′ : List ℕ) (cs cs′ gs gs′ : List ℤ) : Type 0 where
-  pub units : us′ ≡ filled (r .units) us
-  pub clusters : cs′ ≡ filled (flatClusters (r .clusters)) cs
-  pub glyphs : gs′ ≡ filled (flatGlyphs (r .glyphs)) gs
+pub record Complete {A B : Type 0} (units us us′ : List A) (clusters cs cs′ glyphs gs gs′ : List B) : Type 0 where
+  pub units-are : us′ ≡ filled units us
+  pub clusters-are : cs′ ≡ filled clusters cs
+  pub glyphs-are : gs′ ≡ filled glyphs gs
 
-pub record Untouched (us us′ : List ℕ) (cs cs′ gs gs′ : List ℤ) : Type 0 where
-  pub units : us′ ≡ us
-  pub clusters : cs′ ≡ cs
-  pub glyphs : gs′ ≡ gs
+pub record Untouched {A B : Type 0} (us us′ : List A) (cs cs′ gs gs′ : List B) : Type 0 where
+  pub units-are : us′ ≡ us
+  pub clusters-are : cs′ ≡ cs
+  pub glyphs-are : gs′ ≡ gs
+
+-- what a reading with outcome o leaves: the label's run, complete in the three buffers, with its counts; or a refusal of the table, and the buffers untouched
+abbrev pub Left : Outcome Run → List ℕ → List ℕ → List ℕ → List ℤ → List ℤ → Type 0
+Left o t i us cs gs =
+    ((r : Run) × (read t i ≡ ok r) × Roomy r (length us) (length cs) (length gs) × (counted o ≡ ok (counts r))
+    × Complete (r .units) us (unitsAfter o us) (flatClusters (r .clusters)) cs (clustersAfter o cs) (flatGlyphs (r .glyphs)) gs (glyphsAfter o gs))
+    ⊎ ((n : ℕ) × (p : ℕ) × Given (readChecks (length us) (length cs) (length gs) t i) n p × (counted o ≡ no n p)
+    × Untouched us (unitsAfter o us) cs (clustersAfter o cs) gs (glyphsAfter o gs))
+
+-- the same of the bytes that C lends
+abbrev pub LeftBytes : Outcome Run → List ℕ → List ℕ → List ℕ → List ℕ → List ℕ → Type 0
+LeftBytes o t i us cs gs =
+    ((r : Run) × (read t i ≡ ok r) × Roomy r (length us / 2) (length cs / 4) (length gs / 4) × (counted o ≡ ok (counts r))
+    × Complete (fromHalves (r .units)) us (unitBytesAfter o us) (fromWords (flatClusters (r .clusters))) cs (clusterBytesAfter o cs) (fromWords (flatGlyphs (r .glyphs))) gs (glyphBytesAfter o gs))
+    ⊎ ((n : ℕ) × (p : ℕ) × Given (readChecks (length us / 2) (length cs / 4) (length gs / 4) t i) n p × (counted o ≡ no n p)
+    × Untouched us (unitBytesAfter o us) cs (clusterBytesAfter o cs) gs (glyphBytesAfter o gs))
+
+-- what a writing with outcome o of the run r leaves in the two outputs: its normal writing, with its lengths
+pub record Wrote (r : Run) (o : Outcome Label) (tx ix : List ℕ) : Type 0 where
+  pub room : RoomyFor (normal r) (length tx) (length ix)
+  pub lengths-are : lengths o ≡ ok (lengthsOf (normal r))
+  pub text : textAfter o tx ≡ filled (normal r .text) tx
+  pub indices : indicesAfter o ix ≡ filled (normal r .indices) ix
+
+-- a writing refused with n and p leaves the two outputs as they were
+pub record NotWrote (n p : ℕ) (o : Outcome Label) (tx ix : List ℕ) : Type 0 where
+  pub lengths-are : lengths o ≡ no n p
+  pub text : textAfter o tx ≡ tx
+  pub indices : indicesAfter o ix ≡ ix
 
 pub record Demand1 : Type 0 where
   -- "The lent memory holds, after a reading, either the complete run of the label or exactly what it held before, for every text and every indices bytes,
   -- of any length."
-  pub memory : (t i us : List ℕ) (cs gs : List ℤ)
-      → ((r : Run) × (readInto (length us) (length cs) (length gs) t i ≡ ok r)
-      × Complete r us (unitsAfter (readInto (length us) (length cs) (length gs) t i) us) cs (clustersAfter (readInto (length us) (length cs) (length gs) t i) cs) gs (glyphsAfter (readInto (length us) (length cs) (length gs) t i) gs))
-      ⊎ ((n : ℕ) × (p : ℕ) × (readInto (length us) (length cs) (length gs) t i ≡ no n p)
-      × Untouched us (unitsAfter (readInto (length us) (length cs) (length gs) t i) us) cs (clustersAfter (readInto (length us) (length cs) (length gs) t i) cs) gs (glyphsAfter (readInto (length us) (length cs) (length gs) t i) gs))
+  pub memory : (t i us : List ℕ) (cs gs : List ℤ) → Left (readInto (length us) (length cs) (length gs) t i) t i us cs gs
+  pub byte-memory : (t i us cs gs : List ℕ) → LeftBytes (readBytes (length us) (length cs) (length gs) t i) t i us cs gs
   -- "A refusal is a number and a place fixed by document 01": it is given exactly when its cause holds and no earlier one of the table does.
   pub fixed : (u c g : ℕ) (t i : List ℕ) (n p : ℕ) → (readInto u c g t i ≡ no n p) ↔ Given (readChecks u c g t i) n p
   -- "The same holds for the writer's buffers, and for any run handed to it, sound or not."
   pub writer-memory : (us : List ℕ) (cs gs : List ℤ) (tx ix : List ℕ)
-      → ((l : Label) × (writeInto (length tx) (length ix) us cs gs ≡ ok l)
-      × (textAfter (writeInto (length tx) (length ix) us cs gs) tx ≡ filled (l .text) tx)
-      × (indicesAfter (writeInto (length tx) (length ix) us cs gs) ix ≡ filled (l .indices) ix))
-      ⊎ ((n : ℕ) × (p : ℕ) × (writeInto (length tx) (length ix) us cs gs ≡ no n p)
-      × (textAfter (writeInto (length tx) (length ix) us cs gs) tx ≡ tx)
-      × (indicesAfter (writeInto (length tx) (length ix) us cs gs) ix ≡ ix))
+      → ((w : Readable us cs gs) × Wrote (w .run) (writeInto (length tx) (length ix) us cs gs) tx ix)
+      ⊎ ((n : ℕ) × (p : ℕ) × Given (writeChecks (length tx) (length ix) us cs gs) n p × NotWrote n p (writeInto (length tx) (length ix) us cs gs) tx ix)
+  pub writer-byte-memory : (us cs gs tx ix : List ℕ) → bytes us ≡ true → bytes cs ≡ true → bytes gs ≡ true
+      → ((w : ReadableBytes us cs gs) × Wrote (w .run) (writeBytes (length tx) (length ix) us cs gs) tx ix)
+      ⊎ ((n : ℕ) × (p : ℕ) × NotWrote n p (writeBytes (length tx) (length ix) us cs gs) tx ix)
   pub writer-fixed : (t i : ℕ) (us : List ℕ) (cs gs : List ℤ) (n p : ℕ) → (writeInto t i us cs gs ≡ no n p) ↔ Given (writeChecks t i us cs gs) n p
 
 -- ── demand 2 ──
 
+-- ECMA-388, 12.1.2: "The cluster map contains one entry for each UTF-16 code unit [...]. Each entry specifies the offset of the first glyph that represents
+-- the cluster of UTF-16 code units." g glyphs stand before these clusters.
+unfoldable pub clusterMap : ℕ → List Cluster → List ℕ
+clusterMap g [] = []
+clusterMap g (c ∷ cs) = replicate (c .units) g ++ clusterMap (g + c .glyphs) cs
+
 pub record Demand2 : Type 0 where
-  -- "what conforms is accepted with that run": a label of which no cause of 1 to 15 holds reads as the run that its text and entries say
-  pub accepted : (t i : List ℕ) → refuses (labelChecks t i) ≡ false → read t i ≡ ok (saidRun t i)
-  -- an accepted label has one run
-  pub one-run : (t i : List ℕ) (r s : Run) → read t i ≡ ok r → read t i ≡ ok s → r ≡ s
+  -- "what conforms is accepted with that run": a label reads as the run that its text and entries say exactly when no cause of 1 to 15 holds. What the buffers
+  -- then hold is `Demand1.memory`.
+  pub reads : (t i : List ℕ) (r : Run) → (read t i ≡ ok r) ↔ ((refuses (labelChecks t i) ≡ false) × (r ≡ saidRun t i))
   -- "all else is refused"
   pub refused : (t i : List ℕ) → refuses (labelChecks t i) ≡ true → (n : ℕ) × (p : ℕ) × (read t i ≡ no n p) × Given (labelChecks t i) n p
+  -- the run's clusters make up the cluster map of the standard
+  pub map-length : (t i : List ℕ) (r : Run) → read t i ≡ ok r → length (clusterMap 0 (r .clusters)) ≡ length (r .units)
+  pub map-entry : (t i : List ℕ) (r : Run) (j k : ℕ) → read t i ≡ ok r → In (unitCounts (r .clusters)) j k
+      → getD (clusterMap 0 (r .clusters)) k 0 ≡ startsAt (glyphCounts (r .clusters)) j
   -- "The writer gives the normal writing that document 01 defines"
   pub normally : (us : List ℕ) (cs gs : List ℤ) → sound us cs gs ≡ true → write us cs gs ≡ ok (normal (runOf us cs gs))
-  -- "a pick from glyphs to code units, or back, gives whole clusters"
-  pub to-units : (us : List ℕ) (cs gs : List ℤ) (first end : ℕ) (s : Stretch) → pickUnits us cs gs first end ≡ ok s
-      → WholeClusters (glyphCounts (clustersOf cs)) (unitCounts (clustersOf cs)) first end s
-  pub to-glyphs : (us : List ℕ) (cs gs : List ℤ) (first end : ℕ) (s : Stretch) → pickGlyphs us cs gs first end ≡ ok s
-      → WholeClusters (unitCounts (clustersOf cs)) (glyphCounts (clustersOf cs)) first end s
+  -- the computed test says "some label that this paper accepts reads as it"
+  pub sound-is : (us : List ℕ) (cs gs : List ℤ) → (sound us cs gs ≡ true) ↔ Readable us cs gs
+  -- "a pick from glyphs to code units, or back, gives whole clusters": of every sound run, for every stretch inside it
+  pub to-units : (us : List ℕ) (cs gs : List ℤ) (first end : ℕ) → Readable us cs gs → first < end → end ≤ length (glyphsOf gs)
+      → (s : Stretch) × (pickUnits us cs gs first end ≡ ok s) × WholeClusters (glyphCounts (clustersOf cs)) (unitCounts (clustersOf cs)) first end s
+  pub to-glyphs : (us : List ℕ) (cs gs : List ℤ) (first end : ℕ) → Readable us cs gs → first < end → end ≤ length us
+      → (s : Stretch) × (pickGlyphs us cs gs first end ≡ ok s) × WholeClusters (unitCounts (clustersOf cs)) (glyphCounts (clustersOf cs)) first end s
+  pub units-fixed : (us : List ℕ) (cs gs : List ℤ) (first end n p : ℕ)
+      → (pickUnits us cs gs first end ≡ no n p) ↔ Given (pickChecks us cs gs first end (length (glyphsOf gs))) n p
+  pub glyphs-fixed : (us : List ℕ) (cs gs : List ℤ) (first end n p : ℕ)
+      → (pickGlyphs us cs gs first end ≡ no n p) ↔ Given (pickChecks us cs gs first end (length us)) n p
 
 -- ── demand 3 ──
 
+-- the writer handed the places that a reading filled: the buffers themselves, cut at the counts that the reader returned
+abbrev pub passedOn : Run → List ℕ → List ℕ → List ℕ → List ℤ → List ℤ → ℕ → ℕ → Outcome Label
+passedOn r t i us cs gs x y =
+    writeInto x y (take (length (r .units)) (unitsAfter (readInto (length us) (length cs) (length gs) t i) us))
+    (take (2 * length (r .clusters)) (clustersAfter (readInto (length us) (length cs) (length gs) t i) cs))
+    (take (4 * length (r .glyphs)) (glyphsAfter (readInto (length us) (length cs) (length gs) t i) gs))
+
 -- what reading a label into buffers, and writing the places it filled into outputs, leave
-pub record Exchanged (r : Run) (t i us : List ℕ) (cs gs : List ℤ) (tx ix : List ℕ) : Type 0 where
+pub record Passed (r : Run) (t i us : List ℕ) (cs gs : List ℤ) (tx ix : List ℕ) : Type 0 where
   -- the reader accepts, with the run's counts
-  pub read-counts : counted (readInto (length us) (length cs) (length gs) t i) ≡ ok (counts r)
-  -- the places it filled are the run's
-  pub units : take (length (r .units)) (unitsAfter (readInto (length us) (length cs) (length gs) t i) us) ≡ r .units
-  pub clusters : take (2 * length (r .clusters)) (clustersAfter (readInto (length us) (length cs) (length gs) t i) cs) ≡ flatClusters (r .clusters)
-  pub glyphs : take (4 * length (r .glyphs)) (glyphsAfter (readInto (length us) (length cs) (length gs) t i) gs) ≡ flatGlyphs (r .glyphs)
-  -- the writer handed these places fills both outputs with the normal writing
-  pub text : textAfter (writes (length tx) (length ix) r) tx ≡ filled (normal r .text) tx
-  pub indices : indicesAfter (writes (length tx) (length ix) r) ix ≡ filled (normal r .indices) ix
+  pub counts-are : counted (readInto (length us) (length cs) (length gs) t i) ≡ ok (counts r)
+  -- the writer fills both outputs with the normal writing
+  pub wrote : Wrote r (passedOn r t i us cs gs (length tx) (length ix)) tx ix
+  -- the bytes written are accepted and read back to the run
+  pub back : read (take (length (normal r .text)) (textAfter (passedOn r t i us cs gs (length tx) (length ix)) tx))
+      (take (length (normal r .indices)) (indicesAfter (passedOn r t i us cs gs (length tx) (length ix)) ix))
+      ≡ ok r
 
 pub record Demand3 : Type 0 where
   -- "For every two labels that document 01 accepts, whatever the lent buffers, all large enough, held before, the reader accepts both, with the runs
@@ -168,11 +232,14 @@ pub record Demand3 : Type 0 where
   pub units : (t i : List ℕ) (r : Run) → read t i ≡ ok r → Divided (length (r .units)) (unitCounts (r .clusters))
   pub glyphs : (t i : List ℕ) (r : Run) → read t i ≡ ok r → Divided (length (r .glyphs)) (glyphCounts (r .clusters))
   -- "Given large enough output buffers, whatever run comes to the writer from any other hand is written exactly when some label that document 01 accepts
-  -- reads as it"
-  pub written : (us : List ℕ) (cs gs : List ℤ) (x y : ℕ) → RoomyFor (normal (runOf us cs gs)) x y
-      → ((l : Label) × (writeInto x y us cs gs ≡ ok l)) ↔ Readable us cs gs
+  -- reads as it"; the same of a run that comes as bytes
+  pub written : (us : List ℕ) (cs gs : List ℤ) (x y : ℕ)
+      → ((l : Label) × (writeInto x y us cs gs ≡ ok l)) ↔ ((w : Readable us cs gs) × RoomyFor (normal (w .run)) x y)
+  pub written-bytes : (us cs gs : List ℕ) (x y : ℕ) → bytes us ≡ true → bytes cs ≡ true → bytes gs ≡ true
+      → ((l : Label) × (writeBytes x y us cs gs ≡ ok l)) ↔ ((w : ReadableBytes us cs gs) × RoomyFor (normal (w .run)) x y)
   -- "and then in its normal writing"
   pub written-normally : (us : List ℕ) (cs gs : List ℤ) (l : Label) (x y : ℕ) (w : Readable us cs gs) → writeInto x y us cs gs ≡ ok l → l ≡ normal (w .run)
-  -- over the calls: two labels read into any large enough buffers, and the places filled written into any large enough outputs
-  pub exchanged : (t i : List ℕ) (r : Run) (us : List ℕ) (cs gs : List ℤ) (tx ix : List ℕ) → read t i ≡ ok r → Roomy r (length us) (length cs) (length gs)
-      → RoomyFor (normal r) (length tx) (length ix) → Exchanged r t i us cs gs tx ix
+  -- over the calls: a label read into any large enough buffers, and the places filled written into any large enough outputs. With `same` it says of two labels
+  -- that their runs are equal exactly when the bytes in the outputs are.
+  pub passed : (t i : List ℕ) (r : Run) (us : List ℕ) (cs gs : List ℤ) (tx ix : List ℕ) → read t i ≡ ok r → Roomy r (length us) (length cs) (length gs)
+      → RoomyFor (normal r) (length tx) (length ix) → Passed r t i us cs gs tx ix

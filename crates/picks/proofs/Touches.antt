@@ -94,6 +94,7 @@ module _ (first end : ℕ) where
 -- ── the walk at a place of the clusters' numbers ──
 
 module _ (turn : Bool) (cs : List ℤ) (first end : ℕ) where
+  -- what is touched, from the cluster at place i on
   unfoldable pub touchedAt : ℕ → ℕ → ℕ → ℕ → Stretch
   touchedAt n u s i = touchedFrom first end (way turn (clustersOf (drop i cs))) n u s
 
@@ -125,6 +126,7 @@ module _ (turn : Bool) (cs : List ℤ) (first end : ℕ) where
 -- ── the calls ──
 
 module _ (turn : Bool) (us : List ℕ) (cs gs : List ℤ) (first end : ℕ) where
+  -- how many there are of what the pick counts
   abbrev count : ℕ
   count = cond turn (length us) (length (glyphsOf gs))
 

@@ -51,6 +51,7 @@ empty-drop i l h = empty-is (drop i l) ∙ rw (length-drop) (sym (sub-zero-is (l
 pred-suc : (n : ℕ) → suc n - 1 ≡ n
 pred-suc n = omega arith
 
+-- the test of the clusters from these places of the three lists on
 unfoldable pub fitsAt : Bool → List ℕ → List ℤ → List ℤ → ℕ → ℕ → ℕ → ℕ → Bool
 fitsAt bare us cs gs lack at i k = fits bare lack (drop at us) (clustersOf (drop i cs)) (glyphsOf (drop k gs))
 
@@ -67,6 +68,7 @@ opens-within false us at a b n h e =
     let z : a ≤ length us - at = leb-true a (length us - at) (and-r (leb 1 a && leb 1 b) _ (and-l _ _ (and-l _ _ e))) in omega arith
 
 module _ (bare : Bool) (us : List ℕ) (cs gs : List ℤ) (lack at i k : ℕ) where
+  -- the test here, and the glyph here
   abbrev here : Bool
   here = fitsAt bare us cs gs lack at i k
 
@@ -135,6 +137,7 @@ regroup true false p k l m f = refl
 regroup false b p k l m f = refl
 
 module _ (us : List ℕ) (cs gs : List ℤ) where
+  -- the test's parts: the limits of the counts, and the clusters
   abbrev pub limited : Bool
   limited = leb (length us) maxUnits && leb (length gs / 4) maxGlyphs && not (eqb (length us) 0 && eqb (length gs / 4) 0)
 

@@ -9,7 +9,7 @@ ghost use Rattle.label.specs.Sound.{size, indexFits, advanceFits, glyphFits, nu
 ghost use Rattle.words.specs.Places.{place};
 ghost use Rattle.sound.specs.Sounds.{glyphAt, opensAt};
 
-// ── the numbers of a glyph, from place k on ──
+// ── the limits of a glyph, whose four numbers begin at place k ──
 
 fn index_fits_at(s: &[i32], k: usize) -> bool
     requires { ⌜ k < length (now s) ⌝ }
@@ -45,6 +45,7 @@ fn glyph_fits_at(s: &[i32], k: usize) -> bool
 
 // ── whole clusters and glyphs ──
 
+// Two numbers a cluster, none of them below 0.
 fn whole_clusters(s: &[i32]) -> bool
     ensures { λ r. ⌜ r ≡ wholeClusters (now (s .entry)) ⌝ }
 {
@@ -60,6 +61,7 @@ fn whole_clusters(s: &[i32]) -> bool
     i == s.len()
 }
 
+// Four numbers a glyph, index and advance not below -1.
 fn whole_glyphs(s: &[i32]) -> bool
     ensures { λ r. ⌜ r ≡ wholeGlyphs (now (s .entry)) ⌝ }
 {
@@ -86,12 +88,10 @@ fn opens_at(bare: bool, us: &[u16], at: usize, a: usize, b: usize, named: bool) 
         return words::both(words::both(a == 0, b == 1), named);
     }
     let counts = words::both(1 <= a, 1 <= b);
+    let inside = words::both(counts, a <= us.len() - at);
     let split = text::is_low(text::unit_or_zero(us, at + a));
     let index = words::either(named, words::both(a == 1, b == 1));
-    words::both(
-        words::both(words::both(counts, a <= us.len() - at), !split),
-        index,
-    )
+    words::both(words::both(inside, !split), index)
 }
 
 // Whether the clusters use up the units and the glyphs, and each glyph keeps the limits. `lack`: glyphs that the open cluster still lacks.

@@ -16,6 +16,12 @@ returns c = cc
 both-requires-3 : tie.Need-both-requires-3
 both-requires-3 c κs = search needs
 
+sub-both : tie.Need-sub-both
+sub-both c = search needs
+
+both-requires-4 : tie.Need-both-requires-4
+both-requires-4 c κs = search needs
+
 add-unit-or-zero : tie.Need-add-unit-or-zero
 add-unit-or-zero c = search needs
 
@@ -25,17 +31,11 @@ unit-or-zero-requires c κs = search needs
 is-low-requires : tie.Need-is-low-requires
 is-low-requires c κs = search needs
 
-both-requires-4 : tie.Need-both-requires-4
-both-requires-4 c κs = search needs
+both-requires-5 : tie.Need-both-requires-5
+both-requires-5 c κs = search needs
 
 either-requires : tie.Need-either-requires
 either-requires c κs = search needs
-
-sub-both : tie.Need-sub-both
-sub-both c = search needs
-
-both-requires-5 : tie.Need-both-requires-5
-both-requires-5 c κs = search needs
 
 both-requires-6 : tie.Need-both-requires-6
 both-requires-6 c κs = search needs
@@ -45,7 +45,7 @@ both-requires-7 c κs = search needs
 
 returns-2 : tie.Need-returns-2
 unfolding opensAt
-returns-2 c = rw (c .both7 .ensures, c .before .both6 .ensures, c .before .before .both5 .ensures, c .before .before .before .either .ensures, c .before .before .before .before .both4 .ensures, c .before .before .before .before .before .is-low .ensures, c .before .before .before .before .before .before .unit-or-zero .ensures, c .before .before .before .before .before .before .before .both3 .ensures, c .before .before .before .before .before .before .before .before .if1 .left)
+returns-2 c = rw (c .both7 .ensures, c .before .both6 .ensures, c .before .before .either .ensures, c .before .before .before .both5 .ensures, c .before .before .before .before .is-low .ensures, c .before .before .before .before .before .unit-or-zero .ensures, c .before .before .before .before .before .before .both4 .ensures, c .before .before .before .before .before .before .before .both3 .ensures, c .before .before .before .before .before .before .before .before .if1 .left)
 
 pub opens-at-spec : {M : Type 1} → statement M
 opens-at-spec =
@@ -55,13 +55,13 @@ opens-at-spec =
     both-requires-2
     returns
     both-requires-3
+    sub-both
+    both-requires-4
     add-unit-or-zero
     unit-or-zero-requires
     is-low-requires
-    both-requires-4
-    either-requires
-    sub-both
     both-requires-5
+    either-requires
     both-requires-6
     both-requires-7
     returns-2)

@@ -1,0 +1,78 @@
+-- The writer's call: one law for each return.
+-- Assumes nothing.
+use mathlib.Core.Path.{_≡_, refl, sym, _∙_}
+use mathlib.Core.Bool.{Bool, true, false, not}
+use mathlib.Core.List.{List}
+use Prim.Native.Nat.{ℕ, _<_, _≤_}
+use native.Mathlib.Omega.{arith}
+use borrow.Author.Tests.{le-leb, lt-leb, not-true, not-false}
+use lib.IntN.{ℤ}
+use lib.ListN.{length}
+use Rattle.label.specs.Outcome.{Outcome, ok, no}
+use Rattle.label.specs.Calls.{refusal, writingOutcome, writeInto, lengths, textAfter, indicesAfter}
+use Rattle.label.specs.Write.{Label, textOf, indicesOf, write, normal}
+use Rattle.label.specs.Sound.{sound, runOf, clustersOf, glyphsOf}
+use Rattle.label.specs.declared.Writing.{Writing}
+use Rattle.label.specs.declared.Writing.the-variants.{Written, Refused}
+use Rattle.words.specs.Puts.{Put}
+use Rattle.words.proofs.Puts.{put-room}
+use Rattle.sound.proofs.Facts.{few-units, few-numbers}
+
+-- the three clauses of the call, where the writing comes to w
+abbrev Answer : Outcome Label → Writing → List ℕ → List ℕ → List ℕ → List ℕ → Type 0
+Answer w r T T′ I I′ = (writingOutcome r ≡ lengths w) × ((T′ ≡ textAfter w T) × (I′ ≡ indicesAfter w I))
+
+refuses : {w : Outcome Label} {r : Writing} (n p : ℕ) (T I : List ℕ) → r ≡ Refused (refusal n p) → w ≡ no n p → Answer w r T T I I
+refuses n p T I f e = rw (e, f) (refl, (refl, refl))
+
+module _ (us : List ℕ) (cs gs : List ℤ) (T I : List ℕ) {x : Bool} (e : x ≡ sound us cs gs) where
+  abbrev W : Outcome Label
+  W = writeInto (length T) (length I) us cs gs
+
+  abbrev t : ℕ
+  t = length (textOf us)
+
+  abbrev i : ℕ
+  i = length (indicesOf (clustersOf cs) (glyphsOf gs))
+
+  pub refuses-19 : {r : Writing} → r ≡ Refused (refusal 19 0) → not x ≡ true → Answer W r T T I I
+  unfolding writeInto write
+  refuses-19 f k = refuses 19 0 T I f is
+    where
+      is : W ≡ no 19 0
+      is = rw (sym e ∙ not-true x k)
+
+  module _ (k : not x ≡ false) where
+    yes : sound us cs gs ≡ true
+    yes = sym e ∙ not-false x k
+
+    pub units-few : length us ≤ 1000000000000
+    units-few = let f = few-units us cs gs yes in omega arith
+
+    pub numbers-few : length gs ≤ 1000000000000
+    numbers-few = let f = few-numbers us cs gs yes in omega arith
+
+    module _ {n : ℕ} (et : n ≡ t) where
+      pub refuses-20 : {r : Writing} → r ≡ Refused (refusal 20 n) → length T < n → Answer W r T T I I
+      unfolding writeInto write
+      refuses-20 f h = refuses 20 n T I f is
+        where
+          is : W ≡ no 20 n
+          is = rw (yes, lt-leb t (length T) (omega arith), et)
+
+      module _ (h : n ≤ length T) {m : ℕ} (ei : m ≡ i) where
+        pub refuses-21 : {r : Writing} → r ≡ Refused (refusal 21 m) → length I < m → Answer W r T T I I
+        unfolding writeInto write
+        refuses-21 f l = refuses 21 m T I f is
+          where
+            is : W ≡ no 21 m
+            is = rw (yes, le-leb t (length T) (omega arith), lt-leb i (length I) (omega arith), ei)
+
+        module _ (l : m ≤ length I) where
+          accepts : W ≡ ok (normal (runOf us cs gs))
+          unfolding writeInto write
+          accepts = rw (yes, le-leb t (length T) (omega arith), le-leb i (length I) (omega arith))
+
+          pub writes : {T′ I′ : List ℕ} {p q : ℕ} → Put T 0 (textOf us) p T′ → Put I 0 (indicesOf (clustersOf cs) (glyphsOf gs)) q I′
+              → Answer W (Written (record { text = n; indices = m })) T T′ I I′
+          writes a b = rw (accepts, et, ei) (refl, (put-room a (omega arith), put-room b (omega arith)))

@@ -1,0 +1,50 @@
+use Rattle.writer.proofs.Stores.{semis-step, semis-none}
+use Rattle.writer.specs.Entries.{semis}
+use Rattle.words.proofs.Puts.{Left, left-start, left-next, left-as, left-end}
+use mathlib.Core.Path.{_≡_, refl}
+use Prim.Native.Nat.{_+_}
+use native.Mathlib.Omega.{arith}
+use borrow.Author.Needs.{needs}
+use Rattle.writer.proofs.put_semis.Statement.{statement}
+use Rattle.writer.proofs.put_semis.Tie as tie
+
+abbrev Inv-loop : tie.InvT-loop
+Inv-loop out₀ at n p₀ m₀ out p m = Left out₀ (semis n) out at p (semis m) × (p + m ≡ at + n)
+
+abbrev μ-loop : tie.MeasureT-loop
+μ-loop out₀ at n p₀ m₀ out p m = m
+
+loop-holds : tie.Need-loop-holds Inv-loop μ-loop
+loop-holds c = (left-start, refl)
+
+put-byte-requires : tie.Need-put-byte-requires Inv-loop μ-loop
+put-byte-requires c κs = search needs
+
+sub-m : tie.Need-sub-m Inv-loop μ-loop
+sub-m c = search needs
+
+loop-less : tie.Need-loop-less Inv-loop μ-loop
+loop-less c = search needs
+
+loop-again : tie.Need-loop-again Inv-loop μ-loop
+loop-again c = (left-next (left-as (semis-step (c .before .before .before .before .before .loop .m) (c .before .before .before .before .loop-test .taken)) (c .before .before .before .before .before .loop .inv .0)) (c .before .before .put-byte .ensures .0), omega arith)
+
+same-length : tie.Need-same-length Inv-loop μ-loop
+same-length c = c .before .loop .inv .0 .same
+
+returns : tie.Need-returns Inv-loop μ-loop
+returns c = (left-end (left-as (semis-none (c .before .loop .m) (omega arith)) (c .before .loop .inv .0)), omega arith)
+
+pub put-semis-spec : {M : Type 1} → statement M
+put-semis-spec =
+    tie.close
+    (tie.spec
+    Inv-loop
+    μ-loop
+    loop-holds
+    put-byte-requires
+    sub-m
+    loop-less
+    loop-again
+    same-length
+    returns)

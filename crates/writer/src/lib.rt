@@ -1,0 +1,137 @@
+// The writer: a sound run's normal writing, text and indices.
+ghost use mathlib.Core.Path.{_≡_};
+ghost use mathlib.Core.Bool.{cond};
+ghost use Prim.Native.Nat.{_+_, _<_, _≤_};
+ghost use lib.ListN.{length};
+ghost use Rattle.label.specs.Calls.{refusal, writingOutcome, writeInto, lengths, textAfter, indicesAfter};
+ghost use Rattle.label.specs.Write.{entryBytes, indicesOf};
+ghost use Rattle.label.specs.Sound.{clustersOf, glyphsOf};
+ghost use Rattle.words.specs.Puts.{Put};
+ghost use Rattle.sound.specs.Sounds.{glyphAt};
+ghost use Rattle.writer.specs.Entries.{semis, led};
+use label::Lengths;
+use label::Refusal;
+use label::Writing;
+
+// ── the indices, stored as far as there is room ──
+// Each `put_..` stores its bytes from `at` on and returns the place behind them; where `out` ends, it only counts.
+
+fn put_semis(out: &mut [u8], at: usize, n: usize) -> usize
+    requires { ⌜ (at < 1000000000000000000) × (n < 100000000000000000) ⌝ }
+    ensures { λ r. ⌜ Put (now (out .entry)) at (semis n) r (now (out .exit)) ⌝ }
+    ensures bounds { λ r. ⌜ r ≡ at + n ⌝ }
+{
+    let mut p = at;
+    let mut m = n;
+    while 0 < m {
+        p = words::put_byte(out, p, 59);
+        m -= 1;
+    }
+    p
+}
+
+// The entry of the glyph at place k, with the separators owed before it; nothing for an entry without bytes.
+fn put_next(out: &mut [u8], at: usize, owed: usize, a: u32, b: u32, gs: &[i32], k: usize) -> usize
+    requires { ⌜ (at < 1000000000000000000) × (owed < 100000000000000000) × (k + 3 < length (now gs)) ⌝ }
+    ensures { λ r. ⌜ Put (now (out .entry)) at (led owed (entryBytes a b (glyphAt (now (gs .entry)) k))) r (now (out .exit)) ⌝ }
+    ensures bounds { λ r. ⌜ r ≤ at + owed + 80 ⌝ }
+{
+    if entry::empty_entry(a, b, gs, k) {
+        return at;
+    }
+    let p = put_semis(out, at, owed);
+    entry::put_entry(out, p, a, b, gs, k)
+}
+
+// The separators owed before the next entry: one, and those before an entry that was not stored.
+fn owes(stored: bool, owed: usize) -> usize
+    requires { ⌜ owed < 100000000000000000 ⌝ }
+    ensures { λ r. ⌜ r ≡ cond stored 1 (owed + 1) ⌝ }
+    ensures bounds { λ r. ⌜ r ≤ owed + 1 ⌝ }
+{
+    if stored { 1 } else { owed + 1 }
+}
+
+// The indices of a run. Entries without bytes at the end are never stored, as the separators before an entry are stored with it.
+// `lack`: glyphs that the open cluster still lacks.
+fn put_indices(out: &mut [u8], cs: &[i32], gs: &[i32]) -> usize
+    requires { ⌜ length (now gs) ≤ 1000000000000 ⌝ }
+    ensures { λ r. ⌜ Put (now (out .entry)) 0 (indicesOf (clustersOf (now (cs .entry))) (glyphsOf (now (gs .entry)))) r (now (out .exit)) ⌝ }
+{
+    let mut lack = 0;
+    let mut i = 0;
+    let mut k = 0;
+    let mut at = 0;
+    let mut owed = 0;
+    while 4 <= gs.len() - k {
+        if 0 < lack {
+            let p = put_next(out, at, owed, 1, 1, gs, k);
+            owed = owes(at < p, owed);
+            at = p;
+            lack -= 1;
+            k += 4;
+            continue;
+        }
+        if cs.len() - i < 2 {
+            return at;
+        }
+        let a = words::nat_at(cs, i);
+        let b = words::nat_at(cs, i + 1);
+        let p = put_next(out, at, owed, a, b, gs, k);
+        owed = owes(at < p, owed);
+        at = p;
+        i += 2;
+        lack = words::less_one(words::widened(b));
+        k += 4;
+    }
+    at
+}
+
+// How many bytes the indices of a run have.
+fn indices_length(cs: &[i32], gs: &[i32]) -> usize
+    requires { ⌜ length (now gs) ≤ 1000000000000 ⌝ }
+    ensures { λ r. ⌜ r ≡ length (indicesOf (clustersOf (now (cs .entry))) (glyphsOf (now (gs .entry)))) ⌝ }
+{
+    let mut none = [0u8; 1];
+    put_indices(&mut none, cs, gs)
+}
+
+// ── the call ──
+
+fn refused(number: usize, place: usize) -> Writing
+    ensures { λ r. ⌜ r ≡ Writing.Refused (refusal number place) ⌝ }
+{
+    Writing::Refused(Refusal { number, place })
+}
+
+// The normal writing of a run, where it is sound and both outputs have room.
+pub fn write(
+    units: &[u16],
+    clusters: &[i32],
+    glyphs: &[i32],
+    text: &mut [u8],
+    indices: &mut [u8],
+) -> Writing
+    ensures result { λ r. ⌜ writingOutcome r ≡ lengths (writeInto (length (now (text .entry))) (length (now (indices .entry))) (now (units .entry)) (now (clusters .entry)) (now (glyphs .entry))) ⌝ }
+    ensures text { λ r. ⌜ now (text .exit) ≡ textAfter (writeInto (length (now (text .entry))) (length (now (indices .entry))) (now (units .entry)) (now (clusters .entry)) (now (glyphs .entry))) (now (text .entry)) ⌝ }
+    ensures indices { λ r. ⌜ now (indices .exit) ≡ indicesAfter (writeInto (length (now (text .entry))) (length (now (indices .entry))) (now (units .entry)) (now (clusters .entry)) (now (glyphs .entry))) (now (indices .entry)) ⌝ }
+{
+    let is_sound = sound::is_sound(units, clusters, glyphs);
+    if !is_sound {
+        return refused(19, 0);
+    }
+    let text_bytes = text::text_length(units);
+    if text.len() < text_bytes {
+        return refused(20, text_bytes);
+    }
+    let indices_bytes = indices_length(clusters, glyphs);
+    if indices.len() < indices_bytes {
+        return refused(21, indices_bytes);
+    }
+    text::put_text(text, units);
+    put_indices(indices, clusters, glyphs);
+    Writing::Written(Lengths {
+        text: text_bytes,
+        indices: indices_bytes,
+    })
+}
