@@ -3,3 +3,5 @@ pub mod Placing
 pub mod Walking
 pub mod Endings
 pub mod Stores
+pub mod Filling
+pub mod Calls

@@ -254,7 +254,7 @@ step-is : (bare : Bool) (st : State) (s : List ℕ) (e : Entry) → entry (st .k
 unfolding step
 step-is bare st s e h = rw h
 
-step-no : (bare : Bool) (st : State) (s : List ℕ) (n p : ℕ) → entry (st .k) s ≡ no n p → step bare st s ≡ no n p
+pub step-no : (bare : Bool) (st : State) (s : List ℕ) (n p : ℕ) → entry (st .k) s ≡ no n p → step bare st s ≡ no n p
 unfolding step
 step-no bare st s n p h = rw h
 
@@ -265,7 +265,7 @@ further-on text us c d n b i at q h =
     let e : d .unit ≡ c .unit + n = ap (λ (y : Cursor). y .unit) q in
     h ∙ ap (λ (r : List ℕ). ok (drop n r)) (units-here text us c at) ∙ ap ok (drop-drop n (c .unit) us) ∙ ap (λ (k : ℕ). ok (drop k us)) (sym e)
 
-refusing : (us s : List ℕ) (pre : Parts) (lack : ℕ) (c : Cursor) → Stands us s pre lack c → c .place ≤ length s → (n p : ℕ)
+pub refusing : (us s : List ℕ) (pre : Parts) (lack : ℕ) (c : Cursor) → Stands us s pre lack c → c .place ≤ length s → (n p : ℕ)
     → step (empty us) (stateOf us c lack) (here (drop (c .place) s)) ≡ no n p → walk (empty us) (start us) (entries s) ≡ no n p
 refusing us s pre lack c st hi n p q =
     let head = here (drop (c .place) s) in
@@ -286,14 +286,13 @@ module _ (text us s : List ℕ) (pre : Parts) (lack : ℕ) (c : Cursor) (st : St
       let q′ : placed (empty us) (stateOf us c (c .lack)) (itemEntry (cutItem (length head) e)) ≡ o =
       ap (λ (y : Item). placed (empty us) (stateOf us c (c .lack)) (itemEntry y)) ex
       ∙ ap (λ (z : State). placed (empty us) z (itemEntry x)) (sym (state-here text us c at))
-      ∙ q in
-      (
+      ∙ q in (
         e,
         ex,
         step-lack (empty us) us head c lack (c .lack) (same us s pre lack c st rd hi)
-        ∙ step-is (empty us) (stateOf us c (c .lack)) head e is
-        ∙ placed-cut (empty us) (stateOf us c (c .lack)) (length head) e few
-        ∙ ap (over e) q′,
+            ∙ step-is (empty us) (stateOf us c (c .lack)) head e is
+            ∙ placed-cut (empty us) (stateOf us c (c .lack)) (length head) e few
+            ∙ ap (over e) q′,
       )
 
   pub turn-took : (x : Item) (d : Cursor) → entryRead (length head) (entry (c .entry) head) ≡ Read x → Turns (empty us) text c x (Took d)

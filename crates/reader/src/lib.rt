@@ -16,6 +16,7 @@ ghost use Rattle.label.specs.Run.{read as readLabel};
 ghost use Rattle.label.specs.Sound.{indexNumber, advanceNumber, advanceFits, flatClusters, flatGlyphs};
 ghost use Rattle.label.specs.Calls.{refusal, readingOutcome, readInto, counted, unitsAfter, clustersAfter, glyphsAfter};
 ghost use Rattle.text.specs.Moves.{unitsFrom};
+ghost use Rattle.text.specs.Texts.{unitsStart};
 ghost use Rattle.reader.specs.Steps.{firstPlace, firstCursor, advanced, Opens, Turns, Tails, limited, countedFrom, openedHere, glyphPlaces, tailClusters, tailGlyphs};
 ghost use Rattle.label.specs.declared.Reading.the-variants.{Refused as RefusedReading};
 
@@ -51,7 +52,13 @@ fn is_named(i: label::Index) -> bool
 }
 
 // The cursor behind an entry that takes `units` units and has `glyphs` in its map; the next unit is at `byte`, the next entry at `place`.
-fn advance(c: label::Cursor, byte: usize, units: usize, glyphs: usize, place: usize) -> label::Cursor
+fn advance(
+    c: label::Cursor,
+    byte: usize,
+    units: usize,
+    glyphs: usize,
+    place: usize,
+) -> label::Cursor
     requires { ⌜ (c .entry ≤ maxIndicesBytes) × (c .unit + units ≤ maxUnits) × (c .clusters ≤ c .entry) ⌝ }
     ensures { λ r. ⌜ r ≡ advanced c byte units glyphs place ⌝ }
 {
@@ -332,6 +339,20 @@ fn taken(count: usize, lack: usize, units: usize) -> usize
     if count == 0 { 0 } else { units }
 }
 
+// Where the text's units start: behind `{}`.
+fn units_start(text: &[u8]) -> usize
+    ensures { λ r. ⌜ r ≡ unitsStart (now (text .entry)) ⌝ }
+{
+    if text.len() < 2 {
+        return 0;
+    }
+    if words::both(text[0] == 0x7b, text[1] == 0x7d) {
+        2
+    } else {
+        0
+    }
+}
+
 // The run of an accepted label, whose counts `survey` found.
 pub fn fill(
     text: &[u8],
@@ -348,7 +369,7 @@ pub fn fill(
     ensures glyphs { λ _. ⌜ now (glyphs .exit) ≡ glyphsAfter (readLabel (now (text .entry)) (now (indices .entry))) (now (glyphs .entry)) ⌝ }
 {
     let count = counts.units;
-    text::fill_units(text, text::units_start(text), units);
+    text::fill_units(text, units_start(text), units);
     let mut c = first_cursor(indices, 0);
     while c.place <= indices.len() {
         let place = c.place;

@@ -54,13 +54,13 @@ loop-less c = omega arith
 -- src/lib.rt:305:5
 loop-again : tie.Need-loop-again Inv-loop μ-loop
 loop-again c = (
-      c .before .before .before .before .put-cluster .kept .0 ∙ c .before .before .before .before .before .before .before .loop .inv .0,
-      c .before .put-glyph .kept .0 ∙ c .before .before .before .before .before .before .before .loop .inv .1,
-      omega arith,
-      omega arith,
-      tail-pair _ _ _ _ _ (c .before .before .before .before .put-cluster .ensures) (c .before .before .before .before .before .before .loop-test .taken) (c .before .before .before .before .before .before .before .loop .inv .4),
-      tail-four _ _ _ _ _ (c .before .put-glyph .ensures) (c .before .before .before .before .before .before .loop-test .taken) (c .before .before .before .before .before .before .before .loop .inv .5),
-    )
+  c .before .before .before .before .put-cluster .kept .0 ∙ c .before .before .before .before .before .before .before .loop .inv .0,
+  c .before .put-glyph .kept .0 ∙ c .before .before .before .before .before .before .before .loop .inv .1,
+  omega arith,
+  omega arith,
+  tail-pair _ _ _ _ _ (c .before .before .before .before .put-cluster .ensures) (c .before .before .before .before .before .before .loop-test .taken) (c .before .before .before .before .before .before .before .loop .inv .4),
+  tail-four _ _ _ _ _ (c .before .put-glyph .ensures) (c .before .before .before .before .before .before .loop-test .taken) (c .before .before .before .before .before .before .before .loop .inv .5),
+)
 
 -- src/lib.rt:297:1
 same-length : tie.Need-same-length Inv-loop μ-loop

@@ -54,8 +54,7 @@ loop-holds : tie.Need-loop-holds Inv-loop μ-loop
 loop-holds c =
     let us = unitsFrom (c .before .before .before .before .before .args .text .now) (c .before .before .before .before .before .args .start) in
     let s = c .before .before .before .before .before .args .indices .now in
-    let e = c .first-cursor .ensures in
-    (
+    let e = c .first-cursor .ensures in (
       nothing,
       0,
       stands-start us s _ _ e,
@@ -78,7 +77,7 @@ part-read-entry-end c = search needs
 
 -- src/lib.rt:212:15
 read-entry-requires : tie.Need-read-entry-requires Inv-loop μ-loop
-read-entry-requires c κs = ?
+read-entry-requires c κs = search needs
 
 -- src/lib.rt:213:36
 enum-known-x : tie.Need-enum-known-x Inv-loop μ-loop
