@@ -5,7 +5,7 @@ use Rattle.glyph_label.proofs.fill_through.Statement.{statement}
 use Rattle.glyph_label.proofs.fill_through.Tie as tie
 
 fill-requires : tie.Need-fill-requires
-fill-requires c κs = (c .before .before .before .before .before .before .before .before .before .pre .0 .counts, (c .before .before .before .before .before .before .before .before .before .pre .1, ?))
+fill-requires c κs = (c .before .before .before .before .before .before .before .before .before .pre .0 .counts, c .before .before .before .before .before .before .before .before .before .pre .1)
 
 mul-c : tie.Need-mul-c
 mul-c c = search needs

@@ -6,7 +6,7 @@ use Rattle.glyph_label.proofs.read_bytes.Statement.{statement}
 use Rattle.glyph_label.proofs.read_bytes.Tie as tie
 
 survey-requires : tie.Need-survey-requires
-survey-requires c κs = ?
+survey-requires c κs = search needs
 
 enum-known-n : tie.Need-enum-known-n
 enum-known-n c = search needs
