@@ -6,6 +6,7 @@ use mathlib.Core.Bool.{Bool, true, false, _&&_}
 use mathlib.Core.List.{List}
 use lib.Dec.{leb, eqb}
 use lib.IntN.{ℤ}
+use Rattle.label.specs.Limits.{maxGlyphs}
 use Rattle.label.specs.Outcome.{Outcome, ok, no}
 use Rattle.label.specs.Run.{Run, read}
 use Rattle.label.specs.Write.{Label}
@@ -31,8 +32,8 @@ Holds k u c g = (u ≤ k) × (c ≤ 2 * k) × (g ≤ 4 * k)
 abbrev pub RoomFor : ℕ → ℕ → ℕ → Room → Type 0
 RoomFor u c g Small = Holds 32 u c g
 RoomFor u c g Medium = Holds 512 u c g
-RoomFor u c g Large = Holds 4096 u c g
-RoomFor u c g Beyond = within 4096 u c g ≡ false
+RoomFor u c g Large = Holds maxGlyphs u c g
+RoomFor u c g Beyond = within maxGlyphs u c g ≡ false
 
 -- so many bytes are whole numbers
 abbrev pub wholeBytes : ℕ → ℕ → ℕ → Bool
@@ -42,8 +43,8 @@ wholeBytes u c g = eqb (u % 2) 0 && eqb (c % 4) 0 && eqb (g % 4) 0
 abbrev pub RoomIn : ℕ → ℕ → ℕ → Room → Type 0
 RoomIn u c g Small = (wholeBytes u c g ≡ true) × Holds 32 (u / 2) (c / 4) (g / 4)
 RoomIn u c g Medium = (wholeBytes u c g ≡ true) × Holds 512 (u / 2) (c / 4) (g / 4)
-RoomIn u c g Large = (wholeBytes u c g ≡ true) × Holds 4096 (u / 2) (c / 4) (g / 4)
-RoomIn u c g Beyond = (wholeBytes u c g && within 4096 (u / 2) (c / 4) (g / 4)) ≡ false
+RoomIn u c g Large = (wholeBytes u c g ≡ true) × Holds maxGlyphs (u / 2) (c / 4) (g / 4)
+RoomIn u c g Beyond = (wholeBytes u c g && within maxGlyphs (u / 2) (c / 4) (g / 4)) ≡ false
 
 -- three arrays from whose starts the numbers in these bytes stand
 pub record Unpacked (units clusters glyphs u₀ : List ℕ) (c₀ g₀ : List ℤ) (u : List ℕ) (c g : List ℤ) : Type 0 where

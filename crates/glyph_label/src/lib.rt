@@ -3,6 +3,7 @@ ghost use mathlib.Core.Path.{_≡_};
 ghost use mathlib.Core.Bool.{true};
 ghost use Prim.Native.Nat.{_*_, _/_, _≤_};
 ghost use lib.ListN.{length};
+ghost use Rattle.label.specs.Limits.{maxGlyphs};
 ghost use Rattle.label.specs.Run.{read as readLabel};
 ghost use Rattle.label.specs.Calls.{refusal, readingOutcome, writingOutcome, pickOutcome, counted, lengths, textAfter, indicesAfter};
 ghost use Rattle.label.specs.Wire.{readBytes, unitBytesAfter, clusterBytesAfter, glyphBytesAfter, writeBytes, pickUnitsBytes, pickGlyphsBytes};
@@ -132,7 +133,14 @@ fn part_answer(x: label::Part) -> GlyphLabelPart
 
 // ── arrays for a run's numbers ──
 
-// The arrays that a run's numbers are kept in: small ones for a small run, so that it costs little. No sound run is beyond the large ones.
+// Arrays hold the numbers of so many units, clusters and glyphs: small ones for a small run, so that it costs little. No sound run is beyond the
+// large ones.
+const SMALL: usize = 32;
+
+const MEDIUM: usize = 512;
+
+const LARGE: usize = label::Limits::GLYPHS;
+
 enum Room {
     Small,
     Medium,
@@ -140,8 +148,9 @@ enum Room {
     Beyond,
 }
 
+// Whether so many places are at most those of k units, k clusters and k glyphs.
 fn is_within(k: usize, units: usize, clusters: usize, glyphs: usize) -> bool
-    requires { ⌜ k ≤ 4096 ⌝ }
+    requires { ⌜ k ≤ maxGlyphs ⌝ }
     ensures { λ r. ⌜ r ≡ within k units clusters glyphs ⌝ }
 {
     let few = words::both(units <= k, clusters <= 2 * k);
@@ -152,18 +161,19 @@ fn is_within(k: usize, units: usize, clusters: usize, glyphs: usize) -> bool
 fn room_for(units: usize, clusters: usize, glyphs: usize) -> Room
     ensures { λ r. ⌜ RoomFor units clusters glyphs r ⌝ }
 {
-    if is_within(32, units, clusters, glyphs) {
+    if is_within(SMALL, units, clusters, glyphs) {
         return Room::Small;
     }
-    if is_within(512, units, clusters, glyphs) {
+    if is_within(MEDIUM, units, clusters, glyphs) {
         return Room::Medium;
     }
-    if is_within(label::Limits::GLYPHS, units, clusters, glyphs) {
+    if is_within(LARGE, units, clusters, glyphs) {
         return Room::Large;
     }
     Room::Beyond
 }
 
+// Whether so many bytes are whole numbers.
 fn whole_bytes(units: usize, clusters: usize, glyphs: usize) -> bool
     ensures { λ r. ⌜ r ≡ wholeBytes units clusters glyphs ⌝ }
 {
@@ -181,6 +191,7 @@ fn room_in(units: usize, clusters: usize, glyphs: usize) -> Room
     room_for(units / 2, clusters / 4, glyphs / 4)
 }
 
+// The numbers of a run handed in as bytes, from the start of each array.
 fn unpack_run(
     units: &[u8],
     clusters: &[u8],
@@ -236,9 +247,9 @@ fn fill_small(
     requires places { ⌜ Holds 32 (n .units) (2 * n .clusters) (4 * n .glyphs) ⌝ }
     ensures { λ _. ⌜ ReadBytes (readLabel (now (text .entry)) (now (indices .entry))) (now (units .entry)) (now (clusters .entry)) (now (glyphs .entry)) (now (units .exit)) (now (clusters .exit)) (now (glyphs .exit)) ⌝ }
 {
-    let mut us = [0u16; 32];
-    let mut cs = [0i32; 64];
-    let mut gs = [0i32; 128];
+    let mut us = [0u16; SMALL];
+    let mut cs = [0i32; 2 * SMALL];
+    let mut gs = [0i32; 4 * SMALL];
     fill_through(
         text,
         indices,
@@ -264,9 +275,9 @@ fn fill_medium(
     requires places { ⌜ Holds 512 (n .units) (2 * n .clusters) (4 * n .glyphs) ⌝ }
     ensures { λ _. ⌜ ReadBytes (readLabel (now (text .entry)) (now (indices .entry))) (now (units .entry)) (now (clusters .entry)) (now (glyphs .entry)) (now (units .exit)) (now (clusters .exit)) (now (glyphs .exit)) ⌝ }
 {
-    let mut us = [0u16; 512];
-    let mut cs = [0i32; 1024];
-    let mut gs = [0i32; 2048];
+    let mut us = [0u16; MEDIUM];
+    let mut cs = [0i32; 2 * MEDIUM];
+    let mut gs = [0i32; 4 * MEDIUM];
     fill_through(
         text,
         indices,
@@ -289,12 +300,12 @@ fn fill_large(
     glyphs: &mut [u8],
 )
     requires { ⌜ Accepted (now text) (now indices) n (length (now units)) (length (now clusters)) (length (now glyphs)) ⌝ }
-    requires places { ⌜ Holds 4096 (n .units) (2 * n .clusters) (4 * n .glyphs) ⌝ }
+    requires places { ⌜ Holds maxGlyphs (n .units) (2 * n .clusters) (4 * n .glyphs) ⌝ }
     ensures { λ _. ⌜ ReadBytes (readLabel (now (text .entry)) (now (indices .entry))) (now (units .entry)) (now (clusters .entry)) (now (glyphs .entry)) (now (units .exit)) (now (clusters .exit)) (now (glyphs .exit)) ⌝ }
 {
-    let mut us = [0u16; 4096];
-    let mut cs = [0i32; 8192];
-    let mut gs = [0i32; 16384];
+    let mut us = [0u16; LARGE];
+    let mut cs = [0i32; 2 * LARGE];
+    let mut gs = [0i32; 4 * LARGE];
     fill_through(
         text,
         indices,
@@ -425,9 +436,9 @@ fn write_small(
     requires places { ⌜ Holds 32 (length (now units) / 2) (length (now clusters) / 4) (length (now glyphs) / 4) ⌝ }
     ensures { λ r. ⌜ WrittenBytes (writeBytes (length (now (text .entry))) (length (now (indices .entry))) (now (units .entry)) (now (clusters .entry)) (now (glyphs .entry))) r (now (text .entry)) (now (indices .entry)) (now (text .exit)) (now (indices .exit)) ⌝ }
 {
-    let mut us = [0u16; 32];
-    let mut cs = [0i32; 64];
-    let mut gs = [0i32; 128];
+    let mut us = [0u16; SMALL];
+    let mut cs = [0i32; 2 * SMALL];
+    let mut gs = [0i32; 4 * SMALL];
     write_through(
         units,
         clusters,
@@ -451,9 +462,9 @@ fn write_medium(
     requires places { ⌜ Holds 512 (length (now units) / 2) (length (now clusters) / 4) (length (now glyphs) / 4) ⌝ }
     ensures { λ r. ⌜ WrittenBytes (writeBytes (length (now (text .entry))) (length (now (indices .entry))) (now (units .entry)) (now (clusters .entry)) (now (glyphs .entry))) r (now (text .entry)) (now (indices .entry)) (now (text .exit)) (now (indices .exit)) ⌝ }
 {
-    let mut us = [0u16; 512];
-    let mut cs = [0i32; 1024];
-    let mut gs = [0i32; 2048];
+    let mut us = [0u16; MEDIUM];
+    let mut cs = [0i32; 2 * MEDIUM];
+    let mut gs = [0i32; 4 * MEDIUM];
     write_through(
         units,
         clusters,
@@ -474,12 +485,12 @@ fn write_large(
     indices: &mut [u8],
 ) -> label::Writing
     requires { ⌜ wholeBytes (length (now units)) (length (now clusters)) (length (now glyphs)) ≡ true ⌝ }
-    requires places { ⌜ Holds 4096 (length (now units) / 2) (length (now clusters) / 4) (length (now glyphs) / 4) ⌝ }
+    requires places { ⌜ Holds maxGlyphs (length (now units) / 2) (length (now clusters) / 4) (length (now glyphs) / 4) ⌝ }
     ensures { λ r. ⌜ WrittenBytes (writeBytes (length (now (text .entry))) (length (now (indices .entry))) (now (units .entry)) (now (clusters .entry)) (now (glyphs .entry))) r (now (text .entry)) (now (indices .entry)) (now (text .exit)) (now (indices .exit)) ⌝ }
 {
-    let mut us = [0u16; 4096];
-    let mut cs = [0i32; 8192];
-    let mut gs = [0i32; 16384];
+    let mut us = [0u16; LARGE];
+    let mut cs = [0i32; 2 * LARGE];
+    let mut gs = [0i32; 4 * LARGE];
     write_through(
         units,
         clusters,
@@ -583,9 +594,9 @@ fn pick_small(
     requires places { ⌜ Holds 32 (length (now units) / 2) (length (now clusters) / 4) (length (now glyphs) / 4) ⌝ }
     ensures { λ r. ⌜ pickOutcome r ≡ pickBytes turn (now (units .entry)) (now (clusters .entry)) (now (glyphs .entry)) first end ⌝ }
 {
-    let mut us = [0u16; 32];
-    let mut cs = [0i32; 64];
-    let mut gs = [0i32; 128];
+    let mut us = [0u16; SMALL];
+    let mut cs = [0i32; 2 * SMALL];
+    let mut gs = [0i32; 4 * SMALL];
     pick_through(
         units,
         clusters,
@@ -611,9 +622,9 @@ fn pick_medium(
     requires places { ⌜ Holds 512 (length (now units) / 2) (length (now clusters) / 4) (length (now glyphs) / 4) ⌝ }
     ensures { λ r. ⌜ pickOutcome r ≡ pickBytes turn (now (units .entry)) (now (clusters .entry)) (now (glyphs .entry)) first end ⌝ }
 {
-    let mut us = [0u16; 512];
-    let mut cs = [0i32; 1024];
-    let mut gs = [0i32; 2048];
+    let mut us = [0u16; MEDIUM];
+    let mut cs = [0i32; 2 * MEDIUM];
+    let mut gs = [0i32; 4 * MEDIUM];
     pick_through(
         units,
         clusters,
@@ -636,12 +647,12 @@ fn pick_large(
     end: usize,
 ) -> label::Pick
     requires { ⌜ wholeBytes (length (now units)) (length (now clusters)) (length (now glyphs)) ≡ true ⌝ }
-    requires places { ⌜ Holds 4096 (length (now units) / 2) (length (now clusters) / 4) (length (now glyphs) / 4) ⌝ }
+    requires places { ⌜ Holds maxGlyphs (length (now units) / 2) (length (now clusters) / 4) (length (now glyphs) / 4) ⌝ }
     ensures { λ r. ⌜ pickOutcome r ≡ pickBytes turn (now (units .entry)) (now (clusters .entry)) (now (glyphs .entry)) first end ⌝ }
 {
-    let mut us = [0u16; 4096];
-    let mut cs = [0i32; 8192];
-    let mut gs = [0i32; 16384];
+    let mut us = [0u16; LARGE];
+    let mut cs = [0i32; 2 * LARGE];
+    let mut gs = [0i32; 4 * LARGE];
     pick_through(
         units,
         clusters,
