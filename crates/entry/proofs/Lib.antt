@@ -1,4 +1,3 @@
-pub mod Table
 pub mod DigitLaws
 pub mod ValueLaws
 pub mod NumberLaws

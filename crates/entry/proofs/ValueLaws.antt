@@ -5,13 +5,14 @@ use Prim.Native.Nat.{ℕ, suc, zero, _+_, _-_, _*_, _/_, _%_, _^_, _≤_, _<_}
 use native.Mathlib.Omega.{arith}
 use native.Mathlib.Nat.{div-eq-of-lt-le, mul-div-mul-right, div-eq-of-lt, mul-assoc, one-le-pow, mod-lt, div-add-mod', pow-le-pow-right, mul-le-mul, mul-le-mul-right}
 use lib.Pow.{pow-add}
-use lib.Dec.{lit<}
+use lib.Dec.{ltb, lit<}
 use lib.IntN.{pos, negℤ}
 use mir.Syntax.{w32}
 use mir.Val.{SFits}
-use borrow.Author.Tests.{le-leb, lt-leb}
+use borrow.Author.Tests.{le-leb, lt-leb, ltb-true, ltb-false}
 use Rattle.label.specs.Limits.{maxThousandths}
 use Rattle.label.specs.Entry.{nearest, scaled}
+use Rattle.label.proofs.Basics.{cases}
 use Rattle.entry.specs.declared.Thousandths.the-variants.{Of, Over}
 use Rattle.entry.specs.Items.{cap}
 use Rattle.entry.specs.Numbers.{sized}
@@ -28,6 +29,16 @@ ten-split : (a b : ℕ) → b ≤ a → 10 ^ a ≡ 10 ^ (a - b) * 10 ^ b
 ten-split a b h =
     let p : a ≡ (a - b) + b = omega arith in
     ap (λ (n : ℕ). 10 ^ n) p ∙ pow-add 10 (a - b) b
+
+-- k is none of 0, 1, .. below n
+abbrev Above : ℕ → ℕ → Type 0
+Above zero k = Unit {0}
+Above (suc n) k = Above n k × (k ≡ n → ⊥)
+
+-- the last arm of a match over 0, 1, ..
+pub last-key : (n k : ℕ) → k < suc n → Above n k → k ≡ n
+last-key zero k h a = omega arith
+last-key (suc n) k h a = cases (ltb k (suc n)) (λ e. absurd (a .1 (last-key n k (ltb-true k (suc n) e) (a .0)))) (λ e. let l : suc n ≤ k = ltb-false k (suc n) e in omega arith)
 
 -- ── rounding ──
 
