@@ -214,15 +214,22 @@ fn shifted(m: u64, up: usize, down: usize) -> Thousandths
     }
 }
 
+// n, or 0 where the test holds.
+fn unless(test: bool, n: usize) -> usize
+    ensures { λ r. ⌜ r ≡ cond test 0 n ⌝ }
+    ensures bounds { λ r. ⌜ r ≤ n ⌝ }
+{
+    if test { 0 } else { n }
+}
+
+// m × 10^(e − f) × 1000, rounded; `negative` where e has a minus.
 fn to_thousandths(m: u64, f: usize, negative: bool, e: usize) -> Thousandths
     requires { ⌜ (m < cap) × (f ≤ 18) × (e ≤ 99) ⌝ }
     ensures { λ r. ⌜ r ≡ sized (scaled m f negative e) ⌝ }
 {
-    if negative {
-        shifted(m, 3, f + e)
-    } else {
-        shifted(m, e + 3, f)
-    }
+    let up = unless(negative, e) + 3;
+    let down = f + unless(!negative, e);
+    shifted(m, up, down)
 }
 
 // ── numbers ──
