@@ -5,6 +5,7 @@ ghost use mathlib.Core.List.{[], _∷_};
 ghost use Prim.Native.Nat.{_+_, _*_, _^_, _≤_, _<_};
 ghost use lib.ListN.{length, drop};
 ghost use lib.Dec.{eqb};
+ghost use Rattle.label.specs.Limits.{maxIndex, maxThousandths};
 ghost use Rattle.label.specs.Calls.{refusal};
 ghost use Rattle.label.specs.Bytes.{isDigit, empty, decimal, trim};
 ghost use Rattle.label.specs.Entry.{isE, nearest, scaled, entry};
@@ -522,7 +523,7 @@ fn is_within(z: Thousandths) -> bool
 // ── the glyph record ──
 
 fn index_of(named: bool, n: u64) -> Index
-    requires { ⌜ n ≤ 65535 ⌝ }
+    requires { ⌜ n ≤ maxIndex ⌝ }
     ensures { λ r. ⌜ r ≡ indexChoice named n ⌝ }
 {
     if named {
@@ -546,7 +547,7 @@ fn advance_of(given: bool, z: Thousandths) -> Advance
 }
 
 fn signed_of(negative: bool, v: u32) -> i32
-    requires { ⌜ v ≤ 1000000000 ⌝ }
+    requires { ⌜ v ≤ maxThousandths ⌝ }
     ensures { λ r. ⌜ r ≡ signedBy negative v ⌝ }
 {
     let x = v as i32;
