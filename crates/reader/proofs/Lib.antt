@@ -1,0 +1,7 @@
+pub mod Entries
+pub mod Placing
+pub mod Walking
+pub mod Endings
+pub mod Stores
+pub mod Filling
+pub mod Calls

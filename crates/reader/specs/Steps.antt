@@ -1,0 +1,110 @@
+-- What the reader's steps come to, over label's definitions: the cursor in the place of label's state, one entry, the tail, and the places that each
+-- stores.
+-- Assumes nothing.
+use Prim.Native.Nat.{ℕ, zero, suc, _+_, _*_, _-_, _≤_, _<_}
+use mathlib.Core.Path.{_≡_}
+use mathlib.Core.Bool.{Bool, true, false, cond, not, _&&_}
+use mathlib.Core.List.{List, [], _∷_}
+use lib.Dec.{leb, eqb}
+use lib.IntN.{ℤ}
+use lib.ListN.{length, drop}
+use Rattle.label.specs.Limits.{maxUnits, maxGlyphs, maxIndicesBytes}
+use Rattle.label.specs.Outcome.{Outcome, ok, no, need, _>>_}
+use Rattle.label.specs.Bytes.{empty}
+use Rattle.label.specs.Text.{decode}
+use Rattle.label.specs.Entry.{Entry}
+use Rattle.label.specs.Run.{Parts, State, takes, placed, tail, whole, cluster, fontGlyph}
+use Rattle.label.specs.Sound.{indexNumber, advanceNumber}
+use Rattle.label.specs.declared.Cursor.{Cursor}
+use Rattle.label.specs.declared.Cluster.{Cluster}
+use Rattle.label.specs.declared.Glyph.{Glyph}
+use Rattle.label.specs.declared.Counts.{Counts}
+use Rattle.text.specs.Moves.{unitsFrom}
+use Rattle.entry.specs.declared.Item.{Item}
+use Rattle.reader.specs.declared.Turn.{Turn}
+use Rattle.reader.specs.declared.Turn.the-variants.{Took, Stopped}
+use Rattle.reader.specs.declared.Tail.{Tail}
+use Rattle.reader.specs.declared.Tail.the-variants.{Plain, Pair}
+
+-- where the first entry starts; past the end where there is none
+abbrev pub firstPlace : List ℕ → ℕ
+firstPlace s = cond (empty s) 1 0
+
+-- the cursor before the first entry of the indices s, for units that start at a byte of the text
+abbrev pub firstCursor : List ℕ → ℕ → Cursor
+firstCursor s b = record { place = firstPlace s; entry = 0; byte = b; unit = 0; lack = 0; opener = 0; clusters = 0 }
+
+-- the cursor in the place of label's state: the units not used yet are those from its byte on
+abbrev pub stateAt : List ℕ → Cursor → State
+stateAt text c = record { k = c .entry; at = c .unit; rest = unitsFrom text (c .byte); lack = c .lack; opener = c .opener }
+
+-- an entry, its map's counts as the code holds them
+abbrev pub itemEntry : Item → Entry
+itemEntry x = record { mapped = x .mapped; units = x .units; glyphs = x .glyphs; glyph = x .glyph }
+
+-- the cursor behind an entry; the next unit is at byte b, the next entry at place i
+unfoldable pub advanced : Cursor → ℕ → ℕ → ℕ → ℕ → Cursor
+advanced c b units glyphs i =
+    record {
+      place = i;
+      entry = c .entry + 1;
+      byte = b;
+      unit = c .unit + units;
+      lack = cond (eqb (c .lack) 0) (glyphs - 1) (c .lack - 1);
+      opener = cond (eqb (c .lack) 0) (c .entry) (c .opener);
+      clusters = cond (eqb (c .lack) 0) (c .clusters + 1) (c .clusters);
+    }
+
+-- what 12 and 13 come to for an entry that opens a cluster of a units and b glyphs
+unfoldable pub Opens : List ℕ → Cursor → ℕ → ℕ → ℕ → Turn → Type 0
+Opens text c a b i (Took d) =
+    (leb a (length (unitsFrom text (c .byte))) ≡ true) × (whole a (unitsFrom text (c .byte)) ≡ true) × (d ≡ advanced c (d .byte) a b i)
+    × (decode 0 (d .byte) (drop (d .byte) text) ≡ ok (drop a (unitsFrom text (c .byte))))
+Opens text c a b i (Stopped r) =
+    (need (leb a (length (unitsFrom text (c .byte)))) 12 (c .entry) >> need (whole a (unitsFrom text (c .byte))) 13 (c .unit + a)) ≡ no (r .number) (r .place)
+
+-- what an entry's checks 10 to 13 come to: the cursor behind it, from whose byte on the units not used yet stand, or the refusal
+unfoldable pub Turns : Bool → List ℕ → Cursor → Item → Turn → Type 0
+Turns bare text c x (Took d) =
+    (placed bare (stateAt text c) (itemEntry x) ≡ ok (itemEntry x))
+    × (d ≡ advanced c (d .byte) (takes bare (stateAt text c) (itemEntry x)) (x .glyphs) (c .place + x .used + 1))
+    × (decode 0 (d .byte) (drop (d .byte) text) ≡ ok (drop (takes bare (stateAt text c) (itemEntry x)) (unitsFrom text (c .byte))))
+Turns bare text c x (Stopped r) = placed bare (stateAt text c) (itemEntry x) ≡ no (r .number) (r .place)
+
+-- ── the tail ──
+
+-- the clusters and the glyphs of a tail of n units
+unfoldable pub tailClusters : ℕ → List Cluster
+tailClusters zero = []
+tailClusters (suc n) = cluster 1 1 ∷ tailClusters n
+
+unfoldable pub tailGlyphs : ℕ → List Glyph
+tailGlyphs zero = []
+tailGlyphs (suc n) = fontGlyph ∷ tailGlyphs n
+
+abbrev pub tailParts : ℕ → Parts
+tailParts n = record { clusters = tailClusters n; glyphs = tailGlyphs n }
+
+-- what the tail from byte b and unit `at` on comes to: no pair, or the low half of the first
+unfoldable pub Tails : List ℕ → ℕ → ℕ → Tail → Type 0
+Tails text b at Plain = tail at (unitsFrom text b) ≡ ok (tailParts (length (unitsFrom text b)))
+Tails text b at (Pair p) = tail at (unitsFrom text b) ≡ no 13 p
+
+-- 15
+abbrev pub limited : ℕ → ℕ → ℕ → Outcome Counts
+limited u c g = need (leb g maxGlyphs) 15 0 >> ok (record { units = u; clusters = c; glyphs = g })
+
+-- the counts of a run of u units, with c clusters and g glyphs before these
+unfoldable pub countedFrom : ℕ → ℕ → ℕ → Outcome Parts → Outcome Counts
+countedFrom u c g (ok p) = limited u (c + length (p .clusters)) (g + length (p .glyphs))
+countedFrom u c g (no n p) = no n p
+
+-- ── stored places ──
+
+-- the cluster that an entry opens, where none is open
+unfoldable pub openedHere : ℕ → ℕ → ℕ → List Cluster
+openedHere lack a b = cond (eqb lack 0) (cluster a b ∷ []) []
+
+-- a glyph's four places
+abbrev pub glyphPlaces : Glyph → List ℤ
+glyphPlaces g = indexNumber (g .index) ∷ advanceNumber (g .advance) ∷ g .u ∷ g .v ∷ []

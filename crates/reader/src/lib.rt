@@ -1,0 +1,422 @@
+// The reader of a glyph label. A first pass over text and indices judges 1 to 15, counts, and stores nothing; a second one fills the buffers.
+ghost use mathlib.Core.Path.{_≡_};
+ghost use mathlib.Core.Bool.{cond, not, true, _&&_};
+ghost use mathlib.Core.List.{List};
+ghost use Prim.Native.Nat.{ℕ, _+_, _-_, _*_, _≤_, _<_};
+ghost use lib.Dec.{eqb};
+ghost use lib.IntN.{pos};
+ghost use lib.ListN.{length, drop};
+ghost use lib.Seq.{sets};
+ghost use Rattle.label.specs.Limits.{maxUnits, maxIndicesBytes};
+ghost use Rattle.label.specs.Outcome.{ok};
+ghost use Rattle.label.specs.Bytes.{empty};
+ghost use Rattle.label.specs.Text.{decode};
+ghost use Rattle.label.specs.Run.{named, tail, runFrom};
+ghost use Rattle.label.specs.Run.{read as readLabel};
+ghost use Rattle.label.specs.Sound.{indexNumber, advanceNumber, advanceFits, flatClusters, flatGlyphs};
+ghost use Rattle.label.specs.Calls.{refusal, readingOutcome, readInto, counted, unitsAfter, clustersAfter, glyphsAfter};
+ghost use Rattle.text.specs.Moves.{unitsFrom};
+ghost use Rattle.text.specs.Texts.{unitsStart};
+ghost use Rattle.reader.specs.Steps.{firstPlace, firstCursor, advanced, Opens, Turns, Tails, limited, countedFrom, openedHere, glyphPlaces, tailClusters, tailGlyphs};
+ghost use Rattle.label.specs.declared.Reading.the-variants.{Refused as RefusedReading};
+
+// ── refusals ──
+
+fn refused(number: usize, place: usize) -> label::Reading
+    ensures { λ r. ⌜ r ≡ RefusedReading (refusal number place) ⌝ }
+{
+    label::Reading::Refused(label::Refusal { number, place })
+}
+
+// ── one entry ──
+
+// The cursor behind an entry, or the refusal.
+enum Turn {
+    Took(label::Cursor),
+    Stopped(label::Refusal),
+}
+
+fn stopped(number: usize, place: usize) -> Turn
+    ensures { λ r. ⌜ r ≡ Turn.Stopped (refusal number place) ⌝ }
+{
+    Turn::Stopped(label::Refusal { number, place })
+}
+
+fn is_named(i: label::Index) -> bool
+    ensures { λ r. ⌜ r ≡ named i ⌝ }
+{
+    match i {
+        label::Index::Named(_) => true,
+        label::Index::Font => false,
+    }
+}
+
+// The cursor behind an entry that takes `units` units and has `glyphs` in its map; the next unit is at `byte`, the next entry at `place`.
+fn advance(
+    c: label::Cursor,
+    byte: usize,
+    units: usize,
+    glyphs: usize,
+    place: usize,
+) -> label::Cursor
+    requires { ⌜ (c .entry ≤ maxIndicesBytes) × (c .unit + units ≤ maxUnits) × (c .clusters ≤ c .entry) ⌝ }
+    ensures { λ r. ⌜ r ≡ advanced c byte units glyphs place ⌝ }
+{
+    let entry = c.entry;
+    let lack = c.lack;
+    if lack == 0 {
+        return label::Cursor {
+            place,
+            entry: entry + 1,
+            byte,
+            unit: c.unit + units,
+            lack: words::less_one(glyphs),
+            opener: entry,
+            clusters: c.clusters + 1,
+        };
+    }
+    label::Cursor {
+        place,
+        entry: entry + 1,
+        byte,
+        unit: c.unit + units,
+        lack: words::less_one(lack),
+        opener: c.opener,
+        clusters: c.clusters,
+    }
+}
+
+// An entry that opens a cluster of `units` units: 12 and 13.
+fn open_cluster(text: &[u8], c: label::Cursor, units: usize, glyphs: usize, place: usize) -> Turn
+    requires { ⌜ decode 0 (c .byte) (drop (c .byte) (now text)) ≡ ok (unitsFrom (now text) (c .byte)) ⌝ }
+    requires bounds { ⌜ (c .unit + length (unitsFrom (now text) (c .byte)) ≤ maxUnits) × (c .entry ≤ maxIndicesBytes) × (c .clusters ≤ c .entry) ⌝ }
+    ensures { λ r. ⌜ Opens (now (text .entry)) c units glyphs place r ⌝ }
+{
+    match text::move_past(text, c.byte, units) {
+        text::Moved::To(byte) => Turn::Took(advance(c, byte, units, glyphs, place)),
+        text::Moved::Past => stopped(12, c.entry),
+        text::Moved::Half => stopped(13, c.unit + units),
+    }
+}
+
+// An entry's checks 10 to 13, where the walk stands.
+fn take_entry(text: &[u8], bare: bool, c: label::Cursor, x: entry::Item) -> Turn
+    requires { ⌜ decode 0 (c .byte) (drop (c .byte) (now text)) ≡ ok (unitsFrom (now text) (c .byte)) ⌝ }
+    requires bounds { ⌜ (c .unit + length (unitsFrom (now text) (c .byte)) ≤ maxUnits) × (c .entry ≤ maxIndicesBytes) × (c .clusters ≤ c .entry) × (c .place + x .used ≤ maxIndicesBytes) ⌝ }
+    ensures { λ r. ⌜ Turns bare (now (text .entry)) c x r ⌝ }
+{
+    if !words::both(1 <= x.units, 1 <= x.glyphs) {
+        return stopped(10, c.entry);
+    }
+    let free = words::both(c.lack == 0, !bare);
+    let g = x.glyph;
+    let index = g.index;
+    let plain = words::both(!x.mapped, is_named(index));
+    if !words::either(free, plain) {
+        return stopped(11, c.entry);
+    }
+    let place = c.place + x.used + 1;
+    if free {
+        return open_cluster(text, c, x.units, x.glyphs, place);
+    }
+    Turn::Took(advance(c, c.byte, 0, x.glyphs, place))
+}
+
+// ── the first pass ──
+
+// The tail has no pair, or the low half of its first one.
+enum Tail {
+    Plain,
+    Pair(usize),
+}
+
+// The tail from the character at `byte` on, which is unit `unit`: 13.
+fn find_pair(text: &[u8], byte: usize, unit: usize) -> Tail
+    requires { ⌜ decode 0 byte (drop byte (now text)) ≡ ok (unitsFrom (now text) byte) ⌝ }
+    requires bounds { ⌜ unit + length (unitsFrom (now text) byte) ≤ maxUnits ⌝ }
+    ensures { λ r. ⌜ Tails (now (text .entry)) byte unit r ⌝ }
+{
+    let mut b = byte;
+    let mut j = unit;
+    while b < text.len() {
+        match text::char_at(text, b) {
+            text::Char::Good { code, next } => {
+                j += 1;
+                if 0xffff < code {
+                    return Tail::Pair(j);
+                }
+                b = next;
+            }
+            text::Char::Ill => {
+                return Tail::Plain;
+            }
+            text::Char::Outside => {
+                return Tail::Plain;
+            }
+        }
+    }
+    Tail::Plain
+}
+
+// The counts, or 15.
+fn limit(units: usize, clusters: usize, glyphs: usize) -> label::Reading
+    ensures { λ r. ⌜ readingOutcome r ≡ limited units clusters glyphs ⌝ }
+{
+    if label::Limits::GLYPHS < glyphs {
+        return refused(15, 0);
+    }
+    label::Reading::Read(label::Counts {
+        units,
+        clusters,
+        glyphs,
+    })
+}
+
+// The tail behind the entries, of a text of `count` units: 13 and 15.
+fn survey_tail(text: &[u8], count: usize, c: label::Cursor) -> label::Reading
+    requires { ⌜ decode 0 (c .byte) (drop (c .byte) (now text)) ≡ ok (unitsFrom (now text) (c .byte)) ⌝ }
+    requires bounds { ⌜ (c .unit + length (unitsFrom (now text) (c .byte)) ≡ count) × (count ≤ maxUnits) × (c .entry ≤ maxIndicesBytes + 1) × (c .clusters ≤ c .entry) ⌝ }
+    ensures { λ r. ⌜ readingOutcome r ≡ countedFrom count (c .clusters) (c .entry) (tail (c .unit) (unitsFrom (now (text .entry)) (c .byte))) ⌝ }
+{
+    match find_pair(text, c.byte, c.unit) {
+        Tail::Plain => {
+            let rest = count - c.unit;
+            limit(count, c.clusters + rest, c.entry + rest)
+        }
+        Tail::Pair(unit) => refused(13, unit),
+    }
+}
+
+// Past the end where there is no entry.
+fn first_place(indices: &[u8]) -> usize
+    ensures { λ r. ⌜ r ≡ firstPlace (now (indices .entry)) ⌝ }
+{
+    if indices.len() == 0 { 1 } else { 0 }
+}
+
+fn first_cursor(indices: &[u8], byte: usize) -> label::Cursor
+    ensures { λ r. ⌜ r ≡ firstCursor (now (indices .entry)) byte ⌝ }
+{
+    let mut c = label::Limits::fresh_cursor();
+    c.place = first_place(indices);
+    c.byte = byte;
+    c
+}
+
+// The run of `count` units that start at a byte of the text: 6 to 15 and the counts.
+fn survey_run(text: &[u8], indices: &[u8], count: usize, start: usize) -> label::Reading
+    requires { ⌜ decode 0 start (drop start (now text)) ≡ ok (unitsFrom (now text) start) ⌝ }
+    requires bounds { ⌜ (count ≡ length (unitsFrom (now text) start)) × (count ≤ maxUnits) × (length (now indices) ≤ maxIndicesBytes) ⌝ }
+    ensures { λ r. ⌜ readingOutcome r ≡ counted (runFrom (unitsFrom (now (text .entry)) start) (now (indices .entry))) ⌝ }
+{
+    let bare = count == 0;
+    if words::both(bare, indices.len() == 0) {
+        return refused(6, 0);
+    }
+    let mut c = first_cursor(indices, start);
+    while c.place <= indices.len() {
+        let place = c.place;
+        match entry::read_entry(&indices[place..], c.entry) {
+            entry::EntryRead::Read(x) => match take_entry(text, bare, c, x) {
+                Turn::Took(next) => {
+                    c = next;
+                }
+                Turn::Stopped(r) => {
+                    return label::Reading::Refused(r);
+                }
+            },
+            entry::EntryRead::Refused(r) => {
+                return label::Reading::Refused(r);
+            }
+        }
+    }
+    if c.lack != 0 {
+        return refused(14, c.opener);
+    }
+    survey_tail(text, count, c)
+}
+
+// All of 1 to 15 in order, and the counts; nothing is stored.
+pub fn survey(text: &[u8], indices: &[u8]) -> label::Reading
+    ensures { λ r. ⌜ readingOutcome r ≡ counted (readLabel (now (text .entry)) (now (indices .entry))) ⌝ }
+{
+    if label::Limits::TEXT_BYTES < text.len() {
+        return refused(1, 0);
+    }
+    if label::Limits::INDICES_BYTES < indices.len() {
+        return refused(1, 0);
+    }
+    match text::survey_text(text) {
+        text::TextRead::Units(t) => survey_run(text, indices, t.count, t.start),
+        text::TextRead::Refused(r) => label::Reading::Refused(r),
+    }
+}
+
+// ── the second pass ──
+
+fn index_number(i: label::Index) -> i32
+    ensures { λ r. ⌜ r ≡ indexNumber i ⌝ }
+{
+    match i {
+        label::Index::Named(n) => n as i32,
+        label::Index::Font => -1,
+    }
+}
+
+fn advance_number(a: label::Advance) -> i32
+    requires { ⌜ advanceFits a ≡ true ⌝ }
+    ensures { λ r. ⌜ r ≡ advanceNumber a ⌝ }
+{
+    match a {
+        label::Advance::Given(n) => n as i32,
+        label::Advance::Own => -1,
+    }
+}
+
+// Glyph k's four places.
+fn put_glyph(out: &mut [i32], k: usize, g: label::Glyph)
+    requires { ⌜ (4 * k + 3 < length (now out)) × (advanceFits (g .advance) ≡ true) ⌝ }
+    ensures { λ _. ⌜ now (out .exit) ≡ sets (now (out .entry)) (4 * k) (glyphPlaces g) ⌝ }
+{
+    let index = g.index;
+    let advance = g.advance;
+    let at = 4 * k;
+    out[at] = index_number(index);
+    out[at + 1] = advance_number(advance);
+    let u = g.u;
+    out[at + 2] = u;
+    let v = g.v;
+    out[at + 3] = v;
+}
+
+// Cluster n's two places, where the entry opens one.
+fn put_cluster(out: &mut [i32], lack: usize, n: usize, a: usize, b: usize)
+    requires { ⌜ (lack ≡ 0 → (a < 2147483648) × (b < 2147483648)) ⌝ }
+    requires room { ⌜ 2 * n + length (flatClusters (openedHere lack a b)) ≤ length (now out) ⌝ }
+    ensures { λ _. ⌜ now (out .exit) ≡ sets (now (out .entry)) (2 * n) (flatClusters (openedHere lack a b)) ⌝ }
+{
+    if lack == 0 {
+        let at = 2 * n;
+        out[at] = a as i32;
+        out[at + 1] = b as i32;
+    }
+}
+
+// A tail of m units, from cluster n and glyph k on.
+fn fill_tail(m: usize, n: usize, k: usize, clusters: &mut [i32], glyphs: &mut [i32])
+    requires { ⌜ (2 * (n + m) ≤ length (now clusters)) × (4 * (k + m) ≤ length (now glyphs)) ⌝ }
+    ensures { λ _. ⌜ now (clusters .exit) ≡ sets (now (clusters .entry)) (2 * n) (flatClusters (tailClusters m)) ⌝ }
+    ensures { λ _. ⌜ now (glyphs .exit) ≡ sets (now (glyphs .entry)) (4 * k) (flatGlyphs (tailGlyphs m)) ⌝ }
+{
+    let mut rest = m;
+    let mut c = n;
+    let mut g = k;
+    while rest != 0 {
+        put_cluster(clusters, 0, c, 1, 1);
+        put_glyph(
+            glyphs,
+            g,
+            label::Glyph {
+                index: label::Index::Font,
+                advance: label::Advance::Own,
+                u: 0,
+                v: 0,
+            },
+        );
+        rest -= 1;
+        c += 1;
+        g += 1;
+    }
+}
+
+// The units that an entry takes: its own where it opens a cluster in a text of `count` units.
+fn taken(count: usize, lack: usize, units: usize) -> usize
+    ensures { λ r. ⌜ r ≡ cond (eqb lack 0 && not (eqb count 0)) units 0 ⌝ }
+{
+    if lack != 0 {
+        return 0;
+    }
+    if count == 0 { 0 } else { units }
+}
+
+// Where the text's units start: behind `{}`.
+fn units_start(text: &[u8]) -> usize
+    ensures { λ r. ⌜ r ≡ unitsStart (now (text .entry)) ⌝ }
+{
+    if text.len() < 2 {
+        return 0;
+    }
+    if words::both(text[0] == 0x7b, text[1] == 0x7d) {
+        2
+    } else {
+        0
+    }
+}
+
+// The run of an accepted label, whose counts `survey` found.
+pub fn fill(
+    text: &[u8],
+    indices: &[u8],
+    counts: label::Counts,
+    units: &mut [u16],
+    clusters: &mut [i32],
+    glyphs: &mut [i32],
+)
+    requires { ⌜ counted (readLabel (now text) (now indices)) ≡ ok counts ⌝ }
+    requires room { ⌜ (counts .units ≤ length (now units)) × (2 * counts .clusters ≤ length (now clusters)) × (4 * counts .glyphs ≤ length (now glyphs)) ⌝ }
+    ensures units { λ _. ⌜ now (units .exit) ≡ unitsAfter (readLabel (now (text .entry)) (now (indices .entry))) (now (units .entry)) ⌝ }
+    ensures clusters { λ _. ⌜ now (clusters .exit) ≡ clustersAfter (readLabel (now (text .entry)) (now (indices .entry))) (now (clusters .entry)) ⌝ }
+    ensures glyphs { λ _. ⌜ now (glyphs .exit) ≡ glyphsAfter (readLabel (now (text .entry)) (now (indices .entry))) (now (glyphs .entry)) ⌝ }
+{
+    let count = counts.units;
+    text::fill_units(text, units_start(text), units);
+    let mut c = first_cursor(indices, 0);
+    while c.place <= indices.len() {
+        let place = c.place;
+        match entry::read_entry(&indices[place..], c.entry) {
+            entry::EntryRead::Read(x) => {
+                let a = taken(count, c.lack, x.units);
+                let b = x.glyphs;
+                let g = x.glyph;
+                put_cluster(clusters, c.lack, c.clusters, a, b);
+                put_glyph(glyphs, c.entry, g);
+                c = advance(c, 0, a, b, place + x.used + 1);
+            }
+            entry::EntryRead::Refused(_) => {
+                return;
+            }
+        }
+    }
+    fill_tail(count - c.unit, c.clusters, c.entry, clusters, glyphs);
+}
+
+// The reading of a label: its run is stored where none of 1 to 18 holds, and nothing else.
+pub fn read(
+    text: &[u8],
+    indices: &[u8],
+    units: &mut [u16],
+    clusters: &mut [i32],
+    glyphs: &mut [i32],
+) -> label::Reading
+    ensures result { λ r. ⌜ readingOutcome r ≡ counted (readInto (length (now (units .entry))) (length (now (clusters .entry))) (length (now (glyphs .entry))) (now (text .entry)) (now (indices .entry))) ⌝ }
+    ensures units { λ _. ⌜ now (units .exit) ≡ unitsAfter (readInto (length (now (units .entry))) (length (now (clusters .entry))) (length (now (glyphs .entry))) (now (text .entry)) (now (indices .entry))) (now (units .entry)) ⌝ }
+    ensures clusters { λ _. ⌜ now (clusters .exit) ≡ clustersAfter (readInto (length (now (units .entry))) (length (now (clusters .entry))) (length (now (glyphs .entry))) (now (text .entry)) (now (indices .entry))) (now (clusters .entry)) ⌝ }
+    ensures glyphs { λ _. ⌜ now (glyphs .exit) ≡ glyphsAfter (readInto (length (now (units .entry))) (length (now (clusters .entry))) (length (now (glyphs .entry))) (now (text .entry)) (now (indices .entry))) (now (glyphs .entry)) ⌝ }
+{
+    match survey(text, indices) {
+        label::Reading::Read(n) => {
+            if units.len() < n.units {
+                return refused(16, n.units);
+            }
+            if clusters.len() < 2 * n.clusters {
+                return refused(17, n.clusters);
+            }
+            if glyphs.len() < 4 * n.glyphs {
+                return refused(18, n.glyphs);
+            }
+            fill(text, indices, n, units, clusters, glyphs);
+            label::Reading::Read(n)
+        }
+        label::Reading::Refused(r) => label::Reading::Refused(r),
+    }
+}
