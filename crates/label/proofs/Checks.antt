@@ -19,8 +19,7 @@ use Rattle.label.specs.Write.{Label, normal, write}
 use Rattle.label.specs.Pick.{inside, touched, turned, pickUnits, pickGlyphs}
 use Rattle.label.specs.Calls.{readInto, writeInto}
 use Rattle.label.specs.Checks.{Check, check, verdict, refuses, Given, textChecks, bitUnits, entryChecks, tailChecks, walkChecks, tailParts, walkParts, saidUnits, saidParts, saidRun, runChecks, labelChecks, readChecks, writeChecks, pickChecks}
-use Rattle.label.specs.declared.Stretch.{Stretch}
-use Rattle.label.proofs.Basics.{cases, no-ok}
+use Rattle.label.proofs.Basics.{no-ok}
 
 -- ── a list of checks before an outcome ──
 

@@ -1,26 +1,25 @@
 -- The definitions at a cursor: what each comes to at `drop i s`, for a loop over a slice s with a place i. The loop's invariant is an equation
 -- "the definition at the start is this, put before the definition at the cursor".
 -- Assumes nothing.
-use Prim.Native.Nat.{ℕ, zero, suc, _+_, _*_, _-_, _%_, _^_, _≤_, _<_}
+use Prim.Native.Nat.{ℕ, zero, suc, _+_, _-_, _≤_, _<_}
 use native.Mathlib.Omega.{arith}
 use native.Mathlib.Nat.{not-suc-le-zero, add-zero, add-suc, suc-add}
-use native.Mathlib.Numerals.{add-one}
-use mathlib.Core.Path.{_≡_, refl, sym, _∙_, ap, subst}
-use mathlib.Core.Bool.{Bool, true, false, cond, not, _&&_, _||_, false≢true, and-false, and-true}
+use mathlib.Core.Path.{_≡_, refl, _∙_, ap, subst}
+use mathlib.Core.Bool.{Bool, true, false, not}
 use mathlib.Core.List.{List, [], _∷_, _++_, append-assoc, append-nil}
-use borrow.Author.Tests.{ltb-true, ltb-false, eqb-true, eqb-false, leb-true, eq-eqb, ne-eqb, not-true, le-leb, lt-leb}
-use lib.Dec.{eqb, ltb, leb}
-use lib.ListN.{length, getD, take, drop, length-append, length-drop, drop-of-length-le}
-use lib.Seq.{take-all, getD-drop, drop-cons, drop-drop, split-at}
-use Rattle.label.specs.Outcome.{Outcome, ok, no, need, _>>=_, _>>_}
+use borrow.Author.Tests.{eqb-true, eq-eqb, not-true}
+use lib.Dec.{eqb}
+use lib.ListN.{length, getD, take, drop, length-drop, drop-of-length-le}
+use lib.Seq.{take-all, drop-cons, drop-drop, split-at}
+use Rattle.label.specs.Outcome.{Outcome, ok, no, _>>=_}
 use Rattle.label.specs.Bytes.{split}
 use Rattle.label.specs.Text.{lead, starts, scalar, xmlChar, unitsOf, decode}
 use Rattle.label.specs.Entry.{Entry}
 use Rattle.label.specs.Run.{Parts, State, opens, takes, cluster, before, next, step, walk}
 use Rattle.label.specs.declared.Glyph.{Glyph}
 use Rattle.label.specs.declared.Cluster.{Cluster}
-use Rattle.label.proofs.Basics.{and-l, and-r, and-i, clash, cases}
-use Rattle.label.proofs.Splits.{none, free, split-join, rest-nil, rest-cons, split-hit, split-miss, split-nil}
+use Rattle.label.proofs.Basics.{and-l, and-r, cases}
+use Rattle.label.proofs.Splits.{free, split-join, rest-nil, split-hit, split-miss}
 
 -- ── parts ──
 

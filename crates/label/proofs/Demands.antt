@@ -1,26 +1,26 @@
 -- The three demands, proved.
 -- Assumes nothing.
-use Prim.Native.Nat.{ℕ, zero, suc, _+_, _*_, _-_, _/_, _≤_, _<_}
+use Prim.Native.Nat.{ℕ, _+_, _*_, _/_, _≤_, _<_}
 use native.Mathlib.Omega.{arith}
 use mathlib.Core.Path.{_≡_, refl, sym, _∙_, ap, subst}
 use mathlib.Core.Logic.{_↔_, _⊎_, inl, inr}
-use mathlib.Core.Bool.{Bool, true, false, _&&_}
-use mathlib.Core.List.{List, [], _∷_, _++_}
+use mathlib.Core.Bool.{true, false, _&&_}
+use mathlib.Core.List.{List, [], _∷_}
 use borrow.Author.Tests.{leb-true, le-leb, lt-ltb}
 use lib.Dec.{ltb, leb}
 use lib.IntN.{ℤ}
 use lib.ListN.{length, take, drop}
 use lib.Seq.{take-at}
-use Rattle.label.specs.Outcome.{Outcome, ok, no, need, _>>=_, _>>_}
+use Rattle.label.specs.Outcome.{Outcome, ok, no}
 use Rattle.label.specs.Bytes.{empty}
 use Rattle.label.specs.Run.{Run, read}
 use Rattle.label.specs.Write.{Label, normal, write}
 use Rattle.label.specs.Sound.{flatClusters, flatGlyphs, Readable, clustersOf, glyphsOf, wholeClusters, wholeGlyphs, soundRun, runOf, sound}
 use Rattle.label.specs.Pick.{touched, turned, inside, pickUnits, pickGlyphs}
-use Rattle.label.specs.Calls.{filled, readInto, counts, counted, unitsAfter, clustersAfter, glyphsAfter, writeInto, lengths, lengthsOf, textAfter, indicesAfter}
-use Rattle.label.specs.Wire.{fromHalves, fromWords, halves, words, evenBytes, wordBytes, noLeftOver, readBytes, unitBytesAfter, clusterBytesAfter, glyphBytesAfter, writeBytes}
+use Rattle.label.specs.Calls.{filled, readInto, writeInto}
+use Rattle.label.specs.Wire.{fromHalves, fromWords, halves, words, evenBytes, wordBytes, noLeftOver, readBytes, writeBytes}
 use Rattle.label.specs.Checks.{Given, refuses, saidRun, labelChecks, readChecks, writeChecks, pickChecks}
-use Rattle.label.specs.Demands.{In, startsAt, unitCounts, glyphCounts, WholeClusters, Roomy, RoomyFor, writes, bytes, ReadableBytes, Left, LeftBytes, Wrote, NotWrote, Demand1, Demand2, passedOn, Passed, Demand3}
+use Rattle.label.specs.Demands.{unitCounts, glyphCounts, WholeClusters, Roomy, RoomyFor, writes, bytes, ReadableBytes, Left, LeftBytes, Wrote, NotWrote, Demand1, Demand2, passedOn, Passed, Demand3}
 use Rattle.label.specs.declared.Glyph.{Glyph}
 use Rattle.label.specs.declared.Cluster.{Cluster}
 use Rattle.label.specs.declared.Stretch.{Stretch}
@@ -312,7 +312,7 @@ held : {A : Type 0} (xs old : List A) (n : ℕ) → length xs ≡ n → take n (
 held xs old n e = take-at xs (drop (length xs) old) n e
 
 -- the places that a reading filled are the run's, so the writer handed them writes the run
-passed-is : (t i : List ℕ) (r : Run) (us : List ℕ) (cs gs : List ℤ) (x y : ℕ) → read t i ≡ ok r → Roomy r (length us) (length cs) (length gs) → RoomyFor (normal r) x y
+pub passed-is : (t i : List ℕ) (r : Run) (us : List ℕ) (cs gs : List ℤ) (x y : ℕ) → read t i ≡ ok r → Roomy r (length us) (length cs) (length gs) → RoomyFor (normal r) x y
     → passedOn r t i us cs gs x y ≡ ok (normal r)
 passed-is t i r us cs gs x y h m n =
     rw (

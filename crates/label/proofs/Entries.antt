@@ -1,17 +1,17 @@
 -- An entry that the writer makes is read back: its map and its glyph.
 -- Assumes nothing.
-use Prim.Native.Nat.{ℕ, zero, suc, _+_, _*_, _-_, _/_, _%_, _^_, _≤_, _<_}
+use Prim.Native.Nat.{ℕ, suc, _≤_, _<_}
 use native.Mathlib.Omega.{arith}
-use mathlib.Core.Path.{_≡_, refl, sym, _∙_, ap, subst}
-use mathlib.Core.Bool.{Bool, true, false, cond, not, _&&_, _||_, false≢true, and-true}
+use mathlib.Core.Path.{_≡_, refl, sym, ap}
+use mathlib.Core.Bool.{Bool, true, false, cond, not, _&&_}
 use mathlib.Core.List.{List, [], _∷_, _++_, append-nil, append-assoc}
-use borrow.Author.Tests.{eq-eqb, ne-eqb, not-true, not-false, lt-ltb, le-ltb, ltb-true, ltb-false, le-leb, leb-true, leb-false, eqb-true, eqb-false}
-use lib.Dec.{eqb, ltb, leb}
-use lib.IntN.{ℤ, pos, negsuc, negℤ}
-use lib.ListN.{length, getD, drop, length-append}
-use Rattle.label.specs.Outcome.{Outcome, ok, no, need, _>>=_, _>>_}
+use borrow.Author.Tests.{eq-eqb, not-true, not-false, le-leb, leb-true, eqb-true}
+use lib.Dec.{eqb, leb}
+use lib.IntN.{ℤ, pos, negsuc}
+use lib.ListN.{length, getD, length-append}
+use Rattle.label.specs.Outcome.{ok}
 use Rattle.label.specs.Bytes.{empty, Cut, cut, split, join, trim, isDigit, allDigits, digits, valueFrom, value, decimal}
-use Rattle.label.specs.Entry.{minus, plus, unsigned, isNumber, thousandths, numberFits, part, hasMap, atParenthesis, atColon, isIndexPart, indexDigits, mapUnits, mapGlyphs, isAdvance, isOffset, wellFormed, fieldFits, indexOf, advanceOf, offsetOf, Entry, entryOf, entry}
+use Rattle.label.specs.Entry.{unsigned, part, hasMap, isIndexPart, indexDigits, mapUnits, mapGlyphs, isAdvance, isOffset, wellFormed, fieldFits, indexOf, advanceOf, offsetOf, Entry, entryOf, entry}
 use Rattle.label.specs.Run.{named}
 use Rattle.label.specs.Write.{valueBytes, advanceBytes, offsetBytes, mapBytes, indexBytes, entryBytes}
 use Rattle.label.specs.Sound.{indexFits, advanceFits, size, glyphFits}
@@ -20,7 +20,7 @@ use Rattle.label.specs.declared.Index.the-variants.{Named, Font}
 use Rattle.label.specs.declared.Advance.{Advance}
 use Rattle.label.specs.declared.Advance.the-variants.{Given, Own}
 use Rattle.label.specs.declared.Glyph.{Glyph}
-use Rattle.label.proofs.Basics.{and-l, and-r, and-i, clash, cases}
+use Rattle.label.proofs.Basics.{and-l, and-r, clash, cases}
 use Rattle.label.proofs.Splits.{none, free, allFree, none-append, parts-joined, length-joined, join-free, free-trim, total, join-total, total-trim, joined-first}
 use Rattle.label.proofs.Decimals.{value-decimal, all-decimal, empty-decimal, length-decimal, digits-decimal, digits-none, cut-none, cut-found}
 use Rattle.label.proofs.Values.{digit-not, head-digit, Writes, value-writes}

@@ -1,12 +1,11 @@
 -- The writer's definitions as a loop over the glyphs meets them: how many entries are kept, and one entry more.
 -- Assumes nothing.
-use Prim.Native.Nat.{ℕ, zero, suc, _+_, _-_, _≤_, _<_}
+use Prim.Native.Nat.{ℕ, zero, suc, _-_, _≤_, _<_}
 use native.Mathlib.Omega.{arith}
-use mathlib.Core.Path.{_≡_, refl, sym, _∙_, ap, subst}
-use mathlib.Core.Bool.{Bool, true, false, cond, not, _&&_, false≢true}
+use mathlib.Core.Path.{_≡_, refl, sym, _∙_, ap}
+use mathlib.Core.Bool.{true, false, cond, _&&_}
 use mathlib.Core.List.{List, [], _∷_, _++_, append-nil, append-assoc}
-use borrow.Author.Tests.{eqb-true, eqb-false, eq-eqb, ne-eqb}
-use lib.Dec.{eqb, ltb, eqb·suc-zero}
+use lib.Dec.{eqb, eqb·suc-zero}
 use lib.ListN.{length, getD, take, drop}
 use lib.Seq.{drop-cons}
 use Rattle.label.specs.Bytes.{empty, join, joinRest, trim}
@@ -18,8 +17,8 @@ use Rattle.label.proofs.Entries.{maps, back, entry-read}
 use Rattle.label.proofs.Walks.{ok-path, fontEntry, entry-empty}
 use Rattle.label.specs.declared.Glyph.{Glyph}
 use Rattle.label.specs.declared.Cluster.{Cluster}
-use Rattle.label.proofs.Basics.{and-l, and-r, and-i, clash, cases}
-use Rattle.label.proofs.Splits.{trim-nil, trim-gone, trim-kept, join-nil, join-cons, rest-nil, rest-cons, empty-nil}
+use Rattle.label.proofs.Basics.{clash, cases}
+use Rattle.label.proofs.Splits.{trim-nil, trim-gone, trim-kept, join-cons, rest-nil, rest-cons}
 
 -- how many parts are left when the empty ones at the end are dropped
 abbrev pub kept : List (List ℕ) → ℕ

@@ -1,14 +1,14 @@
 -- Parts by their counts: every place in exactly one; a run's counts add up; a run's numbers and back; the soundness test and "some label reads as it"; the stretch
 -- that a pick gives; the cluster map.
 -- Assumes nothing.
-use Prim.Native.Nat.{ℕ, zero, suc, _+_, _*_, _-_, _≤_, _<_}
+use Prim.Native.Nat.{ℕ, zero, suc, _+_, _-_, _≤_, _<_}
 use native.Mathlib.Omega.{arith}
 use native.Mathlib.Nat.{not-suc-le-zero, zero-add}
-use mathlib.Core.Path.{_≡_, refl, sym, _∙_, ap}
+use mathlib.Core.Path.{_≡_, refl, _∙_}
 use mathlib.Core.Bool.{Bool, true, false, _&&_, false≢true}
 use mathlib.Core.List.{List, [], _∷_, _++_}
 use borrow.Author.Tests.{ltb-true, ltb-false, eqb-true}
-use lib.Dec.{eqb, ltb}
+use lib.Dec.{ltb}
 use lib.IntN.{ℤ, pos, negsuc}
 use lib.ListN.{length, getD, drop, length-drop, length-append, replicate, length-replicate}
 use Rattle.label.specs.Run.{Run}

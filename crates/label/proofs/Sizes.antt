@@ -1,13 +1,13 @@
 -- How large a sound run and its normal writing can be.
 -- Assumes nothing.
-use Prim.Native.Nat.{ℕ, zero, suc, _+_, _*_, _-_, _≤_, _<_}
+use Prim.Native.Nat.{ℕ, zero, suc, _*_, _-_, _≤_}
 use native.Mathlib.Omega.{arith}
-use mathlib.Core.Path.{_≡_, refl}
-use mathlib.Core.Bool.{Bool, true, false}
+use mathlib.Core.Path.{_≡_}
+use mathlib.Core.Bool.{Bool, true}
 use mathlib.Core.List.{List, [], _∷_}
 use lib.ListN.{length, drop}
 use Rattle.label.specs.Limits.{maxTextBytes, maxIndicesBytes, maxUnits, maxGlyphs}
-use Rattle.label.specs.Outcome.{Outcome, ok}
+use Rattle.label.specs.Outcome.{ok}
 use Rattle.label.specs.Bytes.{empty}
 use Rattle.label.specs.Run.{Run, read}
 use Rattle.label.specs.Sound.{fits, soundRun}
@@ -16,7 +16,6 @@ use Rattle.label.specs.Calls.{readInto}
 use Rattle.label.specs.Demands.{Roomy, RoomyFor}
 use Rattle.label.specs.declared.Glyph.{Glyph}
 use Rattle.label.specs.declared.Cluster.{Cluster}
-use Rattle.label.proofs.Basics.{clash}
 use Rattle.label.proofs.Walks.{fits-nil, fits-further, fits-opening, Indices, indices-back}
 use Rattle.label.proofs.Texts.{text-back, proper-first}
 use Rattle.label.proofs.Sounds.{SoundRun, sound-parts, read-sound}

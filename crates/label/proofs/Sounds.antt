@@ -1,33 +1,29 @@
 -- What is read is sound.
 -- Assumes nothing.
-use Prim.Native.Nat.{ℕ, zero, suc, _+_, _*_, _-_, _/_, _%_, _^_, _≤_, _<_}
+use Prim.Native.Nat.{ℕ, zero, suc, _+_, _-_, _/_, _%_, _≤_, _<_}
 use native.Mathlib.Omega.{arith}
-use mathlib.Core.Path.{_≡_, refl, sym, _∙_, ap, subst}
-use mathlib.Core.Logic.{_⊎_, inl, inr, ⊎-elim}
-use mathlib.Core.Bool.{Bool, true, false, cond, not, _&&_, _||_, false≢true, and-true}
-use mathlib.Core.List.{List, [], _∷_, _++_, append-nil, append-assoc}
-use borrow.Author.Tests.{eq-eqb, ne-eqb, not-true, not-false, lt-ltb, le-ltb, ltb-true, ltb-false, le-leb, lt-leb, leb-true, leb-false, eqb-true, eqb-false}
-use lib.Dec.{eqb, ltb, leb, eqb·suc-zero}
-use lib.IntN.{ℤ, pos, negsuc, negℤ}
-use lib.ListN.{length, getD, drop, length-append}
-use Rattle.label.specs.Outcome.{Outcome, ok, no, need, _>>=_, _>>_}
+use mathlib.Core.Path.{_≡_, refl, _∙_, subst}
+use mathlib.Core.Logic.{⊎-elim}
+use mathlib.Core.Bool.{Bool, true, false, cond, not, _&&_, _||_}
+use mathlib.Core.List.{List, [], _∷_, _++_}
+use borrow.Author.Tests.{eq-eqb, not-true, le-leb, lt-leb, leb-true, leb-false, eqb-true}
+use lib.Dec.{eqb, leb, eqb·suc-zero}
+use lib.IntN.{pos, negℤ}
+use lib.ListN.{length, drop}
+use Rattle.label.specs.Outcome.{ok}
 use Rattle.label.specs.Bytes.{empty, allDigits, digits, value, split, onFirst}
-use Rattle.label.specs.Text.{within, lead, starts, scalar, xmlChar, isHigh, isLow, unitsOf, decode, braced, marked, unmarked, textUnits}
+use Rattle.label.specs.Text.{lead, starts, scalar, xmlChar, isHigh, isLow, unitsOf, decode, braced, marked, unmarked, textUnits}
 use Rattle.label.specs.Entry.{minus, unsigned, thousandths, mantissaDigits, exponentDigits, numberFits, part, hasMap, atParenthesis, atColon, isIndexPart, indexDigits, mapUnits, mapGlyphs, isAdvance, isOffset, wellFormed, fieldFits, indexOf, advanceOf, offsetOf, Entry, entryOf, entry, entries}
-use Rattle.label.specs.Run.{Run, Parts, named, fontGlyph, cluster, before, whole, tail, State, start, opens, takes, allowed, next, step, walk, read, runFrom}
+use Rattle.label.specs.Run.{Run, Parts, named, fontGlyph, cluster, before, whole, tail, State, start, opens, takes, allowed, next, walk, read, runFrom}
 use Rattle.label.specs.Limits.{maxTextBytes, maxIndicesBytes, maxUnits, maxGlyphs}
 use Rattle.label.specs.Write.{textOf, indicesOf}
 use Rattle.label.specs.Sound.{properUnits, size, indexFits, advanceFits, glyphFits, mayOpen, fits, soundRun}
-use Rattle.label.specs.declared.Index.{Index}
-use Rattle.label.specs.declared.Index.the-variants.{Named, Font}
-use Rattle.label.specs.declared.Advance.{Advance}
-use Rattle.label.specs.declared.Advance.the-variants.{Given, Own}
 use Rattle.label.specs.declared.Glyph.{Glyph}
 use Rattle.label.specs.declared.Cluster.{Cluster}
-use Rattle.label.proofs.Basics.{and-l, and-r, and-i, clash, cases, bind-ok, need-ok}
+use Rattle.label.proofs.Basics.{and-l, and-r, clash, cases, bind-ok, need-ok}
 use Rattle.label.proofs.Splits.{empty-nil}
 use Rattle.label.proofs.Walks.{parts, state, ok-path, Stepped, step-ok, Walked, walk-ok, indices-back, Indices, indices-full}
-use Rattle.label.proofs.Texts.{or-cases, xml-range, within-is, within-lo, within-hi, TextBack, text-back, proper-first}
+use Rattle.label.proofs.Texts.{xml-range, within-is, TextBack, text-back, proper-first}
 
 -- ── an entry that was read ──
 

@@ -1,20 +1,20 @@
 -- A value's bytes are a number, moderate, and read back as the value.
 -- Assumes nothing.
-use Prim.Native.Nat.{ℕ, zero, suc, _+_, _*_, _-_, _/_, _%_, _^_, _≤_, _<_}
+use Prim.Native.Nat.{ℕ, _+_, _*_, _-_, _/_, _%_, _^_, _≤_, _<_}
 use native.Mathlib.Omega.{arith}
 use native.Mathlib.Nat.{div-eq-of-lt-le}
-use mathlib.Core.Path.{_≡_, refl, sym, _∙_, ap, subst}
-use mathlib.Core.Bool.{Bool, true, false, cond, not, _&&_, _||_, false≢true, and-true}
-use mathlib.Core.List.{List, [], _∷_, _++_, append-nil, append-assoc}
-use borrow.Author.Tests.{eq-eqb, not-true, lt-ltb, le-ltb, ltb-true, ltb-false, le-leb, leb-true, leb-false, eqb-true, eqb-false}
-use lib.Dec.{eqb, ltb, leb}
+use mathlib.Core.Path.{_≡_, refl, sym, _∙_}
+use mathlib.Core.Bool.{true, false, not, false≢true}
+use mathlib.Core.List.{List, [], _∷_, _++_, append-nil}
+use borrow.Author.Tests.{le-leb, eqb-true}
+use lib.Dec.{eqb}
 use lib.ListN.{length, getD, length-append}
-use Rattle.label.specs.Bytes.{empty, Cut, cut, more, isDigit, allDigits, digits, valueFrom, value, decimalFrom, decimal}
-use Rattle.label.specs.Entry.{minus, plus, unsigned, isE, isPoint, atExponent, atPoint, isDecimals, isNumber, mantissaDigits, fractionDigits, exponentDigits, nearest, scaled, thousandths, numberFits}
+use Rattle.label.specs.Bytes.{empty, cut, isDigit, allDigits, digits, valueFrom, value, decimal}
+use Rattle.label.specs.Entry.{minus, plus, unsigned, isE, isPoint, atExponent, isDecimals, isNumber, mantissaDigits, fractionDigits, exponentDigits, nearest, scaled, thousandths, numberFits}
 use Rattle.label.specs.Write.{fraction, valueBytes}
-use Rattle.label.proofs.Basics.{and-l, and-r, and-i, clash, cases}
-use Rattle.label.proofs.Splits.{none, free, none-append}
-use Rattle.label.proofs.Decimals.{value-append, value-one, digits-append, digits-one, value-decimal, all-decimal, empty-decimal, length-decimal, digits-decimal, digits-none, cut-none, cut-found}
+use Rattle.label.proofs.Basics.{and-l, and-r, clash, cases}
+use Rattle.label.proofs.Splits.{free, none-append}
+use Rattle.label.proofs.Decimals.{value-append, digits-append, digits-one, value-decimal, all-decimal, empty-decimal, length-decimal, digits-decimal, digits-none, cut-none, cut-found}
 
 -- a digit is none of the other bytes
 pub digit-not : (c : ℕ) → isDigit c ≡ false → (b : ℕ) → isDigit b ≡ true → eqb b c ≡ false

@@ -1,30 +1,25 @@
 -- The walk over the entries that the writer makes gives back the clusters and the glyphs.
 -- Assumes nothing.
-use Prim.Native.Nat.{ℕ, zero, suc, _+_, _*_, _-_, _/_, _%_, _^_, _≤_, _<_}
+use Prim.Native.Nat.{ℕ, zero, suc, _+_, _*_, _-_, _≤_, _<_}
 use native.Mathlib.Omega.{arith}
 use native.Mathlib.Nat.{add-zero, not-suc-le-zero}
 use native.Mathlib.Numerals.{add-one}
 use mathlib.Core.Path.{_≡_, refl, sym, _∙_, ap, subst}
-use mathlib.Core.Bool.{Bool, true, false, cond, not, _&&_, _||_, false≢true, and-true}
-use mathlib.Core.List.{List, [], _∷_, _++_, append-nil, append-assoc}
-use borrow.Author.Tests.{eq-eqb, ne-eqb, not-true, not-false, lt-ltb, le-ltb, ltb-true, ltb-false, le-leb, leb-true, leb-false, eqb-true, eqb-false}
-use lib.Dec.{eqb, ltb, leb, eqb·suc-zero, leb·zero}
-use lib.ListN.{length, getD, drop, length-append, length-drop}
+use mathlib.Core.Bool.{Bool, true, false, not, _&&_, _||_}
+use mathlib.Core.List.{List, [], _∷_}
+use borrow.Author.Tests.{not-true, not-false, le-leb, leb-true, eqb-true}
+use lib.Dec.{eqb, leb, eqb·suc-zero, leb·zero}
+use lib.ListN.{length, drop, length-drop}
 use lib.Seq.{getD-drop}
-use Rattle.label.specs.Outcome.{Outcome, ok, no, need, _>>=_, _>>_}
+use Rattle.label.specs.Outcome.{ok}
 use Rattle.label.specs.Bytes.{empty, split, join, trim, allDigits, valueFrom}
-use Rattle.label.specs.Text.{isLow}
 use Rattle.label.specs.Entry.{Entry, entry, entries, entryOf, wellFormed, isIndexPart, indexDigits, mapUnits, mapGlyphs, isAdvance, isOffset, fieldFits, indexOf, advanceOf, offsetOf}
-use Rattle.label.specs.Run.{Run, Parts, named, fontGlyph, cluster, before, whole, tail, State, start, opens, takes, allowed, next, placed, step, walk}
+use Rattle.label.specs.Run.{Parts, named, fontGlyph, cluster, before, whole, tail, State, start, opens, takes, allowed, next, placed, step, walk}
 use Rattle.label.specs.Write.{entryBytes, written, indicesOf}
 use Rattle.label.specs.Sound.{glyphFits, mayOpen, fits}
-use Rattle.label.specs.declared.Index.{Index}
-use Rattle.label.specs.declared.Index.the-variants.{Named, Font}
-use Rattle.label.specs.declared.Advance.{Advance}
-use Rattle.label.specs.declared.Advance.the-variants.{Given, Own}
 use Rattle.label.specs.declared.Glyph.{Glyph}
 use Rattle.label.specs.declared.Cluster.{Cluster}
-use Rattle.label.proofs.Basics.{and-l, and-r, and-i, clash, cases, bind-ok, need-ok}
+use Rattle.label.proofs.Basics.{and-l, and-r, clash, cases, bind-ok, need-ok}
 use Rattle.label.proofs.Splits.{free, allFree, empty-nil, trim-nil, trim-gone, trim-kept, free-trim, joined-full, join-nil, join-cons, split-join, total, join-total, total-trim, joined-first}
 use Rattle.label.proofs.Entries.{maps, back, entry-read, entry-semi, entry-short, entry-full}
 

@@ -2,10 +2,9 @@
 -- digits of a number.
 -- Assumes nothing.
 use Prim.Native.Nat.{ℕ, zero, suc, _+_, _*_, _-_, _/_, _%_}
-use mathlib.Core.Bool.{Bool, true, false, cond, not, _&&_, _||_}
+use mathlib.Core.Bool.{Bool, true, false, cond, not, _&&_}
 use mathlib.Core.List.{List, [], _∷_, _++_}
 use lib.Dec.{leb, ltb, eqb}
-use lib.ListN.{length, getD, drop}
 
 -- no element
 abbrev pub empty : {A : Type 0} → List A → Bool
@@ -48,7 +47,7 @@ allDigits (b ∷ bs) = isDigit b && allDigits bs
 abbrev pub digits : List ℕ → Bool
 digits s = not (empty s) && allDigits s
 
--- the whole number that the digits behind n go on with
+-- n with these digits written behind it
 unfoldable pub valueFrom : ℕ → List ℕ → ℕ
 valueFrom n [] = n
 valueFrom n (b ∷ bs) = valueFrom (n * 10 + (b - 48)) bs

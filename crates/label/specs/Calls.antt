@@ -1,10 +1,9 @@
 -- The calls with their lent buffers: 16 to 18, 20, 21 and 18 of the list of records; what each buffer holds afterwards; and for every answer enum the
 -- paper's number, place and values of each of its cases.
 -- Assumes nothing.
-use Prim.Native.Nat.{ℕ, _+_, _*_, _/_}
-use mathlib.Core.Bool.{Bool, true, false, cond}
-use mathlib.Core.List.{List, [], _∷_, _++_}
-use lib.Dec.{leb, eqb}
+use Prim.Native.Nat.{ℕ, _*_}
+use mathlib.Core.List.{List, _++_}
+use lib.Dec.{leb}
 use lib.IntN.{ℤ}
 use lib.ListN.{length, drop}
 use Rattle.label.specs.Outcome.{Outcome, ok, no, need, _>>=_, _>>_}
@@ -60,7 +59,7 @@ after f (no n p) old = old
 
 -- ── the reader ──
 
--- with buffers of so many places: "one place a unit; two a cluster; four a glyph"; "unit, cluster, glyph buffer too short" (16, 17, 18)
+-- with buffers of so many places, one a unit, two a cluster and four a glyph: "unit, cluster, glyph buffer too short" (16, 17, 18)
 unfoldable pub readInto : ℕ → ℕ → ℕ → List ℕ → List ℕ → Outcome Run
 readInto units clusters glyphs text indices = do
   r ← read text indices
@@ -73,6 +72,7 @@ readInto units clusters glyphs text indices = do
 abbrev pub counts : Run → Counts
 counts r = record { units = length (r .units); clusters = length (r .clusters); glyphs = length (r .glyphs) }
 
+-- the answer of a reading: the counts, or the refusal
 abbrev pub counted : Outcome Run → Outcome Counts
 counted (ok r) = ok (counts r)
 counted (no n p) = no n p
@@ -101,6 +101,7 @@ writeInto text indices us cs gs = do
 abbrev pub lengthsOf : Label → Lengths
 lengthsOf l = record { text = length (l .text); indices = length (l .indices) }
 
+-- the answer of a writing: the lengths, or the refusal
 abbrev pub lengths : Outcome Label → Outcome Lengths
 lengths (ok l) = ok (lengthsOf l)
 lengths (no n p) = no n p
@@ -121,6 +122,7 @@ listInto room us cs gs = do
   need (leb (length (glyphsOf gs)) room) 18 (length (glyphsOf gs))
   ok (glyphsOf gs)
 
+-- the answer of a listing, and the list afterwards
 abbrev pub listedCount : Outcome (List Glyph) → Outcome ℕ
 listedCount (ok gs) = ok (length gs)
 listedCount (no n p) = no n p

@@ -1,5 +1,5 @@
--- "Checks, in order": the table of document 01 as a list, in its order, of causes with their numbers and places. Whether a cause holds is computed from the
--- text and the indices alone; the reading is shown to be what the first cause that holds decides (law `read-by-checks`).
+-- "Checks, in order": the table of document 01 as a list, in its order, of causes with their numbers and places. Each cause is computed from what the call is
+-- given, whatever the others say; each call is shown to be what the first cause that holds decides (laws `read-by-checks` and others).
 -- Assumes nothing.
 use Prim.Native.Nat.{ℕ, zero, suc, _+_, _*_}
 use mathlib.Core.Path.{_≡_}
@@ -12,10 +12,10 @@ use Rattle.label.specs.Limits.{maxTextBytes, maxIndicesBytes, maxUnits, 
 use Rattle.label.specs.Outcome.{Outcome, ok, no}
 use Rattle.label.specs.Bytes.{empty, value}
 use Rattle.label.specs.Text.{lead, starts, scalar, xmlChar, unitsOf, braced, marked, unmarked}
-use Rattle.label.specs.Entry.{part, indexDigits, wellFormed, fieldFits, Entry, entryOf, entries}
+use Rattle.label.specs.Entry.{part, indexDigits, wellFormed, fieldFits, entryOf, entries}
 use Rattle.label.specs.Run.{Run, Parts, fontGlyph, cluster, before, whole, State, start, opens, takes, allowed, next}
-use Rattle.label.specs.Sound.{sound, runOf, glyphsOf}
-use Rattle.label.specs.Write.{Label, normal}
+use Rattle.label.specs.Sound.{sound, runOf}
+use Rattle.label.specs.Write.{normal}
 use Rattle.label.specs.Pick.{inside}
 
 -- a row of the table: whether its cause holds, its number and its place

@@ -1,13 +1,13 @@
 -- "The entries": when an entry is well formed (7), its index (8), its numbers (9), and what it says.
 -- Assumes nothing.
-use Prim.Native.Nat.{ℕ, zero, suc, _+_, _*_, _-_, _/_, _%_, _^_}
-use mathlib.Core.Bool.{Bool, true, false, cond, not, _&&_, _||_}
-use mathlib.Core.List.{List, [], _∷_, _++_}
-use lib.Dec.{leb, ltb, eqb}
-use lib.IntN.{ℤ, pos, negsuc, negℤ}
+use Prim.Native.Nat.{ℕ, _+_, _*_, _/_, _^_}
+use mathlib.Core.Bool.{Bool, true, cond, not, _&&_, _||_}
+use mathlib.Core.List.{List, [], _++_}
+use lib.Dec.{leb, eqb}
+use lib.IntN.{ℤ, pos, negℤ}
 use lib.ListN.{length, getD, drop}
 use Rattle.label.specs.Limits.{maxIndex, maxDigits, maxExponentDigits, maxThousandths}
-use Rattle.label.specs.Outcome.{Outcome, ok, no, need, _>>=_, _>>_}
+use Rattle.label.specs.Outcome.{Outcome, ok, need, _>>=_, _>>_}
 use Rattle.label.specs.Bytes.{empty, split, Cut, cut, digits, allDigits, value}
 use Rattle.label.specs.declared.Index.{Index}
 use Rattle.label.specs.declared.Index.the-variants.{Named, Font}
@@ -17,6 +17,7 @@ use Rattle.label.specs.declared.Glyph.{Glyph}
 
 -- ── numbers ──
 
+-- the sign at the front
 abbrev pub minus : List ℕ → Bool
 minus s = eqb (getD s 0 0) 45
 
@@ -31,6 +32,7 @@ unsigned s = cond (minus s || plus s) (drop 1 s) s
 abbrev pub isE : ℕ → Bool
 isE b = eqb b 101 || eqb b 69
 
+-- the point
 abbrev pub isPoint : ℕ → Bool
 isPoint b = eqb b 46
 
@@ -96,7 +98,7 @@ atParenthesis p = cut (λ b. eqb b 41) (drop 1 p)
 abbrev pub atColon : List ℕ → Cut
 atColon p = cut (λ b. eqb b 58) (atParenthesis p .before)
 
--- "an optional map, then one or more digits. A map is `(a)` or `(a:b)`, a and b one or more digits. A map without an index isn't well formed."
+-- "an optional map, then one or more digits"; "A map is `(a)` or `(a:b)`, a and b one or more digits"; "A map without an index isn't well formed."
 -- The part is optional, so nothing is well formed too.
 unfoldable pub isIndexPart : List ℕ → Bool
 isIndexPart p =
@@ -104,6 +106,7 @@ isIndexPart p =
     (atParenthesis p .found && digits (atParenthesis p .after) && digits (atColon p .before) && cond (atColon p .found) (digits (atColon p .after)) true)
     (allDigits p)
 
+-- the digits of the index, behind the map if there is one
 unfoldable pub indexDigits : List ℕ → List ℕ
 indexDigits p = cond (hasMap p) (atParenthesis p .after) p
 

@@ -2,11 +2,11 @@
 -- example of `relabel`. Each is computed from the definitions.
 -- Assumes nothing.
 use Prim.Native.Nat.{ℕ}
-use Prim.Native.Char.{Char, code}
+use Prim.Native.Char.{code}
 use Prim.Native.String.{String, [] as none, _∷_ as _then_}
 use mathlib.Core.Path.{_≡_, refl}
 use mathlib.Core.List.{List, [], _∷_, _++_, map}
-use lib.IntN.{ℤ, pos, negsuc}
+use lib.IntN.{pos}
 use Rattle.label.specs.Outcome.{Outcome, ok, no}
 use Rattle.label.specs.Bytes.{split, cut, allDigits, valueFrom, joinRest, join, trim, decimalFrom, decimal}
 use Rattle.label.specs.Text.{lead, trail, starts, scalar, xmlChar, unitsOf, decode, textUnits}
@@ -113,6 +113,7 @@ standardRows =
     row (0xe0 ∷ 0xae ∷ 0xaa ∷ 0xe0 ∷ 0xaf ∷ 0x8b ∷ 0xe0 ∷ 0xae ∷ 0xa4 ∷ 0xe0 ∷ 0xaf ∷ 0x81 ∷ []) (ascii "(2:3)94;76;88;(2:1)162")
     (reads (0x0baa ∷ 0x0bcb ∷ 0x0ba4 ∷ 0x0bc1 ∷ []) (cluster 2 3 ∷ cluster 2 1 ∷ []) (glyph 94 ∷ glyph 76 ∷ glyph 88 ∷ glyph 162 ∷ [])
     (0xe0 ∷ 0xae ∷ 0xaa ∷ 0xe0 ∷ 0xaf ∷ 0x8b ∷ 0xe0 ∷ 0xae ∷ 0xa4 ∷ 0xe0 ∷ 0xaf ∷ 0x81 ∷ []) (ascii "(2:3)94;76;88;(2)162")) ∷
+    -- (12-1 and 12-2 have no markup; 12-5 and 12-6 name no text, so one of seven units stands here)
     -- 12-5, "the seventh glyph in the Unicode string has an advance width of 40"
     row (ascii "fathoms") (ascii ";;;;;;,40")
     (reads (ascii "fathoms") (one ∷ one ∷ one ∷ one ∷ one ∷ one ∷ one ∷ [])

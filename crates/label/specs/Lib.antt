@@ -12,5 +12,6 @@ pub mod Calls
 pub mod Wire
 pub mod Relabel
 pub mod Labels
+pub mod Cases
 pub mod Demands
 pub mod Checks

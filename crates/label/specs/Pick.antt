@@ -1,12 +1,12 @@
 -- "Picks": between a stretch of glyphs and the stretch of units of all clusters touched.
 -- Assumes nothing.
-use Prim.Native.Nat.{ℕ, zero, suc, _+_, _-_}
-use mathlib.Core.Bool.{Bool, true, false, cond, not, _&&_, _||_}
-use mathlib.Core.List.{List, [], _∷_, _++_}
-use lib.Dec.{leb, ltb, eqb}
+use Prim.Native.Nat.{ℕ, _+_, _-_}
+use mathlib.Core.Bool.{Bool, cond, _&&_}
+use mathlib.Core.List.{List, [], _∷_}
+use lib.Dec.{leb, ltb}
 use lib.IntN.{ℤ}
-use lib.ListN.{length, getD, drop}
-use Rattle.label.specs.Outcome.{Outcome, ok, no, need, _>>=_, _>>_}
+use lib.ListN.{length}
+use Rattle.label.specs.Outcome.{Outcome, ok, need, _>>=_, _>>_}
 use Rattle.label.specs.Run.{cluster}
 use Rattle.label.specs.Sound.{sound, clustersOf, glyphsOf}
 use Rattle.label.specs.declared.Cluster.{Cluster}
@@ -27,7 +27,7 @@ holding n u (c ∷ cs) =
 unfoldable pub touched : ℕ → ℕ → List Cluster → Stretch
 touched first end cs = stretch (holding first 0 cs .first) (holding (end - 1) 0 cs .end)
 
--- "another goes from units to glyphs": units for glyphs, glyphs for units
+-- units for glyphs, glyphs for units
 unfoldable pub turned : List Cluster → List Cluster
 turned [] = []
 turned (c ∷ cs) = cluster (c .glyphs) (c .units) ∷ turned cs
@@ -36,13 +36,14 @@ turned (c ∷ cs) = cluster (c .glyphs) (c .units) ∷ turned cs
 abbrev pub inside : ℕ → ℕ → ℕ → Bool
 inside first end count = ltb first end && leb end count
 
--- "A pick takes a sound run and a stretch of glyphs"; "Soundness (19) is tested before 22"; "In a run without units the first gives 0 to 0"
+-- "A pick takes a sound run and a stretch of glyphs"; "Soundness (19) is tested before 22"; "In a run without units the first gives 0 to 0", as every cluster there has 0 units
 unfoldable pub pickUnits : List ℕ → List ℤ → List ℤ → ℕ → ℕ → Outcome Stretch
 pickUnits us cs gs first end = do
   need (sound us cs gs) 19 0
   need (inside first end (length (glyphsOf gs))) 22 0
   ok (touched first end (clustersOf cs))
 
+-- "another goes from units to glyphs"
 unfoldable pub pickGlyphs : List ℕ → List ℤ → List ℤ → ℕ → ℕ → Outcome Stretch
 pickGlyphs us cs gs first end = do
   need (sound us cs gs) 19 0

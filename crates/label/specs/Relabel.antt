@@ -1,7 +1,6 @@
 -- "The program `relabel`".
 -- Assumes nothing.
 use Prim.Native.Nat.{ℕ}
-use mathlib.Core.Bool.{Bool}
 use mathlib.Core.List.{List, [], _∷_, _++_}
 use lib.Dec.{leb, eqb}
 use lib.ListN.{length}
@@ -21,13 +20,14 @@ relabelRead text indices = do
   need (leb (length indices) maxLineBytes) 1 0
   read text indices
 
--- "prints `ok`, units, clusters, glyphs, then both normal lines; or `no`, number, place on one line, single spaces between"
+-- "prints `ok`, units, clusters, glyphs, then both normal lines; or `no`, number, place on one line, single spaces between"; every line ends in a line
+-- feed
 abbrev pub printed : Outcome Run → List ℕ
 printed (no n p) = 110 ∷ 111 ∷ 32 ∷ (decimal n ++ (32 ∷ (decimal p ++ (10 ∷ []))))
 printed (ok r) =
     111 ∷ 107 ∷ 32 ∷ (decimal (length (r .units)) ++ (32 ∷ (decimal (length (r .clusters)) ++ (32 ∷ (decimal (length (r .glyphs)) ++ (10 ∷ []))))))
     ++ (normal r .text ++ (10 ∷ [])) ++ (normal r .indices ++ (10 ∷ []))
 
--- "The program `relabel` reads two lines, text and indices"
+-- "The program `relabel` reads two lines, text and indices"; what follows them is not looked at
 unfoldable pub relabel : List ℕ → List ℕ
 relabel input = printed (relabelRead (line input .before) (line (line input .after) .before))

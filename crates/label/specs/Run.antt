@@ -1,20 +1,19 @@
 -- "Clusters": the run, and the reading with its checks 1 to 15 in order.
 -- Assumes nothing.
-use Prim.Native.Nat.{ℕ, zero, suc, _+_, _*_, _-_, _/_, _%_, _^_}
+use Prim.Native.Nat.{ℕ, suc, _+_, _-_}
 use mathlib.Core.Bool.{Bool, true, false, cond, not, _&&_, _||_}
-use mathlib.Core.List.{List, [], _∷_, _++_}
-use lib.Dec.{leb, ltb, eqb}
-use lib.IntN.{ℤ, pos}
+use mathlib.Core.List.{List, [], _∷_}
+use lib.Dec.{leb, eqb}
+use lib.IntN.{pos}
 use lib.ListN.{length, getD, drop}
 use Rattle.label.specs.Limits.{maxTextBytes, maxIndicesBytes, maxGlyphs}
-use Rattle.label.specs.Outcome.{Outcome, ok, no, need, _>>=_, _>>_}
+use Rattle.label.specs.Outcome.{Outcome, ok, need, _>>=_, _>>_}
 use Rattle.label.specs.Bytes.{empty}
 use Rattle.label.specs.Text.{isLow, textUnits}
 use Rattle.label.specs.Entry.{Entry, entry, entries}
 use Rattle.label.specs.declared.Index.{Index}
 use Rattle.label.specs.declared.Index.the-variants.{Named, Font}
-use Rattle.label.specs.declared.Advance.{Advance}
-use Rattle.label.specs.declared.Advance.the-variants.{Given, Own}
+use Rattle.label.specs.declared.Advance.the-variants.{Own}
 use Rattle.label.specs.declared.Glyph.{Glyph}
 use Rattle.label.specs.declared.Cluster.{Cluster}
 
@@ -60,7 +59,7 @@ tail at (u ∷ us) = do
   ok (before true (cluster 1 1) fontGlyph p)
 
 -- Where the walk over the entries stands: the number of the next entry, the units used and those not used yet, the glyphs that the open cluster
--- still lacks, and the entry that opened it. `bare`: the text has no units.
+-- still lacks, and the entry that opened it. Beside it goes `bare`: the text has no units.
 pub record State : Type 0 where
   pub k : ℕ
   pub at : ℕ

@@ -1,14 +1,14 @@
 -- A run as the numbers of the three buffers ("A run is handed in as exactly its places"), and when numbers from any hand are a sound run.
 -- Assumes nothing.
-use Prim.Native.Nat.{ℕ, zero, suc, _+_, _-_}
+use Prim.Native.Nat.{ℕ, zero, suc, _-_}
 use mathlib.Core.Path.{_≡_}
-use mathlib.Core.Bool.{Bool, true, false, cond, not, _&&_, _||_}
-use mathlib.Core.List.{List, [], _∷_, _++_}
-use lib.Dec.{leb, ltb, eqb}
+use mathlib.Core.Bool.{Bool, true, false, not, _&&_, _||_}
+use mathlib.Core.List.{List, [], _∷_}
+use lib.Dec.{leb, eqb}
 use lib.IntN.{ℤ, pos, negsuc}
-use lib.ListN.{length, getD, drop}
+use lib.ListN.{length, drop}
 use Rattle.label.specs.Limits.{maxUnits, maxGlyphs, maxIndex, maxThousandths}
-use Rattle.label.specs.Outcome.{Outcome, ok, no}
+use Rattle.label.specs.Outcome.{ok}
 use Rattle.label.specs.Bytes.{empty}
 use Rattle.label.specs.Text.{isHigh, isLow, xmlChar}
 use Rattle.label.specs.Run.{Run, named, whole, cluster, read}
@@ -51,6 +51,7 @@ pub record Readable (units : List ℕ) (clusters glyphs : List ℤ) : Type 0 whe
   pub glyphs-are : flatGlyphs (run .glyphs) ≡ glyphs
 
 -- ── the same as a computed test ──
+-- That the two agree are the laws `sound-readable` and `readable-sound`. The byte limits of 1 never bite: the normal writing of such a run is within them.
 
 -- a number that is not below 0; the same, with −1 allowed
 abbrev pub natural : ℤ → Bool
@@ -61,7 +62,7 @@ abbrev pub choice : ℤ → Bool
 choice (pos n) = true
 choice (negsuc n) = eqb n 0
 
--- "the lengths are whole clusters and glyphs"
+-- "the lengths are whole clusters and glyphs"; counts are not below 0, an index and an advance not below −1
 unfoldable pub wholeClusters : List ℤ → Bool
 wholeClusters [] = true
 wholeClusters (a ∷ []) = false
@@ -105,6 +106,7 @@ properUnits half [] = not half
 properUnits true (u ∷ us) = isLow u && properUnits false us
 properUnits false (u ∷ us) = (isHigh u || (leb u 65535 && xmlChar u)) && properUnits (isHigh u) us
 
+-- a number without its sign
 abbrev pub size : ℤ → ℕ
 size (pos n) = n
 size (negsuc n) = suc n
@@ -128,7 +130,8 @@ mayOpen false us c g =
     leb 1 (c .units) && leb 1 (c .glyphs) && leb (c .units) (length us) && whole (c .units) us
     && (named (g .index) || (eqb (c .units) 1 && eqb (c .glyphs) 1))
 
--- "counts add up": the clusters use up the units and the glyphs; `lack` glyphs of the open cluster are still to come
+-- "counts add up": the clusters use up the units and the glyphs, each glyph is within its limits, each cluster may stand where it does and its further glyphs
+-- name their indices; `lack` glyphs of the open cluster are still to come
 unfoldable pub fits : Bool → ℕ → List ℕ → List Cluster → List Glyph → Bool
 fits bare lack us cs [] = eqb lack 0 && empty cs && empty us
 fits bare (suc n) us cs (g ∷ gs) = glyphFits g && named (g .index) && fits bare n us cs gs
@@ -141,6 +144,7 @@ soundRun r =
     properUnits false (r .units) && leb (length (r .units)) maxUnits && leb (length (r .glyphs)) maxGlyphs
     && not (empty (r .units) && empty (r .glyphs)) && fits (empty (r .units)) 0 (r .units) (r .clusters) (r .glyphs)
 
+-- the run that these numbers name
 abbrev pub runOf : List ℕ → List ℤ → List ℤ → Run
 runOf us cs gs = record { units = us; clusters = clustersOf cs; glyphs = glyphsOf gs }
 

@@ -3,11 +3,11 @@
 use Prim.Native.Nat.{ℕ, zero, suc, _+_, _*_, _-_, _/_, _%_}
 use mathlib.Core.Bool.{Bool, true, false, cond, not, _&&_, _||_}
 use mathlib.Core.List.{List, [], _∷_, _++_}
-use lib.Dec.{leb, ltb, eqb}
+use lib.Dec.{leb, eqb}
 use lib.ListN.{length, getD, drop}
 use Rattle.label.specs.Limits.{maxUnits}
 use Rattle.label.specs.declared.Row.{Row}
-use Rattle.label.specs.Outcome.{Outcome, ok, no, need, _>>=_, _>>_}
+use Rattle.label.specs.Outcome.{Outcome, ok, need, _>>=_, _>>_}
 
 -- lo ≤ b ≤ hi
 abbrev pub within : ℕ → ℕ → ℕ → Bool
@@ -98,7 +98,7 @@ marked us = braced us && eqb (getD us 1 0) 125
 abbrev pub unmarked : List ℕ → List ℕ
 unmarked us = cond (marked us) (drop 2 us) us
 
--- the units of a text, "2 and 3, whichever comes first, 4, 5": "Any other text that begins with `{` is refused"
+-- the units of a text: 2 and 3, whichever comes first, then 4, then 5. "Any other text that begins with `{` is refused"
 unfoldable pub textUnits : List ℕ → Outcome (List ℕ)
 textUnits text = do
   all ← decode 0 0 text

@@ -1,13 +1,13 @@
 -- "The normal writing" of a run.
 -- Assumes nothing.
-use Prim.Native.Nat.{ℕ, zero, suc, _+_, _*_, _-_, _/_, _%_, _^_}
-use mathlib.Core.Bool.{Bool, true, false, cond, not, _&&_, _||_}
+use Prim.Native.Nat.{ℕ, zero, suc, _+_, _*_, _-_, _/_, _%_}
+use mathlib.Core.Bool.{cond, _&&_}
 use mathlib.Core.List.{List, [], _∷_, _++_}
-use lib.Dec.{leb, ltb, eqb}
+use lib.Dec.{leb, eqb}
 use lib.IntN.{ℤ, pos, negsuc}
-use lib.ListN.{length, getD, drop}
-use Rattle.label.specs.Outcome.{Outcome, ok, no, need, _>>=_, _>>_}
-use Rattle.label.specs.Bytes.{empty, join, trim, decimal}
+use lib.ListN.{getD}
+use Rattle.label.specs.Outcome.{Outcome, ok, need, _>>=_, _>>_}
+use Rattle.label.specs.Bytes.{join, trim, decimal}
 use Rattle.label.specs.Text.{isLow, isHigh, braced}
 use Rattle.label.specs.Run.{Run}
 use Rattle.label.specs.Sound.{sound, runOf}
@@ -76,6 +76,7 @@ offsetBytes (negsuc n) = 45 ∷ valueBytes (suc n)
 unfoldable pub mapBytes : ℕ → ℕ → List ℕ
 mapBytes a b = cond (leb a 1 && eqb b 1) [] (40 ∷ (decimal a ++ cond (eqb b 1) [] (58 ∷ decimal b) ++ (41 ∷ [])))
 
+-- an index that is left to the font is empty
 unfoldable pub indexBytes : Index → List ℕ
 indexBytes Font = []
 indexBytes (Named n) = decimal n
@@ -93,7 +94,7 @@ written (suc n) cs (g ∷ gs) = entryBytes 1 1 g ∷ written n cs gs
 written zero [] (g ∷ gs) = []
 written zero (c ∷ cs) (g ∷ gs) = entryBytes (c .units) (c .glyphs) g ∷ written (c .glyphs - 1) cs gs
 
--- "joined by `;`"; "Trailing 1:1 entries that are wholly the font's drop": those are the entries without bytes (law `empty-is-font`)
+-- "joined by `;`"; "Trailing 1:1 entries that are wholly the font's drop": in a sound run those are the entries without bytes (law `empty-is-font`)
 unfoldable pub indicesOf : List Cluster → List Glyph → List ℕ
 indicesOf cs gs = join 59 (trim (written 0 cs gs))
 

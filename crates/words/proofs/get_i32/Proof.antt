@@ -10,15 +10,12 @@ use Rattle.words.proofs.get_i32.Lts as lts
 use Rattle.words.proofs.get_u32.Reads as get-u32-reads
 use Rattle.words.proofs.of_bits.Reads as of-bits-reads
 
--- src/lib.rt:45:21
 get-u32-requires : tie.Need-get-u32-requires
 get-u32-requires c κs = search needs
 
--- src/lib.rt:45:5
 of-bits-requires : tie.Need-of-bits-requires
 of-bits-requires c κs = search needs
 
--- src/lib.rt:41:1
 returns : tie.Need-returns
 returns c =
     back (c .of-bits .result) (c .of-bits .ok) ∙ c .of-bits .ensures ∙ ap (toZ w32) (c .before .get-u32 .ensures)

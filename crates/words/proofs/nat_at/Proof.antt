@@ -10,19 +10,15 @@ use Rattle.words.proofs.nat_at.Lts as lts
 use Rattle.words.proofs.natural_at.Reads as natural-at-reads
 use Rattle.words.proofs.size_at.Reads as size-at-reads
 
--- src/lib.rt:75:8
 natural-at-requires : tie.Need-natural-at-requires
 natural-at-requires c κs = search needs
 
--- src/lib.rt:76:9
 size-at-requires : tie.Need-size-at-requires
 size-at-requires c κs = search needs
 
--- src/lib.rt:71:1
 returns : tie.Need-returns
 returns c = c .size-at .ensures ∙ nat-natural (getD (c .before .before .before .args .s .now) (c .before .before .before .args .k) (pos 0)) (sym (c .before .before .natural-at .ensures) ∙ c .before .if1 .taken)
 
--- src/lib.rt:71:1
 returns-2 : tie.Need-returns-2
 returns-2 c = nat-negative (getD (c .before .before .args .s .now) (c .before .before .args .k) (pos 0)) (sym (c .before .natural-at .ensures) ∙ c .if1 .left)
 

@@ -7,15 +7,12 @@ use Rattle.words.proofs.natural_at.Tie as tie
 use Rattle.words.proofs.natural_at.Reads as reads
 use Rattle.words.proofs.natural_at.Lts as lts
 
--- src/lib.rt:34:13
 mul-v : tie.Need-mul-v
 mul-v c = search needs
 
--- src/lib.rt:34:13
 shared-slice-copy-out-v : tie.Need-shared-slice-copy-out-v
 shared-slice-copy-out-v c = search needs
 
--- src/lib.rt:30:1
 returns : tie.Need-returns
 returns c = natural-is (getD (c .before .args .s .now) (c .before .args .k) (pos 0)) (c .v .given)
 

@@ -8,19 +8,15 @@ use mir.Val.{toZ}
 use Rattle.words.proofs.of_bits.Statement.{statement}
 use Rattle.words.proofs.of_bits.Tie as tie
 
--- src/lib.rt:57:9
 cast-result : tie.Need-cast-result
 cast-result c = search needs
 
--- src/lib.rt:59:9
 cast-result-2 : tie.Need-cast-result-2
 cast-result-2 c = search needs
 
--- src/lib.rt:53:1
 returns : tie.Need-returns
 returns c = search needs
 
--- src/lib.rt:53:1
 returns-2 : tie.Need-returns-2
 returns-2 c =
     let n = c .before .args .n in

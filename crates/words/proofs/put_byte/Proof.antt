@@ -6,27 +6,21 @@ use Rattle.words.proofs.put_byte.Tie as tie
 use Rattle.words.proofs.put_byte.Reads as reads
 use Rattle.words.proofs.put_byte.Lts as lts
 
--- src/lib.rt:277:16
 add-result : tie.Need-add-result
 add-result c = search needs
 
--- src/lib.rt:277:9
 returns : tie.Need-returns
 returns c = (put-past _ _ _ (c .if1 .taken), omega arith)
 
--- src/lib.rt:279:5
 slice-write-out : tie.Need-slice-write-out
 slice-write-out c = search needs
 
--- src/lib.rt:280:5
 add-result-2 : tie.Need-add-result-2
 add-result-2 c = search needs
 
--- src/lib.rt:271:1
 same-length : tie.Need-same-length
 same-length c = search needs
 
--- src/lib.rt:271:1
 returns-2 : tie.Need-returns-2
 returns-2 c = (put-one _ _ _, omega arith)
 

@@ -11,19 +11,15 @@ use Rattle.words.proofs.put_i32.Lts as lts
 use Rattle.words.proofs.put_u32.Reads as put-u32-reads
 use Rattle.words.proofs.bits.Reads as bits-reads
 
--- src/lib.rt:38:22
 bits-requires : tie.Need-bits-requires
 bits-requires c κs = search needs
 
--- src/lib.rt:38:5
 put-u32-requires : tie.Need-put-u32-requires
 put-u32-requires c κs = search needs
 
--- src/lib.rt:34:1
 same-length : tie.Need-same-length
 same-length c = search needs
 
--- src/lib.rt:34:1
 returns : tie.Need-returns
 returns c =
     let a = c .before .before .before .before .before .before .args in

@@ -9,55 +9,42 @@ use Rattle.words.proofs.put_u32.Tie as tie
 use Rattle.words.proofs.put_u32.Reads as reads
 use Rattle.words.proofs.put_u32.Lts as lts
 
--- src/lib.rt:17:15
 cast-buf : tie.Need-cast-buf
 cast-buf c = omega (arith, and-le-r (c .args .n) 255)
 
--- src/lib.rt:17:5
 slice-write-buf : tie.Need-slice-write-buf
 slice-write-buf c = search needs
 
--- src/lib.rt:18:19
 cast-buf-2 : tie.Need-cast-buf-2
 cast-buf-2 c = omega (arith, and-le-r (c .args .n / 256) 255)
 
--- src/lib.rt:18:9
 add-buf : tie.Need-add-buf
 add-buf c = search needs
 
--- src/lib.rt:18:5
 slice-write-buf-2 : tie.Need-slice-write-buf-2
 slice-write-buf-2 c = simp length-set (omega arith)
 
--- src/lib.rt:19:19
 cast-buf-3 : tie.Need-cast-buf-3
 cast-buf-3 c = omega (arith, and-le-r (c .args .n / 65536) 255)
 
--- src/lib.rt:19:9
 add-buf-2 : tie.Need-add-buf-2
 add-buf-2 c = search needs
 
--- src/lib.rt:19:5
 slice-write-buf-3 : tie.Need-slice-write-buf-3
 slice-write-buf-3 c = simp length-set (omega arith)
 
--- src/lib.rt:20:19
 cast-buf-4 : tie.Need-cast-buf-4
 cast-buf-4 c = omega (arith, and-le-r (c .args .n / 16777216) 255)
 
--- src/lib.rt:20:9
 add-buf-3 : tie.Need-add-buf-3
 add-buf-3 c = search needs
 
--- src/lib.rt:20:5
 slice-write-buf-4 : tie.Need-slice-write-buf-4
 slice-write-buf-4 c = search needs
 
--- src/lib.rt:13:1
 same-length : tie.Need-same-length
 same-length c = search needs
 
--- src/lib.rt:13:1
 returns : tie.Need-returns
 unfolding putWord
 returns c =

@@ -11,19 +11,15 @@ use Rattle.words.proofs.size.Reads as reads
 use Rattle.words.proofs.size.Lts as lts
 use Rattle.words.proofs.bits.Reads as bits-reads
 
--- src/lib.rt:67:9
 bits-requires : tie.Need-bits-requires
 bits-requires c κs = search needs
 
--- src/lib.rt:68:37
 sub-result : tie.Need-sub-result
 sub-result c = search needs
 
--- src/lib.rt:68:37
 add-result : tie.Need-add-result
 add-result c = search needs
 
--- src/lib.rt:64:1
 returns : tie.Need-returns
 returns c =
     let v = c .before .before .args .v in
@@ -31,7 +27,6 @@ returns c =
     let e : c .before .bits .result ≡ ofZ w32 v = c .before .bits .ensures ∙ ap (ofZ w32) (toZ-ofZ f) in
     e ∙ size-low v f (omega (arith, e))
 
--- src/lib.rt:64:1
 returns-2 : tie.Need-returns-2
 returns-2 c =
     let v = c .before .before .args .v in

@@ -9,19 +9,15 @@ use Rattle.words.proofs.size_at.Reads as reads
 use Rattle.words.proofs.size_at.Lts as lts
 use Rattle.words.proofs.size.Reads as size-reads
 
--- src/lib.rt:50:13
 mul-v : tie.Need-mul-v
 mul-v c = search needs
 
--- src/lib.rt:50:13
 shared-slice-copy-out-v : tie.Need-shared-slice-copy-out-v
 shared-slice-copy-out-v c = search needs
 
--- src/lib.rt:51:5
 size-requires : tie.Need-size-requires
 size-requires c κs = search needs
 
--- src/lib.rt:46:1
 returns : tie.Need-returns
 returns c = c .size .ensures ∙ size-is (getD (c .before .before .args .s .now) (c .before .before .args .k) (pos 0)) (c .before .v .given)
 

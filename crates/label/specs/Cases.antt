@@ -1,0 +1,176 @@
+-- Edges of the calls, computed from the definitions: soundness and writing, picks, faults, the list of records, and the calls over bytes.
+-- Assumes nothing.
+use Prim.Native.Nat.{ℕ}
+use mathlib.Core.Path.{_≡_, refl}
+use mathlib.Core.List.{List, [], _∷_, map}
+use mathlib.Core.Bool.{true, false}
+use lib.IntN.{ℤ, pos, negsuc}
+use lib.ListN.{replicate}
+use Rattle.label.specs.Outcome.{Outcome, ok, no}
+use Rattle.label.specs.Bytes.{split, cut, allDigits, valueFrom, joinRest, join, trim, decimalFrom, decimal}
+use Rattle.label.specs.Text.{lead, trail, starts, scalar, xmlChar, unitsOf, decode, textUnits}
+use Rattle.label.specs.Entry.{unsigned, isDecimals, isNumber, mantissaDigits, fractionDigits, exponentDigits, nearest, scaled, thousandths, numberFits, isIndexPart, indexDigits, mapUnits, mapGlyphs, isAdvance, isOffset, wellFormed, fieldFits, indexOf, advanceOf, offsetOf, entryOf, entry, entries}
+use Rattle.label.specs.Run.{tail, placed, step, walk, runFrom, read}
+use Rattle.label.specs.Sound.{wholeClusters, wholeGlyphs, clustersOf, glyphsOf, properUnits, fits, soundRun, sound, flatClusters, flatGlyphs}
+use Rattle.label.specs.Write.{utf8, unitBytes, unitsBytes, textOf, fraction, valueBytes, advanceBytes, offsetBytes, mapBytes, indexBytes, entryBytes, written, indicesOf, Label, write}
+use Rattle.label.specs.Pick.{stretch, holding, touched, turned, pickUnits, pickGlyphs}
+use Rattle.label.specs.Fault.{startOf, portion, faultPart}
+use Rattle.label.specs.Calls.{readInto, writeInto, listInto, listedCount, counted, lengths}
+use Rattle.label.specs.Wire.{fromHalves, fromWords, halves, words, signed, evenBytes, wordBytes, readBytes, writeBytes, unitBytesAfter, clusterBytesAfter, glyphBytesAfter}
+use Rattle.label.specs.Relabel.{relabelRead}
+use Rattle.label.specs.Labels.{ascii}
+use Rattle.label.specs.declared.Part.{Part}
+use Rattle.label.specs.declared.Stretch.{Stretch}
+
+-- ── runs: the units, the clusters' numbers, the glyphs' numbers ──
+
+pub record Places : Type 0 where
+  pub units : List ℕ
+  pub clusters : List ℤ
+  pub glyphs : List ℤ
+
+abbrev places : List ℕ → List ℤ → List ℤ → Places
+places us cs gs = record { units = us; clusters = cs; glyphs = gs }
+
+-- a glyph's four numbers with only the index named, and wholly the font's
+abbrev plain : ℕ → List ℤ → List ℤ
+plain n zs = pos n ∷ negsuc 0 ∷ pos 0 ∷ pos 0 ∷ zs
+
+abbrev font : List ℤ → List ℤ
+font zs = negsuc 0 ∷ negsuc 0 ∷ pos 0 ∷ pos 0 ∷ zs
+
+-- units ABCD in clusters 1:1, 2:3, 1:1
+abbrev four : Places
+four = places (ascii "ABCD") (pos 1 ∷ pos 1 ∷ pos 2 ∷ pos 3 ∷ pos 1 ∷ pos 1 ∷ []) (plain 5 (plain 6 (plain 7 (plain 8 (font [])))))
+
+abbrev label : List ℕ → List ℕ → Outcome Label
+label t i = ok (record { text = t; indices = i })
+
+-- what the writer makes of a run, sound or not
+pub record Writes : Type 0 where
+  pub run : Places
+  pub answer : Outcome Label
+
+abbrev writes : Places → Outcome Label → Writes
+writes r a = record { run = r; answer = a }
+
+unfoldable pub writings : List Writes
+writings =
+    writes four (label (ascii "ABCD") (ascii "5;(2:3)6;7;8")) ∷
+    -- an index or an advance below −1, an index above its limit, an offset above its limit
+    writes (places (ascii "A") (pos 1 ∷ pos 1 ∷ []) (negsuc 1 ∷ negsuc 0 ∷ pos 0 ∷ pos 0 ∷ [])) (no 19 0) ∷
+    writes (places (ascii "A") (pos 1 ∷ pos 1 ∷ []) (pos 5 ∷ negsuc 1 ∷ pos 0 ∷ pos 0 ∷ [])) (no 19 0) ∷
+    writes (places (ascii "A") (pos 1 ∷ pos 1 ∷ []) (plain 65_536 [])) (no 19 0) ∷
+    writes (places (ascii "A") (pos 1 ∷ pos 1 ∷ []) (pos 5 ∷ negsuc 0 ∷ negsuc 1_000_000_000 ∷ pos 0 ∷ [])) (no 19 0) ∷
+    writes (places (ascii "A") (pos 1 ∷ pos 1 ∷ []) (pos 5 ∷ negsuc 0 ∷ negsuc 999_999_999 ∷ pos 0 ∷ [])) (label (ascii "A") (ascii "5,,-1000000")) ∷
+    -- 0:1 among units, and without any; nothing at all
+    writes (places (ascii "A") (pos 0 ∷ pos 1 ∷ pos 1 ∷ pos 1 ∷ []) (plain 5 (plain 6 []))) (no 19 0) ∷
+    writes (places [] (pos 0 ∷ pos 1 ∷ []) (plain 5 [])) (label [] (ascii "5")) ∷
+    writes (places [] [] []) (no 19 0) ∷
+    -- a font's index in a cluster 2:1, inside a cluster, and in a cluster 1:1 with an advance
+    writes (places (ascii "AB") (pos 2 ∷ pos 1 ∷ []) (font [])) (no 19 0) ∷
+    writes (places (ascii "A") (pos 1 ∷ pos 2 ∷ []) (plain 5 (font []))) (no 19 0) ∷
+    writes (places (ascii "A") (pos 1 ∷ pos 1 ∷ []) (negsuc 0 ∷ pos 0 ∷ pos 0 ∷ pos 0 ∷ [])) (label (ascii "A") (ascii ",0")) ∷
+    -- a lone half, a pair that a cluster splits, a pair
+    writes (places (0xd83d ∷ []) (pos 1 ∷ pos 1 ∷ []) (plain 5 [])) (no 19 0) ∷
+    writes (places (0xd83d ∷ 0xde00 ∷ []) (pos 1 ∷ pos 1 ∷ pos 1 ∷ pos 1 ∷ []) (plain 5 (plain 6 []))) (no 19 0) ∷
+    writes (places (0xd83d ∷ 0xde00 ∷ []) (pos 2 ∷ pos 1 ∷ []) (plain 5 [])) (label (0xf0 ∷ 0x9f ∷ 0x98 ∷ 0x80 ∷ []) (ascii "(2)5")) ∷
+    -- half a cluster, units left over, glyphs left over
+    writes (places (ascii "A") (pos 1 ∷ pos 1 ∷ pos 1 ∷ []) (plain 5 [])) (no 19 0) ∷
+    writes (places (ascii "AB") (pos 1 ∷ pos 1 ∷ []) (plain 5 [])) (no 19 0) ∷
+    writes (places (ascii "A") (pos 1 ∷ pos 1 ∷ []) (plain 5 (plain 6 []))) (no 19 0) ∷
+    []
+
+-- ── picks in the run above: of glyphs, and of units ──
+
+pub record Picked : Type 0 where
+  pub first : ℕ
+  pub end : ℕ
+  pub units : Outcome Stretch
+  pub glyphs : Outcome Stretch
+
+abbrev picked : ℕ → ℕ → Outcome Stretch → Outcome Stretch → Picked
+picked a b u g = record { first = a; end = b; units = u; glyphs = g }
+
+unfoldable pub picks : List Picked
+picks =
+    picked 0 1 (ok (stretch 0 1)) (ok (stretch 0 1)) ∷
+    picked 2 3 (ok (stretch 1 3)) (ok (stretch 1 4)) ∷
+    picked 1 2 (ok (stretch 1 3)) (ok (stretch 1 4)) ∷
+    picked 0 2 (ok (stretch 0 3)) (ok (stretch 0 4)) ∷
+    picked 3 5 (ok (stretch 1 4)) (no 22 0) ∷
+    picked 3 4 (ok (stretch 1 3)) (ok (stretch 4 5)) ∷
+    picked 0 5 (ok (stretch 0 4)) (no 22 0) ∷
+    picked 0 6 (no 22 0) (no 22 0) ∷
+    picked 1 1 (no 22 0) (no 22 0) ∷
+    picked 2 1 (no 22 0) (no 22 0) ∷
+    []
+
+-- ── faults of the text `{a` and the indices `(1:2)5;` ──
+
+pub record Shown : Type 0 where
+  pub number : ℕ
+  pub place : ℕ
+  pub part : Part
+
+abbrev shown : ℕ → ℕ → Part → Shown
+shown n p x = record { number = n; place = p; part = x }
+
+unfoldable pub faults : List Shown
+faults =
+    -- 2 to 4 show the text from the place on; its length is past the last
+    shown 2 1 (portion false 1 1) ∷ shown 4 0 (portion false 0 2) ∷ shown 3 2 (portion false 0 0) ∷
+    -- 7 to 12 and 14 show an entry, an empty one at its own start; the count of entries is past the last
+    shown 7 0 (portion true 0 6) ∷ shown 11 1 (portion true 7 0) ∷ shown 14 0 (portion true 0 6) ∷ shown 12 2 (portion false 0 0) ∷
+    -- any other number
+    shown 1 0 (portion false 0 0) ∷ shown 5 0 (portion false 0 0) ∷ shown 6 0 (portion false 0 0) ∷ shown 13 1 (portion false 0 0) ∷ shown 15 0 (portion false 0 0) ∷
+    []
+
+-- each run is written, each stretch picked and each fault shown as its row says
+pub calls-agree : (map (λ (w : Writes). write (w .run .units) (w .run .clusters) (w .run .glyphs)) writings ≡ map (λ (w : Writes). w .answer) writings)
+    × (map (λ (p : Picked). pickUnits (four .units) (four .clusters) (four .glyphs) (p .first) (p .end)) picks ≡ map (λ (p : Picked). p .units) picks)
+    × (map (λ (p : Picked). pickGlyphs (four .units) (four .clusters) (four .glyphs) (p .first) (p .end)) picks ≡ map (λ (p : Picked). p .glyphs) picks)
+    × (map (λ (s : Shown). faultPart (ascii "{a") (ascii "(1:2)5;") (s .number) (s .place)) faults ≡ map (λ (s : Shown). s .part) faults)
+unfolding writings picks faults ascii wholeClusters wholeGlyphs clustersOf glyphsOf properUnits fits soundRun sound xmlChar split join joinRest trim decimalFrom decimal utf8 unitBytes unitsBytes textOf fraction valueBytes advanceBytes offsetBytes mapBytes indexBytes entryBytes written indicesOf write holding touched turned pickUnits pickGlyphs startOf faultPart entries
+calls-agree = (refl, refl, refl, refl)
+
+-- an unsound run is 19 even where the stretch is bad; without units a good stretch gives 0 to 0
+pub edge-picks : (pickUnits (ascii "A") [] [] 1 1 ≡ no 19 0) × (pickUnits [] (pos 0 ∷ pos 1 ∷ []) (plain 5 []) 0 1 ≡ ok (stretch 0 0))
+    × (pickGlyphs [] (pos 0 ∷ pos 1 ∷ []) (plain 5 []) 0 1 ≡ no 22 0)
+unfolding ascii wholeClusters wholeGlyphs clustersOf glyphsOf properUnits fits soundRun sound xmlChar holding touched turned pickUnits pickGlyphs
+edge-picks = (refl, refl, refl)
+
+-- the list of records: 19, then 18 with the glyphs needed, then the count
+pub listings : (listedCount (listInto 5 (four .units) (four .clusters) (four .glyphs)) ≡ ok 5) × (listedCount (listInto 4 (four .units) (four .clusters) (four .glyphs)) ≡ no 18 5)
+    × (listedCount (listInto 0 (ascii "A") [] []) ≡ no 19 0)
+unfolding ascii wholeClusters wholeGlyphs clustersOf glyphsOf properUnits fits soundRun sound xmlChar listInto
+listings = (refl, refl, refl)
+
+-- the label `A` with `5,,-1` into bytes: a byte too few is 16, 17 or 18; bytes left over and bytes behind stay
+pub byte-readings : (counted (readBytes 1 8 16 (ascii "A") (ascii "5,,-1")) ≡ no 16 1) × (counted (readBytes 2 7 16 (ascii "A") (ascii "5,,-1")) ≡ no 17 1)
+    × (counted (readBytes 2 8 15 (ascii "A") (ascii "5,,-1")) ≡ no 18 1)
+    × (counted (readBytes 2 8 16 (ascii "A") (ascii "5,,-1")) ≡ ok (record { units = 1; clusters = 1; glyphs = 1 }))
+    × (unitBytesAfter (readBytes 3 8 17 (ascii "A") (ascii "5,,-1")) (7 ∷ 8 ∷ 9 ∷ []) ≡ 65 ∷ 0 ∷ 9 ∷ [])
+    × (clusterBytesAfter (readBytes 3 8 17 (ascii "A") (ascii "5,,-1")) (replicate 8 7) ≡ 1 ∷ 0 ∷ 0 ∷ 0 ∷ 1 ∷ 0 ∷ 0 ∷ 0 ∷ [])
+    × (glyphBytesAfter (readBytes 3 8 17 (ascii "A") (ascii "5,,-1")) (replicate 17 7) ≡ 5 ∷ 0 ∷ 0 ∷ 0 ∷ 255 ∷ 255 ∷ 255 ∷ 255 ∷ 24 ∷ 252 ∷ 255 ∷ 255 ∷ 0 ∷ 0 ∷ 0 ∷ 0 ∷ 7 ∷ [])
+unfolding ascii split cut allDigits valueFrom joinRest join trim decimalFrom decimal lead trail starts scalar xmlChar unitsOf decode textUnits unsigned isDecimals isNumber mantissaDigits fractionDigits exponentDigits nearest scaled thousandths numberFits isIndexPart indexDigits mapUnits mapGlyphs isAdvance isOffset wellFormed fieldFits indexOf advanceOf offsetOf entryOf entry entries tail placed step walk runFrom read readInto readBytes flatClusters flatGlyphs fromHalves fromWords
+byte-readings = (refl, refl, refl, refl, refl, refl, refl)
+
+-- a run handed in as bytes: low byte first; a byte left over in any of the three is 19
+abbrev glyphBytes : List ℕ
+glyphBytes = 5 ∷ 0 ∷ 0 ∷ 0 ∷ 255 ∷ 255 ∷ 255 ∷ 255 ∷ 24 ∷ 252 ∷ 255 ∷ 255 ∷ 0 ∷ 0 ∷ 0 ∷ 0 ∷ []
+
+abbrev clusterBytes : List ℕ
+clusterBytes = 1 ∷ 0 ∷ 0 ∷ 0 ∷ 1 ∷ 0 ∷ 0 ∷ 0 ∷ []
+
+pub byte-writings : (lengths (writeBytes 1 5 (65 ∷ 0 ∷ []) clusterBytes glyphBytes) ≡ ok (record { text = 1; indices = 5 }))
+    × (lengths (writeBytes 0 4 (65 ∷ 0 ∷ []) clusterBytes glyphBytes) ≡ no 20 1) × (lengths (writeBytes 1 4 (65 ∷ 0 ∷ []) clusterBytes glyphBytes) ≡ no 21 5)
+    × (lengths (writeBytes 9 9 (65 ∷ 0 ∷ 0 ∷ []) clusterBytes glyphBytes) ≡ no 19 0) × (lengths (writeBytes 9 9 (65 ∷ 0 ∷ []) (1 ∷ 0 ∷ 0 ∷ 0 ∷ 1 ∷ 0 ∷ 0 ∷ 0 ∷ 0 ∷ []) glyphBytes) ≡ no 19 0)
+    × (lengths (writeBytes 9 9 (65 ∷ 0 ∷ []) clusterBytes (5 ∷ 0 ∷ 0 ∷ 0 ∷ 255 ∷ 255 ∷ 255 ∷ 255 ∷ 24 ∷ 252 ∷ 255 ∷ 255 ∷ 0 ∷ 0 ∷ 0 ∷ 0 ∷ 0 ∷ [])) ≡ no 19 0)
+unfolding ascii wholeClusters wholeGlyphs clustersOf glyphsOf properUnits fits soundRun sound xmlChar join joinRest trim decimalFrom decimal utf8 unitBytes unitsBytes textOf fraction valueBytes advanceBytes offsetBytes mapBytes indexBytes entryBytes written indicesOf write writeInto writeBytes evenBytes wordBytes halves words signed
+byte-writings = (refl, refl, refl, refl, refl, refl)
+
+-- `relabel`'s second line: 32,769 bytes are as for 1
+pub long-line : relabelRead (ascii "A") (replicate 32_769 48) ≡ no 1 0
+unfolding relabelRead
+long-line = refl
