@@ -54,7 +54,7 @@ pub lead-no : (b : ℕ) (t : List ℕ) → isDigit b ≡ false → lead (b ∷ t
 lead-no b t e = rw e
 
 module _ (s : List ℕ) (i : ℕ) (h : i < length s) where
-  pub lead-at : isDigit (getD s i 0) ≡ true → lead (drop i s) ≡ getD s i 0 ∷ lead (drop (i + 1) s)
+  lead-at : isDigit (getD s i 0) ≡ true → lead (drop i s) ≡ getD s i 0 ∷ lead (drop (i + 1) s)
   lead-at e = rw (add-one, drop-cons s i 0 h) (lead-yes (getD s i 0) (drop (suc i) s) e)
 
   pub lead-stop : isDigit (getD s i 0) ≡ false → lead (drop i s) ≡ []

@@ -33,20 +33,20 @@ abbrev isComma : ℕ → Bool
 isComma b = eqb b 44
 
 -- the parts behind a rest that is nothing or begins with a comma
-abbrev pub tails : List ℕ → List (List ℕ)
+abbrev tails : List ℕ → List (List ℕ)
 tails [] = []
 tails (b ∷ w) = split 44 w
 
-pub record Comma (t : List ℕ) : Type 0 where
-  pub p : List ℕ
-  pub r : List ℕ
-  pub is : t ≡ p ++ r
-  pub free : none isBreak p ≡ true
-  pub semi : none isSemi r ≡ true
-  pub end : ends isComma r ≡ true
-  pub parts : split 44 t ≡ p ∷ tails r
+record Comma (t : List ℕ) : Type 0 where
+  p : List ℕ
+  r : List ℕ
+  is : t ≡ p ++ r
+  free : none isBreak p ≡ true
+  semi : none isSemi r ≡ true
+  end : ends isComma r ≡ true
+  parts : split 44 t ≡ p ∷ tails r
 
-pub comma : (t : List ℕ) → none isSemi t ≡ true → Comma t
+comma : (t : List ℕ) → none isSemi t ≡ true → Comma t
 comma t s = go (cutting isComma t)
   where
     go : Cutting isComma t → Comma t
@@ -77,15 +77,15 @@ ends-both [] (b ∷ r0) h k = cases (eqb b 44) (λ e. rw e) (λ e. rw (e, k))
 ends-both (b ∷ r) r0 h k = rw h
 
 -- one part more, and the field scanned there; r0 is what follows the entry
-pub record Next (r r0 : List ℕ) : Type 0 where
-  pub p : List ℕ
-  pub r' : List ℕ
-  pub fld : Fielded p (r' ++ r0) (r ++ r0)
-  pub end : ends isComma r' ≡ true
-  pub semi : none isSemi r' ≡ true
-  pub first : getD (tails r) 0 [] ≡ p
-  pub others : (n : ℕ) → getD (tails r) (suc n) [] ≡ getD (tails r') n []
-  pub count : (n : ℕ) → leb (length (tails r)) (suc n) ≡ leb (length (tails r')) n
+record Next (r r0 : List ℕ) : Type 0 where
+  p : List ℕ
+  r' : List ℕ
+  fld : Fielded p (r' ++ r0) (r ++ r0)
+  end : ends isComma r' ≡ true
+  semi : none isSemi r' ≡ true
+  first : getD (tails r) 0 [] ≡ p
+  others : (n : ℕ) → getD (tails r) (suc n) [] ≡ getD (tails r') n []
+  count : (n : ℕ) → leb (length (tails r)) (suc n) ≡ leb (length (tails r')) n
 
 none-left-over : (r0 : List ℕ) → ends isSemi r0 ≡ true → Fielded [] r0 r0
 unfolding fieldOf isOffset
@@ -94,7 +94,7 @@ none-left-over (b ∷ r0) h =
     let q : b ≡ 59 = eqb-true b 59 h in
     fb.good refl (rw q) (rw q) (rw q) (rw q) (rw q)
 
-pub next : (r r0 : List ℕ) → ends isComma r ≡ true → none isSemi r ≡ true → ends isSemi r0 ≡ true → Next r r0
+next : (r r0 : List ℕ) → ends isComma r ≡ true → none isSemi r ≡ true → ends isSemi r0 ≡ true → Next r r0
 next [] r0 h s k =
     record {
       p = [];

@@ -20,7 +20,7 @@ use Rattle.entry.specs.Parts.{fieldOf, notGiven, givenBy}
 use Rattle.entry.proofs.NumberBridge.{signed, none-unsigned, sizedAs, Numbered, number-is}
 use Rattle.entry.proofs.NumberBridge as nb
 
-pub or-left : (a b : Bool) → (a || b) ≡ false → a ≡ false
+or-left : (a b : Bool) → (a || b) ≡ false → a ≡ false
 or-left true b h = h
 or-left false b h = refl
 

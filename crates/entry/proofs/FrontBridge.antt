@@ -17,10 +17,10 @@ use Rattle.entry.specs.Digits.{headOf, ends, isBreak, lead}
 use Rattle.entry.specs.Parts.{Map, mapOf, mapBy, badMap, noMap, oneMap, twoMap, indexAt, frontOk}
 use Rattle.entry.proofs.Scan.{after, Front, full, odd, front, Cutting, whole, parted, cutting, none-left, none-right, some-is, at-break}
 
-abbrev pub isClose : ℕ → Bool
+abbrev isClose : ℕ → Bool
 isClose b = eqb b 41
 
-abbrev pub isColon : ℕ → Bool
+abbrev isColon : ℕ → Bool
 isColon b = eqb b 58
 
 pub data Headed (x r t : List ℕ) : Type 0 where

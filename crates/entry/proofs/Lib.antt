@@ -7,6 +7,5 @@ pub mod FieldBridge
 pub mod FrontBridge
 pub mod EntryBridge
 pub mod EntryLaws
-pub mod CutLaws
 pub mod DecimalLaws
 pub mod WriteLaws

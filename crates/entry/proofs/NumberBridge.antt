@@ -22,7 +22,7 @@ use Rattle.entry.proofs.NumberLaws.{expo-none, expo-some}
 use Rattle.entry.proofs.Scan.{after, Front, full, odd, front, Cutting, whole, parted, cutting, none-left, none-right, none-or, some-is, at-break}
 
 -- the part before an exponent ends at a comma, at an `e`, and at the end
-abbrev pub isTail : ℕ → Bool
+abbrev isTail : ℕ → Bool
 isTail b = isBreak b || isE b
 
 tail-head : (s : List ℕ) → ends isTail s ≡ true → (t : ℕ → Bool) → t 44 ≡ false → t 59 ≡ false → t 101 ≡ false → t 69 ≡ false → t 0 ≡ false → t (headOf s) ≡ false
@@ -37,10 +37,10 @@ tail-head (b ∷ s) h t p k q r z =
 -- ── before the exponent ──
 
 -- what k scanned bytes of the part u come to
-abbrev pub cutMant : List ℕ → ℕ → Mant
+abbrev cutMant : List ℕ → ℕ → Mant
 cutMant u k = record { ok = true; used = k; digits = cut isPoint u .before ++ cut isPoint u .after; behind = length (cut isPoint u .after) }
 
-pub data Manted (u s t : List ℕ) : Type 0 where
+data Manted (u s t : List ℕ) : Type 0 where
   good : isDecimals u ≡ true → (k : ℕ)
       → mantissaOf t ≡ cutMant u k
       → drop k t ≡ s → Manted u s t
@@ -85,7 +85,7 @@ mant-pointed-part d f s p nd nf h u c = outer (front d (46 ∷ (f ++ s)) refl)
     outer (full a l g) = inner (rw (g, l, seam)) a f refl (front f s (tail-head s h isDigit refl refl refl refl refl))
     outer (odd a b y g k) = wrong (rw (c, a)) (rw (g, k isPoint p, g, k isTail nd, and-false))
 
-pub mant : (u s : List ℕ) → none isTail u ≡ true → ends isTail s ≡ true → Manted u s (u ++ s)
+mant : (u s : List ℕ) → none isTail u ≡ true → ends isTail s ≡ true → Manted u s (u ++ s)
 mant u s n h = go (cutting isPoint u)
   where
     go : Cutting isPoint u → Manted u s (u ++ s)

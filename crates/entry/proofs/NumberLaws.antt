@@ -28,7 +28,7 @@ use Rattle.entry.proofs.ValueLaws.{ten-mono}
 step-small : (v d p w : ℕ) → d ≤ 9 → w < (v * 10 + d + 1) * p → w < (v + 1) * (p * 10)
 step-small v d p w h k = omega (arith, mul-le-mul-right p h)
 
-pub value-small : (t : List ℕ) (v : ℕ) → valueFrom v (lead t) < (v + 1) * 10 ^ length (lead t)
+value-small : (t : List ℕ) (v : ℕ) → valueFrom v (lead t) < (v + 1) * 10 ^ length (lead t)
 unfolding valueFrom
 value-small [] v = omega arith
 value-small (b ∷ t) v = go (isDigit b) refl (value-small t (v * 10 + (b - 48)))
@@ -38,19 +38,19 @@ value-small (b ∷ t) v = go (isDigit b) refl (value-small t (v * 10 + (b - 48))
     go true e ih = rw (lead-yes b t e, pow-suc 10 (length (lead t))) (step-small v (b - 48) (10 ^ length (lead t)) (valueFrom (v * 10 + (b - 48)) (lead t)) (omega (arith, digit-high b e)) ih)
     go false e ih = rw (lead-no b t e) (omega arith)
 
-pub lead-small : (t : List ℕ) → value (lead t) < 10 ^ length (lead t)
+lead-small : (t : List ℕ) → value (lead t) < 10 ^ length (lead t)
 lead-small t = omega (arith, value-small t 0)
 
 -- two runs of digits as one number
-pub leads-small : (t u : List ℕ) → value (lead t ++ lead u) < 10 ^ length (lead t ++ lead u)
+leads-small : (t u : List ℕ) → value (lead t ++ lead u) < 10 ^ length (lead t ++ lead u)
 leads-small t u =
     rw (value-append 0 (lead t) (lead u), length-append (lead t) (lead u), pow-add 10 (length (lead t)) (length (lead u)))
     (lt-of-lt-of-le (value-small u (value (lead t))) (mul-le-mul-right (10 ^ length (lead u)) (omega (arith, lead-small t))))
 
-pub within : (n k v : ℕ) → n ≤ k → v < 10 ^ n → v < 10 ^ k
+within : (n k v : ℕ) → n ≤ k → v < 10 ^ n → v < 10 ^ k
 within n k v h p = lt-of-lt-of-le p (ten-mono n k h)
 
-pub mant-small : (t : List ℕ) → value (mantissaOf t .digits) < 10 ^ length (mantissaOf t .digits)
+mant-small : (t : List ℕ) → value (mantissaOf t .digits) < 10 ^ length (mantissaOf t .digits)
 unfolding mantissaOf
 mant-small t = go (eqb (headOf (drop (length (lead t)) t)) 46)
   where
@@ -58,7 +58,7 @@ mant-small t = go (eqb (headOf (drop (length (lead t)) t)) 46)
     go true = leads-small t (drop (length (lead t) + 1) t)
     go false = lead-small t
 
-pub mant-behind : (t : List ℕ) → mantissaOf t .behind ≤ length (mantissaOf t .digits)
+mant-behind : (t : List ℕ) → mantissaOf t .behind ≤ length (mantissaOf t .digits)
 unfolding mantissaOf
 mant-behind t = go (eqb (headOf (drop (length (lead t)) t)) 46)
   where
@@ -66,7 +66,7 @@ mant-behind t = go (eqb (headOf (drop (length (lead t)) t)) 46)
     go true = omega (arith, length-append (lead t) (lead (drop (length (lead t) + 1) t)))
     go false = omega arith
 
-pub expo-small : (t : List ℕ) → value (exponentOf t .digits) < 10 ^ length (exponentOf t .digits)
+expo-small : (t : List ℕ) → value (exponentOf t .digits) < 10 ^ length (exponentOf t .digits)
 unfolding exponentOf
 expo-small t = go (isE (headOf t))
   where
@@ -75,25 +75,25 @@ expo-small t = go (isE (headOf t))
     go false = lead-small []
 
 module _ (m : Mant) (x : Expo) where
-  pub size-long : 18 < length (m .digits) → sizeOf m x ≡ Over
+  size-long : 18 < length (m .digits) → sizeOf m x ≡ Over
   size-long h = rw (lt-leb (length (m .digits)) 18 h)
 
-  pub size-far : length (m .digits) ≤ 18 → 2 < length (x .digits) → sizeOf m x ≡ Over
+  size-far : length (m .digits) ≤ 18 → 2 < length (x .digits) → sizeOf m x ≡ Over
   size-far h k = rw (le-leb (length (m .digits)) 18 h, lt-leb (length (x .digits)) 2 k)
 
-  pub size-is : length (m .digits) ≤ 18 → length (x .digits) ≤ 2
+  size-is : length (m .digits) ≤ 18 → length (x .digits) ≤ 2
       → sizeOf m x ≡ sized (scaled (value (m .digits)) (m .behind) (x .negative) (value (x .digits)))
   size-is h k = rw (le-leb (length (m .digits)) 18 h, le-leb (length (x .digits)) 2 k)
 
-pub mant-pointed : (t : List ℕ) → headOf (drop (length (lead t)) t) ≡ 46 → mantissaOf t ≡ pointed (lead t) (lead (drop (length (lead t) + 1) t))
+mant-pointed : (t : List ℕ) → headOf (drop (length (lead t)) t) ≡ 46 → mantissaOf t ≡ pointed (lead t) (lead (drop (length (lead t) + 1) t))
 unfolding mantissaOf
 mant-pointed t h = rw (eq-eqb _ _ h)
 
-pub mant-plain : (t : List ℕ) → (headOf (drop (length (lead t)) t) ≡ 46 → ⊥) → mantissaOf t ≡ plain (lead t)
+mant-plain : (t : List ℕ) → (headOf (drop (length (lead t)) t) ≡ 46 → ⊥) → mantissaOf t ≡ plain (lead t)
 unfolding mantissaOf
 mant-plain t h = rw (ne-eqb _ _ h)
 
-pub cut-append : (a b : List ℕ) → min (valueFrom (min (value a) cap) b) cap ≡ min (value (a ++ b)) cap
+cut-append : (a b : List ℕ) → min (valueFrom (min (value a) cap) b) cap ≡ min (value (a ++ b)) cap
 cut-append a b = rw (value-append 0 a b) (cut-from b (min (value a) cap) (value a) (omega arith))
 
 -- what the code makes of two runs of digits
@@ -110,20 +110,20 @@ module _ (s : List ℕ) (at : ℕ) (r : Digits) (e : r ≡ digitsFrom 0 (drop at
       let g : headOf (drop (length (lead (drop at s))) (drop at s)) ≡ 46 → ⊥ = rw drop-drop (rw e at h) in
       rw (mant-plain (drop at s) g, e)
 
-pub sign-le : (b : ℕ) → signLength b ≤ 1
+sign-le : (b : ℕ) → signLength b ≤ 1
 sign-le b = go (eqb b 43 || eqb b 45)
   where
     go : (p : Bool) → cond p 1 0 ≤ 1
     go true = omega arith
     go false = omega arith
 
-pub sign-in : (s : List ℕ) (i : ℕ) → i ≤ length s → i + signLength (headOf (drop i s)) ≤ length s
+sign-in : (s : List ℕ) (i : ℕ) → i ≤ length s → i + signLength (headOf (drop i s)) ≤ length s
 sign-in [] zero h = omega arith
 sign-in [] (suc i) h = omega arith
 sign-in (x ∷ s) zero h = omega (arith, sign-le x)
 sign-in (x ∷ s) (suc i) h = omega (arith, sign-in s i (omega arith))
 
-pub exponent-in : (s : List ℕ) (i : ℕ) → isE (headOf (drop i s)) ≡ true → i < length s
+exponent-in : (s : List ℕ) (i : ℕ) → isE (headOf (drop i s)) ≡ true → i < length s
 exponent-in [] zero e = let z : _≡_ {A = ℕ} 0 1 = cc in omega arith
 exponent-in [] (suc i) e = let z : _≡_ {A = ℕ} 0 1 = cc in omega arith
 exponent-in (x ∷ s) zero e = omega arith
@@ -160,7 +160,7 @@ module _ (t : List ℕ) (m : Mantissa) (e : m ≡ cutMantissa (mantissaOf t)) (h
   mant-below : value (mantissaOf t .digits) < cap
   mant-below = within (length (mantissaOf t .digits)) 18 (value (mantissaOf t .digits)) mant-count (mant-small t)
 
-  pub mant-exact : m .value ≡ value (mantissaOf t .digits)
+  mant-exact : m .value ≡ value (mantissaOf t .digits)
   mant-exact = rw e (omega (arith, mant-below))
 
   pub mant-asked : (m .value < cap) × (m .behind ≤ 18)
@@ -173,7 +173,7 @@ module _ (t : List ℕ) (x : Exponent) (e : x ≡ cutExponent (exponentOf t)) (h
   expo-below : value (exponentOf t .digits) < 10 ^ 2
   expo-below = within (length (exponentOf t .digits)) 2 (value (exponentOf t .digits)) expo-count (expo-small t)
 
-  pub expo-exact : x .value ≡ value (exponentOf t .digits)
+  expo-exact : x .value ≡ value (exponentOf t .digits)
   expo-exact = rw e (omega (arith, expo-below))
 
   pub expo-asked : x .value ≤ 99

@@ -19,7 +19,7 @@ use Rattle.entry.proofs.DigitLaws.{lead-yes, lead-no}
 abbrev pub after : List ℕ → List ℕ
 after t = drop (length (lead t)) t
 
-pub lead-none : (r : List ℕ) → isDigit (headOf r) ≡ false → lead r ≡ []
+lead-none : (r : List ℕ) → isDigit (headOf r) ≡ false → lead r ≡ []
 lead-none [] h = refl
 lead-none (b ∷ r) h = lead-no b r h
 

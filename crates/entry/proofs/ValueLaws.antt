@@ -1,9 +1,9 @@
 -- Laws of rounding, of powers of ten and of the limit. Assumes nothing.
 use mathlib.Core.Path.{_≡_, refl, ap, _∙_}
-use mathlib.Core.Bool.{true, false}
+use mathlib.Core.Bool.{Bool, true, false, cond, not}
 use Prim.Native.Nat.{ℕ, suc, zero, _+_, _-_, _*_, _/_, _%_, _^_, _≤_, _<_}
 use native.Mathlib.Omega.{arith}
-use native.Mathlib.Nat.{div-eq-of-lt-le, mul-div-mul-right, div-eq-of-lt, mul-assoc, one-le-pow, mod-lt, div-add-mod', pow-le-pow-right, mul-le-mul, mul-le-mul-right}
+use native.Mathlib.Nat.{add-zero, div-eq-of-lt-le, mul-div-mul-right, div-eq-of-lt, mul-assoc, one-le-pow, mod-lt, div-add-mod', pow-le-pow-right, mul-le-mul, mul-le-mul-right}
 use lib.Pow.{pow-add}
 use lib.Dec.{ltb, lit<}
 use lib.IntN.{pos, negℤ}
@@ -83,13 +83,11 @@ scale-shrink m up down h = rw (ten-split down up h) (nearest-cancel m (10 ^ (dow
 pub shrink-none : (m k : ℕ) → m < cap → 18 < k → nearest m (10 ^ k) ≡ 0
 shrink-none m k h b = nearest-none m (10 ^ k) (omega (arith, ten-mono 19 k b))
 
-pub scaled-down : (m f e : ℕ) → scaled m f true e ≡ nearest (m * 10 ^ 3) (10 ^ (f + e))
+-- the exponent's two signs as one shift
+pub scaled-is : (m f : ℕ) (n : Bool) (e : ℕ) → nearest (m * 10 ^ (cond n 0 e + 3)) (10 ^ (f + cond (not n) 0 e)) ≡ scaled m f n e
 unfolding scaled
-scaled-down m f e = refl
-
-pub scaled-up : (m f e : ℕ) → scaled m f false e ≡ nearest (m * 10 ^ (e + 3)) (10 ^ f)
-unfolding scaled
-scaled-up m f e = refl
+scaled-is m f true e = refl
+scaled-is m f false e = rw (add-zero f)
 
 -- ── the limit ──
 

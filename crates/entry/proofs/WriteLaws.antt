@@ -10,7 +10,8 @@ use lib.IntN.{ℤ, pos, negsuc}
 use Rattle.label.specs.Bytes.{empty, join, joinRest, trim, decimal}
 use Rattle.label.specs.Write.{fraction, valueBytes, offsetBytes, advanceBytes, indexBytes, mapBytes, entryBytes}
 use Rattle.label.specs.Sound.{natural, size, numberIndex, numberAdvance}
-use Rattle.label.proofs.Basics.{cases}
+use Rattle.label.proofs.Basics.{cases, clash}
+use Rattle.label.proofs.Splits.{empty-nil}
 use Rattle.label.proofs.Decimals.{empty-decimal}
 use Rattle.words.specs.Places.{place}
 use Rattle.entry.specs.Fields.{partsV, partsUV, partsAUV, fields, glyphAt}
@@ -66,16 +67,9 @@ unfolding advanceBytes
 advance-empty (pos n) = value-full n
 advance-empty (negsuc n) = refl
 
-pub empty-none : {A : Type 0} (l : List A) → empty l ≡ true → l ≡ []
-empty-none [] e = refl
-empty-none (x ∷ l) e = cc
-
-clash : {A : Type 0} (b : Bool) → b ≡ true → b ≡ false → A
-clash b p q = let z : _≡_ {A = ℕ} 0 1 = cc in absurd (omega arith)
-
 module _ (z : ℤ) {n : ℕ} (e : n ≡ size z) where
   pub offset-none : n ≡ 0 → [] ≡ offsetBytes z
-  offset-none h = sym (empty-none (offsetBytes z) (offset-empty z ∙ eq-eqb (size z) 0 (sym e ∙ h)))
+  offset-none h = sym (empty-nil (offsetBytes z) (offset-empty z ∙ eq-eqb (size z) 0 (sym e ∙ h)))
 
   module _ (h : n ≡ 0 → ⊥) {b : Bool} (f : b ≡ natural z) where
     pub offset-plus : b ≡ true → valueBytes n ≡ offsetBytes z
@@ -104,7 +98,7 @@ module _ (z : ℤ) {b : Bool} (f : b ≡ natural z) where
       by (negsuc m) d t = clash false t refl
 
   pub advance-own : b ≡ false → [] ≡ advanceBytes (numberAdvance z)
-  advance-own k = sym (empty-none (advanceBytes (numberAdvance z)) (advance-empty z ∙ ap not (sym f ∙ k)))
+  advance-own k = sym (empty-nil (advanceBytes (numberAdvance z)) (advance-empty z ∙ ap not (sym f ∙ k)))
 
   pub index-named : {n : ℕ} → n ≡ size z → b ≡ true → decimal n ≡ indexBytes (numberIndex z)
   unfolding indexBytes
@@ -155,7 +149,7 @@ blank-auv-is a u v e f g = g ∙ rw (e, f) (sym (trim-empty (advanceBytes (numbe
 
 pub fields-blank : (l : List (List ℕ)) {b : Bool} → b ≡ empty (trim l) → b ≡ true → [] ≡ fields l
 unfolding fields joinRest
-fields-blank l e k = rw (empty-none (trim l) (sym e ∙ k))
+fields-blank l e k = rw (empty-nil (trim l) (sym e ∙ k))
 
 fields-more : (x : List ℕ) (l : List (List ℕ)) {b : Bool} → b ≡ empty (trim (x ∷ l)) → b ≡ false → (44 ∷ []) ++ (x ++ fields l) ≡ fields (x ∷ l)
 unfolding fields joinRest trim

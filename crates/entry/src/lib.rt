@@ -1,23 +1,23 @@
 // One entry of the indices: read in one pass, and written in its normal form.
 ghost use mathlib.Core.Path.{_≡_};
-ghost use mathlib.Core.Bool.{Bool, true, false, _&&_, _||_, cond};
-ghost use Prim.Native.Nat.{ℕ, _+_, _-_, _*_, _^_, _≤_, _<_};
-ghost use lib.IntN.{ℤ};
+ghost use mathlib.Core.Bool.{true, cond};
+ghost use mathlib.Core.List.{[], _∷_};
+ghost use Prim.Native.Nat.{_+_, _*_, _^_, _≤_, _<_};
 ghost use lib.ListN.{length, drop};
+ghost use lib.Dec.{eqb};
+ghost use Rattle.label.specs.Limits.{maxIndex, maxThousandths};
 ghost use Rattle.label.specs.Calls.{refusal};
 ghost use Rattle.label.specs.Bytes.{isDigit, empty, decimal, trim};
 ghost use Rattle.label.specs.Entry.{isE, nearest, scaled, entry};
-ghost use Rattle.entry.specs.declared.EntryRead.the-variants.{Refused};
-ghost use Rattle.entry.specs.Items.{cap, isSemi, here, entryRead};
-ghost use Rattle.entry.specs.Digits.{headOf, ends, isBreak, pushed, digitsFrom};
-ghost use Rattle.entry.specs.Numbers.{sized, within, mantissaOf, cutMantissa, signLength, exponentOf, cutExponent, numberOf};
-ghost use Rattle.entry.specs.Parts.{mapOf, badMap, cutMap, frontOf, notGiven, fieldOf, indexChoice, advanceChoice, signedBy, offsetBy, Small};
-ghost use mathlib.Core.List.{[], _∷_};
-ghost use lib.Dec.{eqb};
 ghost use Rattle.label.specs.Sound.{numberIndex, numberAdvance};
 ghost use Rattle.label.specs.Write.{fraction, valueBytes, offsetBytes, advanceBytes, indexBytes, mapBytes, entryBytes};
 ghost use Rattle.words.specs.Places.{place};
 ghost use Rattle.words.specs.Puts.{Put};
+ghost use Rattle.entry.specs.declared.EntryRead.the-variants.{Refused};
+ghost use Rattle.entry.specs.Items.{cap, isSemi, here, entryRead};
+ghost use Rattle.entry.specs.Digits.{headOf, ends, isBreak, pushed, digitsFrom};
+ghost use Rattle.entry.specs.Numbers.{sized, within, mantissaOf, cutMantissa, signLength, exponentOf, cutExponent, numberOf};
+ghost use Rattle.entry.specs.Parts.{mapOf, noMap, badMap, cutMap, frontOf, notGiven, fieldOf, indexChoice, advanceChoice, signedBy, offsetBy, Small};
 ghost use Rattle.entry.specs.Fields.{glyphAt, partsV, partsUV, partsAUV, fields};
 use label::Advance;
 use label::Glyph;
@@ -75,9 +75,9 @@ fn breaks_at(s: &[u8], at: usize) -> bool
 // ── digits ──
 
 // The digits that stand at a place: how many, and their value, cut at 10^18.
-pub struct Digits {
-    pub count: usize,
-    pub value: u64,
+struct Digits {
+    count: usize,
+    value: u64,
 }
 
 const CAP: u64 = 1_000_000_000_000_000_000;
@@ -125,7 +125,7 @@ fn digits_at(s: &[u8], at: usize, start: u64) -> Digits
 // ── values ──
 
 // Whole thousandths, where they are within the limit.
-pub enum Thousandths {
+enum Thousandths {
     Of(u32),
     Over,
 }
@@ -214,41 +214,48 @@ fn shifted(m: u64, up: usize, down: usize) -> Thousandths
     }
 }
 
+// n, or 0 where the test holds.
+fn unless(test: bool, n: usize) -> usize
+    ensures { λ r. ⌜ r ≡ cond test 0 n ⌝ }
+    ensures bounds { λ r. ⌜ r ≤ n ⌝ }
+{
+    if test { 0 } else { n }
+}
+
+// m × 10^(e − f) × 1000, rounded; `negative` where e has a minus.
 fn to_thousandths(m: u64, f: usize, negative: bool, e: usize) -> Thousandths
     requires { ⌜ (m < cap) × (f ≤ 18) × (e ≤ 99) ⌝ }
     ensures { λ r. ⌜ r ≡ sized (scaled m f negative e) ⌝ }
 {
-    if negative {
-        shifted(m, 3, f + e)
-    } else {
-        shifted(m, e + 3, f)
-    }
+    let up = unless(negative, e) + 3;
+    let down = f + unless(!negative, e);
+    shifted(m, up, down)
 }
 
 // ── numbers ──
 
 // The digits before any exponent: whether they are well formed, the bytes used, the count of digits, their value, and the count behind the point.
-pub struct Mantissa {
-    pub ok: bool,
-    pub used: usize,
-    pub count: usize,
-    pub value: u64,
-    pub behind: usize,
+struct Mantissa {
+    ok: bool,
+    used: usize,
+    count: usize,
+    value: u64,
+    behind: usize,
 }
 
 // The exponent, of no bytes where there is none.
-pub struct Exponent {
-    pub ok: bool,
-    pub used: usize,
-    pub negative: bool,
-    pub count: usize,
-    pub value: u64,
+struct Exponent {
+    ok: bool,
+    used: usize,
+    negative: bool,
+    count: usize,
+    value: u64,
 }
 
-pub struct Number {
-    pub ok: bool,
-    pub used: usize,
-    pub size: Thousandths,
+struct Number {
+    ok: bool,
+    used: usize,
+    size: Thousandths,
 }
 
 fn mantissa_at(s: &[u8], at: usize) -> Mantissa
@@ -357,12 +364,25 @@ fn number_at(s: &[u8], at: usize) -> Number
 // ── the index part ──
 
 // The map at the start of an entry, of no bytes where there is none.
-pub struct MapPart {
-    pub ok: bool,
-    pub used: usize,
-    pub mapped: bool,
-    pub units: usize,
-    pub glyphs: usize,
+struct MapPart {
+    ok: bool,
+    used: usize,
+    mapped: bool,
+    units: usize,
+    glyphs: usize,
+}
+
+// No map, which is 1:1.
+fn no_map() -> MapPart
+    ensures { λ r. ⌜ r ≡ cutMap noMap ⌝ }
+{
+    MapPart {
+        ok: true,
+        used: 0,
+        mapped: false,
+        units: 1,
+        glyphs: 1,
+    }
 }
 
 // A map that is not well formed.
@@ -383,13 +403,7 @@ fn map_of(s: &[u8]) -> MapPart
     ensures bounds { λ r. ⌜ r .used ≤ length (now (s .entry)) ⌝ }
 {
     if byte_at(s, 0) != 40 {
-        return MapPart {
-            ok: true,
-            used: 0,
-            mapped: false,
-            units: 1,
-            glyphs: 1,
-        };
+        return no_map();
     }
     let x = digits_at(s, 1, 0);
     let n = x.count;
@@ -421,14 +435,14 @@ fn map_of(s: &[u8]) -> MapPart
 }
 
 // The map and the index's digits: whether they are well formed, the bytes used, what the map says, whether an index is named, and which (cut at 10^18).
-pub struct Front {
-    pub ok: bool,
-    pub used: usize,
-    pub mapped: bool,
-    pub units: usize,
-    pub glyphs: usize,
-    pub named: bool,
-    pub index: u64,
+struct Front {
+    ok: bool,
+    used: usize,
+    mapped: bool,
+    units: usize,
+    glyphs: usize,
+    named: bool,
+    index: u64,
 }
 
 fn front_of(s: &[u8]) -> Front
@@ -452,12 +466,12 @@ fn front_of(s: &[u8]) -> Front
 // ── fields ──
 
 // A field behind its comma, of no bytes where the entry has ended.
-pub struct Field {
-    pub ok: bool,
-    pub used: usize,
-    pub given: bool,
-    pub negative: bool,
-    pub size: Thousandths,
+struct Field {
+    ok: bool,
+    used: usize,
+    given: bool,
+    negative: bool,
+    size: Thousandths,
 }
 
 // A field of n bytes that gives nothing.
@@ -509,7 +523,7 @@ fn is_within(z: Thousandths) -> bool
 // ── the glyph record ──
 
 fn index_of(named: bool, n: u64) -> Index
-    requires { ⌜ n ≤ 65535 ⌝ }
+    requires { ⌜ n ≤ maxIndex ⌝ }
     ensures { λ r. ⌜ r ≡ indexChoice named n ⌝ }
 {
     if named {
@@ -533,7 +547,7 @@ fn advance_of(given: bool, z: Thousandths) -> Advance
 }
 
 fn signed_of(negative: bool, v: u32) -> i32
-    requires { ⌜ v ≤ 1000000000 ⌝ }
+    requires { ⌜ v ≤ maxThousandths ⌝ }
     ensures { λ r. ⌜ r ≡ signedBy negative v ⌝ }
 {
     let x = v as i32;
@@ -596,27 +610,27 @@ fn read_fields(s: &[u8], k: usize, f: Front) -> EntryRead
 pub fn read_entry(s: &[u8], k: usize) -> EntryRead
     ensures { λ r. ⌜ r ≡ entryRead (length (here (now (s .entry)))) (entry k (here (now (s .entry)))) ⌝ }
 {
-    let f = front_of(s);
-    let end = f.used;
+    let front = front_of(s);
+    let end = front.used;
     if byte_at(s, end) == 44 {
-        return read_fields(s, k, f);
+        return read_fields(s, k, front);
     }
-    if !words::both(f.ok, ends_at(s, end)) {
+    if !words::both(front.ok, ends_at(s, end)) {
         return refuse(7, k);
     }
-    if Limits::INDEX < f.index {
+    if Limits::INDEX < front.index {
         return refuse(8, k);
     }
     let glyph = Glyph {
-        index: index_of(f.named, f.index),
+        index: index_of(front.named, front.index),
         advance: Advance::Own,
         u: 0,
         v: 0,
     };
     EntryRead::Read(Item {
-        mapped: f.mapped,
-        units: f.units,
-        glyphs: f.glyphs,
+        mapped: front.mapped,
+        units: front.units,
+        glyphs: front.glyphs,
         glyph,
         used: end,
     })
@@ -625,6 +639,7 @@ pub fn read_entry(s: &[u8], k: usize) -> EntryRead
 // ── writing ──
 // Each `put_..` stores its bytes from `at` on and returns the place behind them; where `out` ends, it only counts.
 
+// The byte of a digit.
 fn digit(n: u32) -> u8
     requires { ⌜ n < 10 ⌝ }
     ensures { λ r. ⌜ r ≡ 48 + n ⌝ }
@@ -632,6 +647,7 @@ fn digit(n: u32) -> u8
     48 + n as u8
 }
 
+// A number, without leading zeros: all digits but the last, then the last.
 fn put_decimal(out: &mut [u8], at: usize, n: u32) -> usize
     requires { ⌜ at < 1152921504606846000 ⌝ }
     ensures { λ r. ⌜ Put (now (out .entry)) at (decimal n) r (now (out .exit)) ⌝ }
@@ -644,7 +660,7 @@ fn put_decimal(out: &mut [u8], at: usize, n: u32) -> usize
     words::put_byte(out, p, digit(n % 10))
 }
 
-// The digits behind the point.
+// The digits behind the point, without trailing zeros.
 fn put_fraction(out: &mut [u8], at: usize, f: u32) -> usize
     requires { ⌜ (at < 1152921504606846000) × (f < 1000) ⌝ }
     ensures { λ r. ⌜ Put (now (out .entry)) at (fraction f) r (now (out .exit)) ⌝ }
@@ -661,18 +677,19 @@ fn put_fraction(out: &mut [u8], at: usize, f: u32) -> usize
     words::put_byte(out, q, digit(f % 10))
 }
 
-// The whole part of a value that has a fraction.
-fn put_whole(out: &mut [u8], at: usize, n: u32) -> usize
+// The whole part of a value that has a fraction: no lone zero.
+fn put_whole(out: &mut [u8], at: usize, whole: u32) -> usize
     requires { ⌜ at < 1152921504606846000 ⌝ }
-    ensures { λ r. ⌜ Put (now (out .entry)) at (cond (eqb n 0) [] (decimal n)) r (now (out .exit)) ⌝ }
+    ensures { λ r. ⌜ Put (now (out .entry)) at (cond (eqb whole 0) [] (decimal whole)) r (now (out .exit)) ⌝ }
     ensures bounds { λ r. ⌜ r ≤ at + 10 ⌝ }
 {
-    if n == 0 {
+    if whole == 0 {
         return at;
     }
-    put_decimal(out, at, n)
+    put_decimal(out, at, whole)
 }
 
+// A value in thousandths, before its sign.
 fn put_value(out: &mut [u8], at: usize, n: u32) -> usize
     requires { ⌜ at < 1152921504606845000 ⌝ }
     ensures { λ r. ⌜ Put (now (out .entry)) at (valueBytes n) r (now (out .exit)) ⌝ }
@@ -686,22 +703,24 @@ fn put_value(out: &mut [u8], at: usize, n: u32) -> usize
     put_fraction(out, q, n % 1000)
 }
 
+// The offset at place k; nothing for 0.
 fn put_offset_at(out: &mut [u8], at: usize, s: &[i32], k: usize) -> usize
     requires { ⌜ (at < 1152921504606844000) × (k < length (now s)) ⌝ }
     ensures { λ r. ⌜ Put (now (out .entry)) at (offsetBytes (place (now (s .entry)) k)) r (now (out .exit)) ⌝ }
     ensures bounds { λ r. ⌜ r ≤ at + 15 ⌝ }
 {
-    let n = words::size_at(s, k);
-    if n == 0 {
+    let size = words::size_at(s, k);
+    if size == 0 {
         return at;
     }
     if words::natural_at(s, k) {
-        return put_value(out, at, n);
+        return put_value(out, at, size);
     }
     let p = words::put_byte(out, at, 45);
-    put_value(out, p, n)
+    put_value(out, p, size)
 }
 
+// The advance at place k; nothing for the font's own.
 fn put_advance_at(out: &mut [u8], at: usize, s: &[i32], k: usize) -> usize
     requires { ⌜ (at < 1152921504606844000) × (k < length (now s)) ⌝ }
     ensures { λ r. ⌜ Put (now (out .entry)) at (advanceBytes (numberAdvance (place (now (s .entry)) k))) r (now (out .exit)) ⌝ }
@@ -713,6 +732,7 @@ fn put_advance_at(out: &mut [u8], at: usize, s: &[i32], k: usize) -> usize
     at
 }
 
+// The index at place k; nothing for one that the font chooses.
 fn put_index_at(out: &mut [u8], at: usize, s: &[i32], k: usize) -> usize
     requires { ⌜ (at < 1152921504606844000) × (k < length (now s)) ⌝ }
     ensures { λ r. ⌜ Put (now (out .entry)) at (indexBytes (numberIndex (place (now (s .entry)) k))) r (now (out .exit)) ⌝ }
@@ -724,6 +744,7 @@ fn put_index_at(out: &mut [u8], at: usize, s: &[i32], k: usize) -> usize
     at
 }
 
+// `:b`, unless b is 1.
 fn put_colon(out: &mut [u8], at: usize, b: u32) -> usize
     requires { ⌜ at < 1152921504606844000 ⌝ }
     ensures { λ r. ⌜ Put (now (out .entry)) at (cond (eqb b 1) [] (58 ∷ decimal b)) r (now (out .exit)) ⌝ }
@@ -736,6 +757,7 @@ fn put_colon(out: &mut [u8], at: usize, b: u32) -> usize
     put_decimal(out, p, b)
 }
 
+// `(a:b)`, unless it is 1:1 or 0:1.
 fn put_map(out: &mut [u8], at: usize, a: u32, b: u32) -> usize
     requires { ⌜ at < 1152921504606843000 ⌝ }
     ensures { λ r. ⌜ Put (now (out .entry)) at (mapBytes a b) r (now (out .exit)) ⌝ }
@@ -750,6 +772,7 @@ fn put_map(out: &mut [u8], at: usize, a: u32, b: u32) -> usize
     words::put_byte(out, t, 41)
 }
 
+// Whether there is nothing to write from a field on, and the fields from it on, each behind its comma: v; u and v; all three.
 fn blank_v(s: &[i32], k: usize) -> bool
     requires { ⌜ k < length (now s) ⌝ }
     ensures { λ r. ⌜ r ≡ empty (trim (partsV (place (now (s .entry)) k))) ⌝ }

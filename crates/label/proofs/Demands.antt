@@ -312,7 +312,7 @@ held : {A : Type 0} (xs old : List A) (n : ℕ) → length xs ≡ n → take n (
 held xs old n e = take-at xs (drop (length xs) old) n e
 
 -- the places that a reading filled are the run's, so the writer handed them writes the run
-passed-is : (t i : List ℕ) (r : Run) (us : List ℕ) (cs gs : List ℤ) (x y : ℕ) → read t i ≡ ok r → Roomy r (length us) (length cs) (length gs) → RoomyFor (normal r) x y
+pub passed-is : (t i : List ℕ) (r : Run) (us : List ℕ) (cs gs : List ℤ) (x y : ℕ) → read t i ≡ ok r → Roomy r (length us) (length cs) (length gs) → RoomyFor (normal r) x y
     → passedOn r t i us cs gs x y ≡ ok (normal r)
 passed-is t i r us cs gs x y h m n =
     rw (

@@ -12,7 +12,7 @@ use lib.ListN.{length, drop, length-drop}
 use lib.Seq.{drop-drop, getD-drop}
 use Rattle.label.specs.Limits.{maxUnits, maxGlyphs, maxIndex, maxThousandths}
 use Rattle.label.specs.Bytes.{empty}
-use Rattle.label.specs.Run.{named, whole, cluster}
+use Rattle.label.specs.Run.{named, cluster}
 use Rattle.label.specs.Sound.{nat, natural, indexFits, advanceFits, numberIndex, numberAdvance, glyphFits, mayOpen, wholeClusters, wholeGlyphs, properUnits, fits, clustersOf, glyphsOf, soundRun, sound}
 use Rattle.label.specs.declared.Glyph.{Glyph}
 use Rattle.label.specs.declared.Cluster.{Cluster}

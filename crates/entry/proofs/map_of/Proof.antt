@@ -13,8 +13,11 @@ use Rattle.entry.proofs.map_of.Tie as tie
 byte-at-requires : tie.Need-byte-at-requires
 byte-at-requires c κs = search needs
 
+no-map-requires : tie.Need-no-map-requires
+no-map-requires c κs = search needs
+
 returns : tie.Need-returns
-returns c = (ap cutMap (sym (map-none _ (λ h. c .if1 .taken (c .before .byte-at .ensures ∙ h)))), omega arith)
+returns c = (c .no-map .ensures ∙ ap cutMap (sym (map-none _ (λ h. c .before .if1 .taken (c .before .before .byte-at .ensures ∙ h)))), rw (c .no-map .ensures) (omega arith))
 
 digits-at-requires : tie.Need-digits-at-requires
 digits-at-requires c κs = (head-in (c .before .before .before .args .s .now) 0 _ (sym (c .before .byte-at .ensures) ∙ c .if1 .left) (lit< tt), search needs)
@@ -90,6 +93,7 @@ map-of-spec =
     tie.close
     (tie.spec
     byte-at-requires
+    no-map-requires
     returns
     digits-at-requires
     add-byte-at
