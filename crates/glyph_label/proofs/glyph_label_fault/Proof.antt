@@ -5,7 +5,7 @@ use Rattle.glyph_label.proofs.glyph_label_fault.Statement.{statement}
 use Rattle.glyph_label.proofs.glyph_label_fault.Tie as tie
 
 find-part-requires : tie.Need-find-part-requires
-find-part-requires c κs = ?
+find-part-requires c κs = search needs
 
 part-answer-requires : tie.Need-part-answer-requires
 part-answer-requires c κs = search needs
