@@ -7,8 +7,8 @@
  * glyphs to the code units of all clusters that they touch, and back.
  *
  * Link target/staticlib/libglyph_label.a (made by `rt staticlib glyph_label`). Nothing is allocated, nothing is kept
- * between calls, and there is no state: any number of threads may call at once. The largest call takes about
- * 112 KiB of stack.
+ * between calls, and there is no state: any number of threads may call at once. A call takes at most 110 KiB of stack,
+ * and some 2 KiB where the run has up to 32 code units, clusters and glyphs.
  *
  * BUFFERS. A buffer is a pointer and its size in bytes. A size of 0 is an empty buffer, and the pointer may then be
  * NULL. Inputs are const and only read. A buffer that a call fills may share no byte with any other buffer of that

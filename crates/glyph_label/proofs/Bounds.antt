@@ -30,7 +30,7 @@ use Rattle.label.proofs.Sounds.{text-ok, SoundRun, sound-parts, read-sound}
 use Rattle.sound.specs.Sounds.{unitSum}
 use Rattle.sound.proofs.Facts.{few-units, few-glyphs, units-add-up, glyphs-add-up}
 use Rattle.glyph_label.specs.Runs.{pickBytes, ReadingFits, WritingFits, StretchFits}
-use Rattle.glyph_label.proofs.Sizes.{few-clusters}
+use Rattle.glyph_label.proofs.Sizes.{fits-few}
 
 -- ── the places of 1 to 15 ──
 
@@ -152,7 +152,7 @@ counts-few text indices n h = go (read text indices) refl h
     go (no m p) e q = no-ok m p n q
     go (ok r) e q =
         let s : SoundRun r = sound-parts r (read-sound text indices r e) in
-        let c = few-clusters (r .units) (r .clusters) (r .glyphs) (s .fit) in
+        let c = fits-few (empty (r .units)) 0 (r .units) (r .clusters) (r .glyphs) (s .fit) in
         rw (← ok-path (counts r) n q) (s .few-units, omega (arith, s .few-glyphs), s .few-glyphs)
 
 pub reading-fits : (u c g : ℕ) (text indices : List ℕ) → ReadingFits (counted (readBytes u c g text indices))

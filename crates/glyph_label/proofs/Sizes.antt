@@ -66,7 +66,7 @@ whole-is us cs gs = rw (even-is us, word-is cs, word-is gs)
 
 -- ── a sound run has no more clusters than glyphs, and no more numbers than the large arrays hold ──
 
-fits-few : (bare : Bool) (lack : ℕ) (us : List ℕ) (cs : List Cluster) (gs : List Glyph) → fits bare lack us cs gs ≡ true → length cs ≤ length gs
+pub fits-few : (bare : Bool) (lack : ℕ) (us : List ℕ) (cs : List Cluster) (gs : List Glyph) → fits bare lack us cs gs ≡ true → length cs ≤ length gs
 unfolding fits
 fits-few bare lack us [] gs e = omega arith
 fits-few bare lack us (c ∷ cs) [] e = clash false (and-r (eqb lack 0) false (and-l (eqb lack 0 && false) (empty us) e)) refl
@@ -89,9 +89,6 @@ glyph-numbers (i ∷ a ∷ []) h = absurd (false≢true h)
 glyph-numbers (i ∷ a ∷ u ∷ []) h = absurd (false≢true h)
 glyph-numbers (i ∷ a ∷ u ∷ v ∷ zs) h = let e = glyph-numbers zs (and-r (choice i && choice a) (wholeGlyphs zs) h) in omega arith
 
-pub few-clusters : (us : List ℕ) (cs : List Cluster) (gs : List Glyph) → fits (empty us) 0 us cs gs ≡ true → length cs ≤ length gs
-few-clusters us cs gs h = fits-few (empty us) 0 us cs gs h
-
 sound-within : (us : List ℕ) (cs gs : List ℤ) → sound us cs gs ≡ true → within 4096 (length us) (length cs) (length gs) ≡ true
 unfolding sound
 sound-within us cs gs h =
@@ -99,7 +96,7 @@ sound-within us cs gs h =
     let s : SoundRun (runOf us cs gs) = sound-parts (runOf us cs gs) (and-r (wholeClusters cs && wholeGlyphs gs) (soundRun (runOf us cs gs)) h) in
     let c = cluster-numbers cs (and-l (wholeClusters cs) (wholeGlyphs gs) w) in
     let g = glyph-numbers gs (and-r (wholeClusters cs) (wholeGlyphs gs) w) in
-    let f = few-clusters us (clustersOf cs) (glyphsOf gs) (s .fit) in
+    let f = fits-few (empty us) 0 us (clustersOf cs) (glyphsOf gs) (s .fit) in
     held 4096 (length us) (length cs) (length gs) (s .few-units) (omega (arith, s .few-glyphs)) (omega (arith, s .few-glyphs))
 
 -- bytes beyond the large arrays, or left over: no sound run

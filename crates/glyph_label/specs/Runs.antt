@@ -23,6 +23,7 @@ use Rattle.label.specs.declared.Writing.{Writing}
 abbrev pub within : ℕ → ℕ → ℕ → ℕ → Bool
 within k u c g = leb u k && leb c (2 * k) && leb g (4 * k)
 
+-- the same as a fact: the arrays for k units, k clusters and k glyphs hold so many places
 abbrev pub Holds : ℕ → ℕ → ℕ → ℕ → Type 0
 Holds k u c g = (u ≤ k) × (c ≤ 2 * k) × (g ≤ 4 * k)
 
@@ -68,10 +69,10 @@ pickBytes true us cs gs first end = pickGlyphsBytes us cs gs first end
 
 -- ── answers of 32 bits ──
 
--- the number and the place of a refusal, or the values, are below 2^32
 abbrev pub Small32 : ℕ → Type 0
 Small32 n = n < 4294967296
 
+-- the fields of an answer are below 2^32: the values, or a refusal's number and place
 abbrev pub ReadingFits : Outcome Counts → Type 0
 ReadingFits (ok n) = Small32 (n .units) × Small32 (n .clusters) × Small32 (n .glyphs)
 ReadingFits (no n p) = Small32 n × Small32 p

@@ -189,7 +189,7 @@ fn unpack_run(
     words::unpack_numbers(glyphs, gs);
 }
 
-// The run of an accepted label, through arrays of numbers.
+// The run of an accepted label, filled into arrays of numbers and packed.
 fn fill_through(
     text: &[u8],
     indices: &[u8],
@@ -214,7 +214,7 @@ fn fill_through(
     words::pack_numbers(&gs[..g], glyphs);
 }
 
-// The normal writing of a run handed in as whole numbers, through arrays of them.
+// The normal writing of a run handed in as whole numbers, unpacked into arrays.
 fn write_through(
     units: &[u8],
     clusters: &[u8],
@@ -254,7 +254,7 @@ fn pick_numbers(
     }
 }
 
-// A pick from a run handed in as whole numbers, through arrays of them.
+// A pick from a run handed in as whole numbers, unpacked into arrays.
 fn pick_through(
     units: &[u8],
     clusters: &[u8],
@@ -287,6 +287,7 @@ enum Task {
     Pick(bool, usize, usize),
 }
 
+// What came of a task.
 enum Done {
     Filled,
     Wrote(label::Writing),
@@ -294,7 +295,7 @@ enum Done {
 }
 
 // The task on arrays that hold the run. The inputs a, b, c are a label's text and indices, or a run's units, clusters and glyphs; the outputs x, y,
-// z are the other of the two. What a task has no use for stays.
+// z are the other of the two. What a task has no use for may be any.
 fn through(
     task: Task,
     a: &[u8],
@@ -323,6 +324,7 @@ fn through(
     }
 }
 
+// The task on arrays of each size.
 fn in_small(
     task: Task,
     a: &[u8],
@@ -428,6 +430,7 @@ fn in_larger(
 
 // ── reading ──
 
+// The run of an accepted label, whose buffers have room.
 fn fill_bytes(
     text: &[u8],
     indices: &[u8],
@@ -515,6 +518,7 @@ fn written(d: Done) -> label::Writing
     }
 }
 
+// 19
 fn unsound_writing() -> label::Writing
     ensures { λ r. ⌜ r ≡ RefusedWriting (refusal 19 0) ⌝ }
 {
@@ -594,6 +598,7 @@ fn picked(d: Done) -> label::Pick
     }
 }
 
+// 19
 fn unsound_pick() -> label::Pick
     ensures { λ r. ⌜ r ≡ RefusedPick (refusal 19 0) ⌝ }
 {
