@@ -81,14 +81,22 @@ fn answer(read: Counts, w: Writing) -> Relabelling {
 }
 
 // The label of a text line and an indices line: its counts and its normal lines, which are written to the two outputs, or the refusal.
-pub fn relabel(text: &[u8], indices: &[u8], out_text: &mut [u8], out_indices: &mut [u8]) -> Relabelling
+pub fn relabel(
+    text: &[u8],
+    indices: &[u8],
+    out_text: &mut [u8],
+    out_indices: &mut [u8],
+) -> Relabelling
     requires { ⌜ (maxTextBytes ≤ length (now out_text)) × (maxIndicesBytes ≤ length (now out_indices)) ⌝ }
     ensures result { λ r. ⌜ relabelOutcome r ≡ relabelled (relabelRead (now (text .entry)) (now (indices .entry))) ⌝ }
     ensures text { λ _. ⌜ now (out_text .exit) ≡ textLine (relabelRead (now (text .entry)) (now (indices .entry))) (now (out_text .entry)) ⌝ }
     ensures indices { λ _. ⌜ now (out_indices .exit) ≡ indicesLine (relabelRead (now (text .entry)) (now (indices .entry))) (now (out_indices .entry)) ⌝ }
 {
     if Limits::LINE_BYTES < indices.len() {
-        return Relabelling::No(Refusal { number: 1, place: 0 });
+        return Relabelling::No(Refusal {
+            number: 1,
+            place: 0,
+        });
     }
     let mut units = [0u16; Limits::UNITS];
     let mut clusters = [0i32; 2 * Limits::GLYPHS];
@@ -100,7 +108,13 @@ pub fn relabel(text: &[u8], indices: &[u8], out_text: &mut [u8], out_indices: &m
             let u = n.units;
             let c = 2 * n.clusters;
             let g = 4 * n.glyphs;
-            let w = writer::write(&units[..u], &clusters[..c], &glyphs[..g], out_text, out_indices);
+            let w = writer::write(
+                &units[..u],
+                &clusters[..c],
+                &glyphs[..g],
+                out_text,
+                out_indices,
+            );
             answer(n, w)
         }
     }

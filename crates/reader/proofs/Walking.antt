@@ -1,17 +1,17 @@
 -- The walk over the entries: where it stands, one entry more, its end.
 -- Assumes nothing.
-use Prim.Native.Nat.{ℕ, zero, suc, _+_, _*_, _-_, _≤_, _<_, min}
+use Prim.Native.Nat.{ℕ, _+_, _-_, _≤_, _<_, min}
 use native.Mathlib.Omega.{arith}
-use native.Mathlib.Nat.{zero-add, min-eq-left}
+use native.Mathlib.Nat.{min-eq-left}
 use native.Mathlib.Numerals.{add-one}
 use mathlib.Core.Path.{_≡_, refl, sym, _∙_, ap, subst}
-use mathlib.Core.Bool.{Bool, true, false, cond, not, _&&_}
-use mathlib.Core.List.{List, [], _∷_, _++_, append-assoc}
+use mathlib.Core.Bool.{Bool, true, cond, not, _&&_}
+use mathlib.Core.List.{List, [], _∷_, append-assoc}
 use borrow.Author.Tests.{eq-eqb, ne-eqb, leb-true, eqb-true, eqb-false}
 use lib.Dec.{eqb, leb}
 use lib.ListN.{length, take, drop, length-append, length-drop}
 use lib.Seq.{drop-drop}
-use Rattle.label.specs.Outcome.{Outcome, ok, no, need, _>>=_, _>>_}
+use Rattle.label.specs.Outcome.{Outcome, ok, no}
 use Rattle.label.specs.Bytes.{empty}
 use Rattle.label.specs.Text.{decode}
 use Rattle.label.specs.Entry.{Entry, entry, entries}
@@ -20,7 +20,7 @@ use Rattle.label.specs.Sound.{glyphFits}
 use Rattle.label.specs.declared.Cursor.{Cursor}
 use Rattle.label.specs.declared.Refusal.{Refusal}
 use Rattle.label.proofs.Basics.{cases, and-r}
-use Rattle.label.proofs.Walks.{Stepped, step-ok, ok-path}
+use Rattle.label.proofs.Walks.{Stepped, step-ok}
 use Rattle.label.proofs.Sounds.{entry-facts}
 use Rattle.label.proofs.Cursors.{joined, after, added, walk-good, walk-bad, part-rest}
 use Rattle.text.specs.Moves.{unitsFrom}
@@ -30,7 +30,7 @@ use Rattle.entry.specs.declared.EntryRead.{EntryRead}
 use Rattle.entry.specs.declared.EntryRead.the-variants.{Read, Refused}
 use Rattle.reader.specs.declared.Turn.{Turn}
 use Rattle.reader.specs.declared.Turn.the-variants.{Took, Stopped}
-use Rattle.reader.specs.Steps.{firstPlace, firstCursor, stateAt, itemEntry, advanced, Turns}
+use Rattle.reader.specs.Steps.{firstCursor, stateAt, itemEntry, advanced, Turns}
 use Rattle.reader.proofs.Entries.{empty-eqb, leftFrom, left-is, left-none, left-all, here-inside}
 use Rattle.reader.proofs.Placing.{read-is, refused-is, over, placed-cut}
 

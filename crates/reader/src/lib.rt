@@ -1,15 +1,12 @@
 // The reader of a glyph label. A first pass over text and indices judges 1 to 15, counts, and stores nothing; a second one fills the buffers.
 ghost use mathlib.Core.Path.{_≡_};
 ghost use mathlib.Core.Bool.{cond, not, true, _&&_};
-ghost use mathlib.Core.List.{List};
-ghost use Prim.Native.Nat.{ℕ, _+_, _-_, _*_, _≤_, _<_};
+ghost use Prim.Native.Nat.{_+_, _-_, _*_, _≤_, _<_};
 ghost use lib.Dec.{eqb};
-ghost use lib.IntN.{pos};
 ghost use lib.ListN.{length, drop};
 ghost use lib.Seq.{sets};
 ghost use Rattle.label.specs.Limits.{maxUnits, maxIndicesBytes};
 ghost use Rattle.label.specs.Outcome.{ok};
-ghost use Rattle.label.specs.Bytes.{empty};
 ghost use Rattle.label.specs.Text.{decode};
 ghost use Rattle.label.specs.Run.{named, tail, runFrom};
 ghost use Rattle.label.specs.Run.{read as readLabel};
@@ -20,7 +17,7 @@ ghost use Rattle.text.specs.Moves.{unitsFrom};
 ghost use Rattle.entry.specs.Items.{here};
 ghost use Rattle.reader.specs.Faults.{entryPart};
 ghost use Rattle.text.specs.Texts.{unitsStart};
-ghost use Rattle.reader.specs.Steps.{firstPlace, firstCursor, advanced, Opens, Turns, Tails, limited, countedFrom, openedHere, glyphPlaces, tailClusters, tailGlyphs};
+ghost use Rattle.reader.specs.Steps.{firstPlace, firstCursor, advanced, Opens, Turns, Tails, limited, countedFrom, openedHere, glyphPlaces, tailParts};
 ghost use Rattle.label.specs.declared.Reading.the-variants.{Refused as RefusedReading};
 
 // ── refusals ──
@@ -150,6 +147,7 @@ fn find_pair(text: &[u8], byte: usize, unit: usize) -> Tail
                 }
                 b = next;
             }
+            // A text with units has no such character.
             text::Char::Ill => {
                 return Tail::Plain;
             }
@@ -308,8 +306,8 @@ fn put_cluster(out: &mut [i32], lack: usize, n: usize, a: usize, b: usize)
 // A tail of m units, from cluster n and glyph k on.
 fn fill_tail(m: usize, n: usize, k: usize, clusters: &mut [i32], glyphs: &mut [i32])
     requires { ⌜ (2 * (n + m) ≤ length (now clusters)) × (4 * (k + m) ≤ length (now glyphs)) ⌝ }
-    ensures { λ _. ⌜ now (clusters .exit) ≡ sets (now (clusters .entry)) (2 * n) (flatClusters (tailClusters m)) ⌝ }
-    ensures { λ _. ⌜ now (glyphs .exit) ≡ sets (now (glyphs .entry)) (4 * k) (flatGlyphs (tailGlyphs m)) ⌝ }
+    ensures { λ _. ⌜ now (clusters .exit) ≡ sets (now (clusters .entry)) (2 * n) (flatClusters (tailParts m .clusters)) ⌝ }
+    ensures { λ _. ⌜ now (glyphs .exit) ≡ sets (now (glyphs .entry)) (4 * k) (flatGlyphs (tailParts m .glyphs)) ⌝ }
 {
     let mut rest = m;
     let mut c = n;
@@ -373,24 +371,24 @@ pub fn fill(
 {
     let count = counts.units;
     text::fill_units(text, units_start(text), units);
-    let mut c = first_cursor(indices, 0);
-    while c.place <= indices.len() {
-        let place = c.place;
-        match entry::read_entry(&indices[place..], c.entry) {
+    let mut at = first_cursor(indices, 0);
+    while at.place <= indices.len() {
+        let place = at.place;
+        match entry::read_entry(&indices[place..], at.entry) {
             entry::EntryRead::Read(x) => {
-                let a = taken(count, c.lack, x.units);
+                let a = taken(count, at.lack, x.units);
                 let b = x.glyphs;
                 let g = x.glyph;
-                put_cluster(clusters, c.lack, c.clusters, a, b);
-                put_glyph(glyphs, c.entry, g);
-                c = advance(c, 0, a, b, place + x.used + 1);
+                put_cluster(clusters, at.lack, at.clusters, a, b);
+                put_glyph(glyphs, at.entry, g);
+                at = advance(at, 0, a, b, place + x.used + 1);
             }
             entry::EntryRead::Refused(_) => {
                 return;
             }
         }
     }
-    fill_tail(count - c.unit, c.clusters, c.entry, clusters, glyphs);
+    fill_tail(count - at.unit, at.clusters, at.entry, clusters, glyphs);
 }
 
 // The reading of a label: its run is stored where none of 1 to 18 holds, and nothing else.
