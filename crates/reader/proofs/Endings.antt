@@ -168,12 +168,14 @@ module _ (us s : List ℕ) where
   pub run-stop : (n p : ℕ) → (empty us && empty s) ≡ false → walk (empty us) (start us) (entries s) ≡ no n p → no n p ≡ counted (runFrom us s)
   run-stop n p h w = sym (run-counted h ∙ ap (countedFrom (length us) 0 0) w ∙ unfold countedFrom in refl)
 
-  pub run-tail : (pre : Parts) (lack : ℕ) (c : Cursor) (text : List ℕ) → Stands us s pre lack c → Ready us s c → At text us c → length s < c .place → c .lack ≡ 0 → (empty us && empty s) ≡ false
-      → countedFrom (length us) (c .clusters) (c .entry) (tail (c .unit) (unitsFrom text (c .byte))) ≡ counted (runFrom us s)
-  run-tail pre lack c text st rd at hi z h =
+  pub run-tail : (n : ℕ) → n ≡ length us → (pre : Parts) (lack : ℕ) (c : Cursor) (text : List ℕ) → Stands us s pre lack c → Ready us s c → At text us c
+      → length s < c .place → c .lack ≡ 0 → (empty us && empty s) ≡ false
+      → countedFrom n (c .clusters) (c .entry) (tail (c .unit) (unitsFrom text (c .byte))) ≡ counted (runFrom us s)
+  run-tail n en pre lack c text st rd at hi z h =
       let o = tail (c .unit) (drop (c .unit) us) in
-      ap (λ (r : List ℕ). countedFrom (length us) (c .clusters) (c .entry) (tail (c .unit) r)) (units-here text us c at)
-      ∙ ap (λ (n : ℕ). countedFrom (length us) n (c .entry) o) (sym (st .clusters-are))
-      ∙ ap (λ (n : ℕ). countedFrom (length us) (length (pre .clusters)) n o) (sym (st .glyphs-are))
+      ap (λ (m : ℕ). countedFrom m (c .clusters) (c .entry) (tail (c .unit) (unitsFrom text (c .byte)))) en
+      ∙ ap (λ (r : List ℕ). countedFrom (length us) (c .clusters) (c .entry) (tail (c .unit) r)) (units-here text us c at)
+      ∙ ap (λ (m : ℕ). countedFrom (length us) m (c .entry) o) (sym (st .clusters-are))
+      ∙ ap (λ (m : ℕ). countedFrom (length us) (length (pre .clusters)) m o) (sym (st .glyphs-are))
       ∙ counted-after (length us) pre o
       ∙ sym (run-counted h ∙ ap (countedFrom (length us) 0 0) (ends-shut us s pre lack c st rd hi z))

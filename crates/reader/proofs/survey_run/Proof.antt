@@ -130,9 +130,7 @@ returns-5 : tie.Need-returns-5 Inv-loop μ-loop
 returns-5 c =
     let us = unitsFrom (c .before .before .before .before .before .before .before .before .before .before .before .args .text .now) (c .before .before .before .before .before .before .before .before .before .before .before .args .start) in
     let l = c .before .before .before .before .before .loop .inv in
-    c .survey-tail .ensures
-    ∙ ap (λ (n : ℕ). countedFrom n (c .before .before .before .before .before .loop .c .clusters) (c .before .before .before .before .before .loop .c .entry) (tail (c .before .before .before .before .before .loop .c .unit) (unitsFrom (c .before .before .before .before .before .before .before .before .before .before .before .args .text .now) (c .before .before .before .before .before .loop .c .byte)))) (c .before .before .before .before .before .before .before .before .before .before .before .pre .1 .0)
-    ∙ run-tail us (c .before .before .before .before .before .before .before .before .before .before .before .args .indices .now) _ _ (c .before .before .before .before .before .loop .c) _ (l .2) (l .3) (l .4) (c .before .before .before .if2 .left) (c .before .if3 .left) (l .5)
+    c .survey-tail .ensures ∙ run-tail us (c .before .before .before .before .before .before .before .before .before .before .before .args .indices .now) _ (c .before .before .before .before .before .before .before .before .before .before .before .pre .1 .0) _ _ (c .before .before .before .before .before .loop .c) _ (l .2) (l .3) (l .4) (c .before .before .before .if2 .left) (c .before .if3 .left) (l .5)
 
 pub survey-run-spec : {M : Type 1} → statement M
 survey-run-spec =
