@@ -38,11 +38,9 @@ Inv-loop text indices units clusters₀ glyphs₀ count c₀ clusters glyphs c =
 abbrev μ-loop : tie.MeasureT-loop
 μ-loop text indices units clusters₀ glyphs₀ count c₀ clusters glyphs c = length indices + 1 - c .place
 
--- src/lib.rt:366:28
 units-start-requires : tie.Need-units-start-requires Inv-loop μ-loop
 units-start-requires c κs = search needs
 
--- src/lib.rt:366:5
 fill-units-requires : tie.Need-fill-units-requires Inv-loop μ-loop
 fill-units-requires c κs =
     let t = c .before .before .before .before .before .args .text .now in
@@ -52,11 +50,9 @@ fill-units-requires c κs =
       subst (λ (b : ℕ). length (unitsFrom t b) ≤ length (c .before .before .before .before .before .args .units .now)) e (omega (arith, f .text .count, c .before .before .before .before .before .pre .1 .0)),
     )
 
--- src/lib.rt:367:9
 first-cursor-requires : tie.Need-first-cursor-requires Inv-loop μ-loop
 first-cursor-requires c κs = search needs
 
--- src/lib.rt:368:5
 loop-holds : tie.Need-loop-holds Inv-loop μ-loop
 unfolding flatClusters flatGlyphs
 loop-holds c =
@@ -66,31 +62,24 @@ loop-holds c =
     let e = c .first-cursor .ensures in
     (nothing, 0, stands-start us s _ _ e, ready-start us s _ _ e (omega (arith, f .text .count, f .text .few)) (f .few-bytes), stored-start _, stored-start _)
 
--- src/lib.rt:370:33
 sub-read-entry : tie.Need-sub-read-entry Inv-loop μ-loop
 sub-read-entry c = search needs
 
--- src/lib.rt:370:33
 part-read-entry-start : tie.Need-part-read-entry-start Inv-loop μ-loop
 part-read-entry-start c = search needs
 
--- src/lib.rt:370:33
 part-read-entry-end : tie.Need-part-read-entry-end Inv-loop μ-loop
 part-read-entry-end c = search needs
 
--- src/lib.rt:370:15
 read-entry-requires : tie.Need-read-entry-requires Inv-loop μ-loop
 read-entry-requires c κs = search needs
 
--- src/lib.rt:371:36
 enum-known-x : tie.Need-enum-known-x Inv-loop μ-loop
 enum-known-x c = search needs
 
--- src/lib.rt:372:21
 taken-requires : tie.Need-taken-requires Inv-loop μ-loop
 taken-requires c κs = search needs
 
--- src/lib.rt:375:17
 put-cluster-requires : tie.Need-put-cluster-requires Inv-loop μ-loop
 put-cluster-requires c κs =
     let us = unitsFrom (c .before .before .before .before .before .before .before .before .before .before .before .before .before .before .before .before .before .before .before .before .args .text .now) (unitsStart (c .before .before .before .before .before .before .before .before .before .before .before .before .before .before .before .before .before .before .before .before .args .text .now)) in
@@ -100,7 +89,6 @@ put-cluster-requires c κs =
     let w = fill-turn us s (f .all) (f .walked) _ _ (c .before .before .before .before .before .before .before .before .before .before .loop .c) (l .2) (l .3) (c .before .before .before .before .before .before .before .before .if1 .taken) _ (c .before .before .before .before .before .before .read-entry .ensures) _ _ _ (c .before .before .before .before .x .given .1) (f .text .count) (c .before .before .taken .ensures) _ refl in
     (small-counts us s (f .all) (f .walked) _ _ _ _ _ _ w (l .2), omega (arith, room-clusters us s (f .all) (f .walked) _ _ _ _ _ _ w (l .2), l .4 .same, f .clusters-are, c .before .before .before .before .before .before .before .before .before .before .before .before .before .before .before .before .before .before .before .before .pre .1 .1))
 
--- src/lib.rt:376:17
 put-glyph-requires : tie.Need-put-glyph-requires Inv-loop μ-loop
 put-glyph-requires c κs =
     let us = unitsFrom (c .before .before .before .before .before .before .before .before .before .before .before .before .before .before .before .before .before .before .before .before .before .before .before .args .text .now) (unitsStart (c .before .before .before .before .before .before .before .before .before .before .before .before .before .before .before .before .before .before .before .before .before .before .before .args .text .now)) in
@@ -110,7 +98,6 @@ put-glyph-requires c κs =
     let w = fill-turn us s (f .all) (f .walked) _ _ (c .before .before .before .before .before .before .before .before .before .before .before .before .before .loop .c) (l .2) (l .3) (c .before .before .before .before .before .before .before .before .before .before .before .if1 .taken) _ (c .before .before .before .before .before .before .before .before .before .read-entry .ensures) _ _ _ (c .before .before .before .before .before .before .before .x .given .1) (f .text .count) (c .before .before .before .before .before .taken .ensures) _ refl in
     (omega (arith, room-glyphs us s (f .all) (f .walked) _ _ _ _ _ _ w (l .2), l .5 .same, f .glyphs-are, c .before .before .before .before .before .before .before .before .before .before .before .before .before .before .before .before .before .before .before .before .before .before .before .pre .1 .2), advance-small us s (f .all) (f .walked) _ _ _ _ _ _ w (l .2))
 
--- src/lib.rt:377:41
 add-advance : tie.Need-add-advance Inv-loop μ-loop
 add-advance c =
     let us = unitsFrom (c .before .before .before .before .before .before .before .before .before .before .before .before .before .before .before .before .before .before .before .before .before .before .before .before .before .before .args .text .now) (unitsStart (c .before .before .before .before .before .before .before .before .before .before .before .before .before .before .before .before .before .before .before .before .before .before .before .before .before .before .args .text .now)) in
@@ -120,7 +107,6 @@ add-advance c =
     let i = read-inside us s (c .before .before .before .before .before .before .before .before .before .before .before .before .before .before .before .before .loop .c) _ (c .before .before .before .before .before .before .before .before .before .before .before .before .read-entry .ensures) _ (c .before .before .before .before .before .before .before .before .before .before .x .given .1) (c .before .before .before .before .before .before .before .before .before .before .before .before .before .before .if1 .taken) in
     omega (arith, i, l .3 .few-bytes)
 
--- src/lib.rt:377:41
 add-advance-2 : tie.Need-add-advance-2 Inv-loop μ-loop
 add-advance-2 c =
     let us = unitsFrom (c .before .before .before .before .before .before .before .before .before .before .before .before .before .before .before .before .before .before .before .before .before .before .before .before .before .before .args .text .now) (unitsStart (c .before .before .before .before .before .before .before .before .before .before .before .before .before .before .before .before .before .before .before .before .before .before .before .before .before .before .args .text .now)) in
@@ -130,7 +116,6 @@ add-advance-2 c =
     let i = read-inside us s (c .before .before .before .before .before .before .before .before .before .before .before .before .before .before .before .before .loop .c) _ (c .before .before .before .before .before .before .before .before .before .before .before .before .read-entry .ensures) _ (c .before .before .before .before .before .before .before .before .before .before .x .given .1) (c .before .before .before .before .before .before .before .before .before .before .before .before .before .before .if1 .taken) in
     omega (arith, i, l .3 .few-bytes)
 
--- src/lib.rt:377:17
 advance-requires : tie.Need-advance-requires Inv-loop μ-loop
 advance-requires c κs =
     let us = unitsFrom (c .before .before .before .before .before .before .before .before .before .before .before .before .before .before .before .before .before .before .before .before .before .before .before .before .before .before .args .text .now) (unitsStart (c .before .before .before .before .before .before .before .before .before .before .before .before .before .before .before .before .before .before .before .before .before .before .before .before .before .before .args .text .now)) in
@@ -140,7 +125,6 @@ advance-requires c κs =
     let w = fill-turn us s (f .all) (f .walked) _ _ (c .before .before .before .before .before .before .before .before .before .before .before .before .before .before .before .before .loop .c) (l .2) (l .3) (c .before .before .before .before .before .before .before .before .before .before .before .before .before .before .if1 .taken) _ (c .before .before .before .before .before .before .before .before .before .before .before .before .read-entry .ensures) _ _ _ (c .before .before .before .before .before .before .before .before .before .before .x .given .1) (f .text .count) (c .before .before .before .before .before .before .before .before .taken .ensures) _ refl in
     (omega (arith, l .3 .number, l .3 .few-bytes, c .before .before .before .before .before .before .before .before .before .before .before .before .before .before .if1 .taken), omega (arith, w .units-few, l .3 .few-units), l .3 .some)
 
--- src/lib.rt:368:5
 loop-less : tie.Need-loop-less Inv-loop μ-loop
 loop-less c =
     let us = unitsFrom (c .before .before .before .before .before .before .before .before .before .before .before .before .before .before .before .before .before .before .before .before .before .before .before .before .before .before .before .args .text .now) (unitsStart (c .before .before .before .before .before .before .before .before .before .before .before .before .before .before .before .before .before .before .before .before .before .before .before .before .before .before .before .args .text .now)) in
@@ -150,7 +134,6 @@ loop-less c =
     let w = fill-turn us s (f .all) (f .walked) _ _ (c .before .before .before .before .before .before .before .before .before .before .before .before .before .before .before .before .before .loop .c) (l .2) (l .3) (c .before .before .before .before .before .before .before .before .before .before .before .before .before .before .before .if1 .taken) _ (c .before .before .before .before .before .before .before .before .before .before .before .before .before .read-entry .ensures) _ _ _ (c .before .before .before .before .before .before .before .before .before .before .before .x .given .1) (f .text .count) (c .before .before .before .before .before .before .before .before .before .taken .ensures) _ (c .advance .ensures) in
     omega (arith, w .further, w .ready .place)
 
--- src/lib.rt:368:5
 loop-again : tie.Need-loop-again Inv-loop μ-loop
 loop-again c =
     let us = unitsFrom (c .before .before .before .before .before .before .before .before .before .before .before .before .before .before .before .before .before .before .before .before .before .before .before .before .before .before .before .args .text .now) (unitsStart (c .before .before .before .before .before .before .before .before .before .before .before .before .before .before .before .before .before .before .before .before .before .before .before .before .before .before .before .args .text .now)) in
@@ -166,23 +149,18 @@ loop-again c =
       glyphs-stored us s (f .all) (f .walked) _ _ _ _ _ _ w (l .2) _ _ _ (l .5) (c .before .before .before .put-glyph .ensures) (omega (arith, f .glyphs-are, c .before .before .before .before .before .before .before .before .before .before .before .before .before .before .before .before .before .before .before .before .before .before .before .before .before .before .before .pre .1 .2)),
     )
 
--- src/lib.rt:380:17
 enum-told : tie.Need-enum-told Inv-loop μ-loop
 enum-told c = search needs
 
--- src/lib.rt:380:17
 same-length : tie.Need-same-length Inv-loop μ-loop
 same-length c = search needs
 
--- src/lib.rt:380:17
 same-length-2 : tie.Need-same-length-2 Inv-loop μ-loop
 same-length-2 c = c .before .before .before .before .before .before .loop .inv .4 .same
 
--- src/lib.rt:380:17
 same-length-3 : tie.Need-same-length-3 Inv-loop μ-loop
 same-length-3 c = c .before .before .before .before .before .before .loop .inv .5 .same
 
--- src/lib.rt:380:17
 returns : tie.Need-returns Inv-loop μ-loop
 returns c =
     let us = unitsFrom (c .before .before .before .before .before .before .before .before .before .before .before .before .before .before .before .before .args .text .now) (unitsStart (c .before .before .before .before .before .before .before .before .before .before .before .before .before .before .before .before .args .text .now)) in
@@ -191,7 +169,6 @@ returns c =
     let l = c .before .before .before .before .before .before .loop .inv in
     fill-never us s (f .all) (f .walked) _ _ (c .before .before .before .before .before .before .loop .c) (l .2) (l .3) (c .before .before .before .before .if1 .taken) _ (c .before .before .read-entry .ensures) _ (c .enum-told .given .1)
 
--- src/lib.rt:384:15
 sub-fill-tail : tie.Need-sub-fill-tail Inv-loop μ-loop
 sub-fill-tail c =
     let us = unitsFrom (c .before .before .before .before .before .before .before .before .before .before .before .before .before .args .text .now) (unitsStart (c .before .before .before .before .before .before .before .before .before .before .before .before .before .args .text .now)) in
@@ -200,7 +177,6 @@ sub-fill-tail c =
     let l = c .before .before .before .loop .inv in
     omega (arith, l .3 .inside, f .text .count)
 
--- src/lib.rt:384:5
 fill-tail-requires : tie.Need-fill-tail-requires Inv-loop μ-loop
 fill-tail-requires c κs =
     let us = unitsFrom (c .before .before .before .before .before .before .before .before .before .before .before .before .before .before .before .args .text .now) (unitsStart (c .before .before .before .before .before .before .before .before .before .before .before .before .before .before .before .args .text .now)) in
@@ -211,19 +187,15 @@ fill-tail-requires c κs =
     let b = end-glyphs us s (f .all) (f .walked) _ _ (c .before .before .before .before .before .loop .c) (l .2) (l .3) (c .before .before .before .if1 .left) in
     omega (arith, a, b, f .text .count, f .clusters-are, f .glyphs-are, l .4 .same, l .5 .same, c .before .before .before .before .before .before .before .before .before .before .before .before .before .before .before .pre .1 .1, c .before .before .before .before .before .before .before .before .before .before .before .before .before .before .before .pre .1 .2)
 
--- src/lib.rt:351:1
 same-length-4 : tie.Need-same-length-4 Inv-loop μ-loop
 same-length-4 c = search needs
 
--- src/lib.rt:351:1
 same-length-5 : tie.Need-same-length-5 Inv-loop μ-loop
 same-length-5 c = c .before .before .fill-tail .kept .1 .1 .1 .0 ∙ c .before .before .before .before .before .before .before .before .loop .inv .4 .same
 
--- src/lib.rt:351:1
 same-length-6 : tie.Need-same-length-6 Inv-loop μ-loop
 same-length-6 c = c .before .before .fill-tail .kept .1 .1 .1 .1 .0 ∙ c .before .before .before .before .before .before .before .before .loop .inv .5 .same
 
--- src/lib.rt:351:1
 returns-2 : tie.Need-returns-2 Inv-loop μ-loop
 returns-2 c =
     let us = unitsFrom (c .before .before .before .before .before .before .before .before .before .before .before .before .before .before .before .before .before .before .args .text .now) (unitsStart (c .before .before .before .before .before .before .before .before .before .before .before .before .before .before .before .before .before .before .args .text .now)) in

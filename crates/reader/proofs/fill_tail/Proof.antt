@@ -23,35 +23,27 @@ Inv-loop m n k clusters₀ glyphs₀ rest₀ c₀ g₀ clusters glyphs rest c g 
 abbrev μ-loop : tie.MeasureT-loop
 μ-loop m n k clusters₀ glyphs₀ rest₀ c₀ g₀ clusters glyphs rest c g = rest
 
--- src/lib.rt:305:5
 loop-holds : tie.Need-loop-holds Inv-loop μ-loop
 loop-holds c = (refl, refl, omega arith, omega arith, refl, refl)
 
--- src/lib.rt:306:9
 put-cluster-requires : tie.Need-put-cluster-requires Inv-loop μ-loop
 put-cluster-requires c κs = (λ _. (omega arith, omega arith), simp (opened-yes 0 1 1 refl) (omega arith))
 
--- src/lib.rt:307:9
 put-glyph-requires : tie.Need-put-glyph-requires Inv-loop μ-loop
 put-glyph-requires c κs = (omega arith, refl)
 
--- src/lib.rt:317:9
 sub-rest : tie.Need-sub-rest Inv-loop μ-loop
 sub-rest c = omega arith
 
--- src/lib.rt:318:9
 add-c : tie.Need-add-c Inv-loop μ-loop
 add-c c = omega arith
 
--- src/lib.rt:319:9
 add-g : tie.Need-add-g Inv-loop μ-loop
 add-g c = omega arith
 
--- src/lib.rt:305:5
 loop-less : tie.Need-loop-less Inv-loop μ-loop
 loop-less c = omega arith
 
--- src/lib.rt:305:5
 loop-again : tie.Need-loop-again Inv-loop μ-loop
 loop-again c = (
   c .before .before .before .before .put-cluster .kept .0 ∙ c .before .before .before .before .before .before .before .loop .inv .0,
@@ -62,15 +54,12 @@ loop-again c = (
   tail-four _ _ _ _ _ (c .before .put-glyph .ensures) (c .before .before .before .before .before .before .loop-test .taken) (c .before .before .before .before .before .before .before .loop .inv .5),
 )
 
--- src/lib.rt:297:1
 same-length : tie.Need-same-length Inv-loop μ-loop
 same-length c = c .before .loop .inv .0
 
--- src/lib.rt:297:1
 same-length-2 : tie.Need-same-length-2 Inv-loop μ-loop
 same-length-2 c = c .before .loop .inv .1
 
--- src/lib.rt:297:1
 returns : tie.Need-returns Inv-loop μ-loop
 returns c = (tail-none _ _ _ _ (c .loop-test .left) (c .before .loop .inv .4), tail-none-four _ _ _ _ (c .loop-test .left) (c .before .loop .inv .5))
 
