@@ -5,3 +5,4 @@ pub mod Endings
 pub mod Stores
 pub mod Filling
 pub mod Calls
+pub mod Faults
