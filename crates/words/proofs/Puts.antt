@@ -1,15 +1,11 @@
 -- Bytes stored from a place on: one store, one behind another, none; and the laws of a loop that stores. Assumes nothing.
 use mathlib.Core.Path.{_≡_, refl, sym, ap, _∙_, subst}
-use mathlib.Core.Bool.{Bool, true, false, cond, not, _&&_, _||_}
-use mathlib.Core.List.{List, [], _∷_, _++_, append-nil}
-use Prim.Native.Nat.{ℕ, zero, suc, _+_, _-_, _*_, _/_, _%_, _^_, _<_, _≤_}
+use mathlib.Core.List.{List, [], _∷_, _++_}
+use Prim.Native.Nat.{ℕ, suc, _+_, _≤_}
 use native.Mathlib.Nat.{add-zero}
-use native.Mathlib.Numerals.{add-one}
 use native.Mathlib.Omega.{arith}
-use borrow.Author.Tests.{le-leb, lt-leb, lt-ltb, le-ltb, eq-eqb, ne-eqb, leb-true, eqb-true, ltb-true, ltb-false}
-use lib.Dec.{leb, ltb, eqb}
-use lib.ListN.{length, getD, take, drop, set, length-append}
-use lib.Seq.{sets, sets-eq, length-sets, set-out}
+use lib.ListN.{length, drop, set, length-append}
+use lib.Seq.{sets-eq, length-sets, set-out}
 use Rattle.words.specs.Puts.{puts, Put}
 
 puts-append : (l : List ℕ) (i : ℕ) (x y : List ℕ) → puts (puts l i x) (i + length x) y ≡ puts l i (x ++ y)

@@ -1,12 +1,11 @@
 -- Signed numbers of 32 bits, by their bits: `ofZ w32 v` is a plain number, which `omega` reads. Assumes nothing.
 use mathlib.Core.Path.{_≡_, refl, sym, ap, _∙_, subst⁻¹}
-use mathlib.Core.Bool.{Bool, true, false, not}
+use mathlib.Core.Bool.{true, false, not}
 use Prim.Native.Nat.{ℕ, zero, suc, _+_, _-_, _%_, _<_, _≤_}
 use native.Mathlib.Omega.{arith}
-use borrow.Author.Tests.{ltb-true, ltb-false, le-ltb, le-leb, lt-leb}
-use lib.Dec.{leb}
+use borrow.Author.Tests.{ltb-true, le-ltb}
 use lib.IntN.{ℤ, pos, negsuc, negℤ, natAbs, _-ℤ_, +ℤ-idl}
-use lib.Signed.{mag, ltZ, leZ, nonNeg}
+use lib.Signed.{mag, ltZ, nonNeg}
 use lib.Bits.{bitAnd, and-mask}
 use mir.Syntax.{w32}
 use mir.Val.{SFits, ofZ, toZ}

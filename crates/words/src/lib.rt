@@ -3,14 +3,16 @@
 ghost use mathlib.Core.Path.{_≡_};
 ghost use mathlib.Core.Bool.{_&&_, _||_};
 ghost use mathlib.Core.List.{[], _∷_};
-ghost use Prim.Native.Nat.{_+_, _-_, _*_, _<_, _≤_};
-ghost use lib.IntN.{ℤ, pos, negsuc, natAbs};
-ghost use lib.ListN.{length, getD};
+ghost use Prim.Native.Nat.{_+_, _-_, _*_, _/_, _<_, _≤_};
+ghost use lib.IntN.{natAbs};
+ghost use lib.ListN.{length};
 ghost use mir.Syntax.{w32};
 ghost use mir.Val.{ofZ, toZ};
 ghost use Rattle.label.specs.Sound.{natural, choice, nat, size};
+ghost use Rattle.label.specs.Calls.{filled};
+ghost use Rattle.label.specs.Wire.{fromHalves, fromWords, halves, words};
 ghost use Rattle.words.specs.Places.{place};
-ghost use Rattle.words.specs.Words.{putWord, wordAt, putInt, intAt};
+ghost use Rattle.words.specs.Words.{putHalf, halfAt, putWord, wordAt, putInt, intAt};
 ghost use Rattle.words.specs.Puts.{Put};
 
 // ── truth values ──
@@ -149,6 +151,85 @@ pub fn get_i32(buf: &[u8], at: usize) -> i32
     ensures { λ r. ⌜ r ≡ intAt (now (buf .entry)) at ⌝ }
 {
     of_bits(get_u32(buf, at))
+}
+
+// A byte as half of a 16-bit number.
+pub fn half(b: u8) -> u16
+    ensures { λ r. ⌜ (r ≡ b) × (r < 256) ⌝ }
+{
+    b as u16
+}
+
+pub fn put_u16(buf: &mut [u8], at: usize, n: u16)
+    requires { ⌜ at + 1 < length (now buf) ⌝ }
+    ensures { λ _. ⌜ now (buf .exit) ≡ putHalf (now (buf .entry)) at n ⌝ }
+{
+    buf[at] = (n & 0xff) as u8;
+    buf[at + 1] = (n >> 8) as u8;
+}
+
+pub fn get_u16(buf: &[u8], at: usize) -> u16
+    requires { ⌜ at + 1 < length (now buf) ⌝ }
+    ensures { λ r. ⌜ r ≡ halfAt (now (buf .entry)) at ⌝ }
+{
+    let a = half(buf[at]);
+    let b = half(buf[at + 1]);
+    a + b * 256
+}
+
+// ── a run's numbers as bytes and back; what stands behind them stays ──
+
+pub fn pack_units(src: &[u16], out: &mut [u8])
+    requires { ⌜ 2 * length (now src) ≤ length (now out) ⌝ }
+    ensures { λ _. ⌜ now (out .exit) ≡ filled (fromHalves (now (src .entry))) (now (out .entry)) ⌝ }
+{
+    let mut i = 0;
+    while i < src.len() {
+        let at = 2 * i;
+        put_u16(out, at, src[i]);
+        i += 1;
+    }
+}
+
+pub fn pack_numbers(src: &[i32], out: &mut [u8])
+    requires { ⌜ 4 * length (now src) ≤ length (now out) ⌝ }
+    ensures { λ _. ⌜ now (out .exit) ≡ filled (fromWords (now (src .entry))) (now (out .entry)) ⌝ }
+{
+    let mut i = 0;
+    while i < src.len() {
+        let v = src[i];
+        let at = 4 * i;
+        put_i32(out, at, v);
+        i += 1;
+    }
+}
+
+pub fn unpack_units(src: &[u8], out: &mut [u16])
+    requires { ⌜ length (now src) / 2 ≤ length (now out) ⌝ }
+    ensures { λ _. ⌜ now (out .exit) ≡ filled (halves (now (src .entry))) (now (out .entry)) ⌝ }
+{
+    let mut k = 0;
+    let mut i = 0;
+    while 2 <= src.len() - k {
+        let u = get_u16(src, k);
+        out[i] = u;
+        k += 2;
+        i += 1;
+    }
+}
+
+pub fn unpack_numbers(src: &[u8], out: &mut [i32])
+    requires { ⌜ length (now src) / 4 ≤ length (now out) ⌝ }
+    ensures { λ _. ⌜ now (out .exit) ≡ filled (words (now (src .entry))) (now (out .entry)) ⌝ }
+{
+    let mut k = 0;
+    let mut i = 0;
+    while 4 <= src.len() - k {
+        let v = get_i32(src, k);
+        out[i] = v;
+        k += 4;
+        i += 1;
+    }
 }
 
 // ── bytes, stored as far as there is room ──

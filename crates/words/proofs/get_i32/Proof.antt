@@ -5,10 +5,6 @@ use Rattle.words.proofs.Signed.{back}
 use borrow.Author.Needs.{needs}
 use Rattle.words.proofs.get_i32.Statement.{statement}
 use Rattle.words.proofs.get_i32.Tie as tie
-use Rattle.words.proofs.get_i32.Reads as reads
-use Rattle.words.proofs.get_i32.Lts as lts
-use Rattle.words.proofs.get_u32.Reads as get-u32-reads
-use Rattle.words.proofs.of_bits.Reads as of-bits-reads
 
 get-u32-requires : tie.Need-get-u32-requires
 get-u32-requires c κs = search needs

@@ -2,9 +2,6 @@ use Rattle.words.specs.Words.{wordAt}
 use borrow.Author.Needs.{needs}
 use Rattle.words.proofs.get_u32.Statement.{statement}
 use Rattle.words.proofs.get_u32.Tie as tie
-use Rattle.words.proofs.get_u32.Reads as reads
-use Rattle.words.proofs.get_u32.Lts as lts
-use Rattle.words.proofs.wide.Reads as wide-reads
 
 shared-slice-read-wide : tie.Need-shared-slice-read-wide
 shared-slice-read-wide c = search needs

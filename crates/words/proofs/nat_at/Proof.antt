@@ -5,10 +5,6 @@ use mathlib.Core.Path.{sym, _∙_}
 use borrow.Author.Needs.{needs}
 use Rattle.words.proofs.nat_at.Statement.{statement}
 use Rattle.words.proofs.nat_at.Tie as tie
-use Rattle.words.proofs.nat_at.Reads as reads
-use Rattle.words.proofs.nat_at.Lts as lts
-use Rattle.words.proofs.natural_at.Reads as natural-at-reads
-use Rattle.words.proofs.size_at.Reads as size-at-reads
 
 natural-at-requires : tie.Need-natural-at-requires
 natural-at-requires c κs = search needs

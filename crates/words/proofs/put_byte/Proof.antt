@@ -3,8 +3,6 @@ use native.Mathlib.Omega.{arith}
 use borrow.Author.Needs.{needs}
 use Rattle.words.proofs.put_byte.Statement.{statement}
 use Rattle.words.proofs.put_byte.Tie as tie
-use Rattle.words.proofs.put_byte.Reads as reads
-use Rattle.words.proofs.put_byte.Lts as lts
 
 add-result : tie.Need-add-result
 add-result c = search needs

@@ -6,10 +6,6 @@ use Rattle.words.specs.Words.{putWord}
 use borrow.Author.Needs.{needs}
 use Rattle.words.proofs.put_i32.Statement.{statement}
 use Rattle.words.proofs.put_i32.Tie as tie
-use Rattle.words.proofs.put_i32.Reads as reads
-use Rattle.words.proofs.put_i32.Lts as lts
-use Rattle.words.proofs.put_u32.Reads as put-u32-reads
-use Rattle.words.proofs.bits.Reads as bits-reads
 
 bits-requires : tie.Need-bits-requires
 bits-requires c κs = search needs

@@ -6,8 +6,6 @@ use Rattle.words.specs.Words.{putWord}
 use borrow.Author.Needs.{needs}
 use Rattle.words.proofs.put_u32.Statement.{statement}
 use Rattle.words.proofs.put_u32.Tie as tie
-use Rattle.words.proofs.put_u32.Reads as reads
-use Rattle.words.proofs.put_u32.Lts as lts
 
 cast-buf : tie.Need-cast-buf
 cast-buf c = omega (arith, and-le-r (c .args .n) 255)

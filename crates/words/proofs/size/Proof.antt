@@ -7,9 +7,6 @@ use Rattle.words.proofs.Signed.{size-low, size-high}
 use borrow.Author.Needs.{needs}
 use Rattle.words.proofs.size.Statement.{statement}
 use Rattle.words.proofs.size.Tie as tie
-use Rattle.words.proofs.size.Reads as reads
-use Rattle.words.proofs.size.Lts as lts
-use Rattle.words.proofs.bits.Reads as bits-reads
 
 bits-requires : tie.Need-bits-requires
 bits-requires c κs = search needs

@@ -5,9 +5,6 @@ use mathlib.Core.Path.{_∙_}
 use borrow.Author.Needs.{needs}
 use Rattle.words.proofs.size_at.Statement.{statement}
 use Rattle.words.proofs.size_at.Tie as tie
-use Rattle.words.proofs.size_at.Reads as reads
-use Rattle.words.proofs.size_at.Lts as lts
-use Rattle.words.proofs.size.Reads as size-reads
 
 mul-v : tie.Need-mul-v
 mul-v c = search needs

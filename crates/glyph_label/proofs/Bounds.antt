@@ -1,0 +1,228 @@
+-- The numbers of every answer are below 2^32. Assumes nothing.
+use mathlib.Core.Path.{_≡_, refl}
+use mathlib.Core.Bool.{Bool, true, false, cond, not, _&&_, _||_}
+use mathlib.Core.List.{List, [], _∷_}
+use Prim.Native.Nat.{ℕ, zero, suc, _+_, _-_, _*_, _/_, _≤_}
+use native.Mathlib.Omega.{arith}
+use borrow.Author.Tests.{leb-true}
+use lib.Dec.{leb, ltb, eqb}
+use lib.IntN.{ℤ}
+use lib.ListN.{length, length-drop}
+use Rattle.label.specs.Limits.{maxTextBytes, maxIndicesBytes, maxUnits, maxGlyphs, maxIndex}
+use Rattle.label.specs.Outcome.{Outcome, ok, no, need, _>>=_, _>>_}
+use Rattle.label.specs.Bytes.{empty, value, onFirst, split}
+use Rattle.label.specs.Text.{lead, starts, scalar, xmlChar, decode, braced, marked, unmarked, textUnits}
+use Rattle.label.specs.Entry.{part, indexDigits, wellFormed, fieldFits, Entry, entry, entries}
+use Rattle.label.specs.Run.{Run, whole, tail, State, start, opens, takes, allowed, next, placed, step, walk, runFrom, read}
+use Rattle.label.specs.Sound.{clustersOf, glyphsOf, wholeClusters, wholeGlyphs, soundRun, runOf, sound}
+use Rattle.label.specs.Write.{Label, normal, write}
+use Rattle.label.specs.Pick.{holding, touched, turned, inside, pickUnits, pickGlyphs}
+use Rattle.label.specs.Calls.{counts, counted, readInto, lengths, writeInto}
+use Rattle.label.specs.Wire.{halves, words, noLeftOver, readBytes, writeBytes, pickUnitsBytes, pickGlyphsBytes}
+use Rattle.label.specs.declared.Cluster.{Cluster}
+use Rattle.label.specs.declared.Counts.{Counts}
+use Rattle.label.specs.declared.Stretch.{Stretch}
+use Rattle.label.proofs.Basics.{and-l, and-r, cases, no-ok}
+use Rattle.label.proofs.Splits.{split-nil, split-hit, split-miss}
+use Rattle.label.proofs.Texts.{text-back, proper-first}
+use Rattle.label.proofs.Walks.{step-ok, ok-path, indices-back}
+use Rattle.label.proofs.Sounds.{text-ok, SoundRun, sound-parts, read-sound}
+use Rattle.sound.specs.Sounds.{unitSum}
+use Rattle.sound.proofs.Facts.{few-units, few-glyphs, units-add-up, glyphs-add-up}
+use Rattle.glyph_label.specs.Runs.{pickBytes, ReadingFits, WritingFits, StretchFits}
+use Rattle.glyph_label.proofs.Sizes.{few-clusters}
+
+-- ── the places of 1 to 15 ──
+
+-- a refusal has one of the table's numbers and a place up to k
+data Placed {A : Type 0} (k : ℕ) : Outcome A → Type 0 where
+  fine : {a : A} → Placed k (ok a)
+  refused : {n p : ℕ} → n ≤ 22 → p ≤ k → Placed k (no n p)
+
+module _ (k : ℕ) where
+  need-placed : {A : Type 0} (t : Bool) (n p : ℕ) (o : Outcome A) → n ≤ 22 → p ≤ k → (t ≡ true → Placed k o) → Placed k (need t n p >> o)
+  need-placed true n p o a b f = f refl
+  need-placed false n p o a b f = refused a b
+
+  bind-placed : {A B : Type 0} (o : Outcome A) (f : A → Outcome B) → Placed k o → ((a : A) → o ≡ ok a → Placed k (f a)) → Placed k (o >>= f)
+  bind-placed (ok a) f h g = g a refl
+  bind-placed (no n p) f (refused a b) g = refused a b
+
+  decode-placed : (bs : List ℕ) (skip at : ℕ) → at + length bs ≤ k → Placed k (decode skip at bs)
+  unfolding decode
+  decode-placed [] zero at h = fine
+  decode-placed [] (suc skip) at h = fine
+  decode-placed (b ∷ bs) (suc skip) at h = decode-placed bs skip (suc at) (omega arith)
+  decode-placed (b ∷ bs) zero at h =
+      need-placed (starts b bs) 2 at _ (omega arith) (omega arith)
+      (λ _. need-placed (xmlChar (scalar (lead b .more) b bs)) 3 at _ (omega arith) (omega arith)
+      (λ _. bind-placed (decode (lead b .more) (suc at) bs) _ (decode-placed bs (lead b .more) (suc at) (omega arith)) (λ _ _. fine)))
+
+  text-placed : (text : List ℕ) → length text ≤ k → Placed k (textUnits text)
+  unfolding textUnits
+  text-placed text h =
+      bind-placed (decode 0 0 text) _ (decode-placed text 0 0 (omega arith))
+      (λ all _. need-placed (not (braced all) || marked all) 4 0 _ (omega arith) (omega arith)
+      (λ _. need-placed (leb (length (unmarked all)) maxUnits) 5 0 _ (omega arith) (omega arith) (λ _. fine)))
+
+  tail-placed : (us : List ℕ) (at : ℕ) → at + length us ≤ k → Placed k (tail at us)
+  unfolding tail
+  tail-placed [] at h = fine
+  tail-placed (u ∷ us) at h =
+      need-placed (whole 0 us) 13 (suc at) _ (omega arith) (omega arith) (λ _. bind-placed (tail (suc at) us) _ (tail-placed us (suc at) (omega arith)) (λ _ _. fine))
+
+  entry-placed : (j : ℕ) (s : List ℕ) → j ≤ k → Placed k (entry j s)
+  unfolding entry
+  entry-placed j s h =
+      need-placed (wellFormed s) 7 j _ (omega arith) h
+      (λ _. need-placed (leb (value (indexDigits (part 0 s))) maxIndex) 8 j _ (omega arith) h
+      (λ _. need-placed (fieldFits (part 1 s) && fieldFits (part 2 s) && fieldFits (part 3 s)) 9 j _ (omega arith) h (λ _. fine)))
+
+  checks-placed : (bare : Bool) (st : State) (e : Entry) → st .k ≤ k → st .at + length (st .rest) ≤ k → Placed k (placed bare st e)
+  unfolding placed
+  checks-placed bare st e h r =
+      need-placed (leb 1 (e .units) && leb 1 (e .glyphs)) 10 (st .k) _ (omega arith) h
+      (λ _. need-placed (allowed bare st e) 11 (st .k) _ (omega arith) h
+      (λ _. need-placed (leb (takes bare st e) (length (st .rest))) 12 (st .k) _ (omega arith) h
+      (λ t. let l = leb-true (takes bare st e) (length (st .rest)) t in need-placed (whole (takes bare st e) (st .rest)) 13 (st .at + takes bare st e) _ (omega arith) (omega arith) (λ _. fine))))
+
+  step-placed : (bare : Bool) (st : State) (s : List ℕ) → st .k ≤ k → st .at + length (st .rest) ≤ k → Placed k (step bare st s)
+  unfolding step
+  step-placed bare st s h r = bind-placed (entry (st .k) s) _ (entry-placed (st .k) s h) (λ e _. checks-placed bare st e h r)
+
+  cond-below : (b : Bool) {m n : ℕ} → m ≤ k → n ≤ k → cond b m n ≤ k
+  cond-below true p q = p
+  cond-below false p q = q
+
+  walk-placed : (ss : List (List ℕ)) (bare : Bool) (st : State) → st .k + length ss ≤ k → st .at + length (st .rest) ≤ k → st .opener ≤ k → Placed k (walk bare st ss)
+  unfolding walk
+  walk-placed [] bare st h r o = need-placed (opens st) 14 (st .opener) _ (omega arith) o (λ _. tail-placed (st .rest) (st .at) r)
+  walk-placed (s ∷ ss) bare st h r o =
+      bind-placed (step bare st s) _ (step-placed bare st s (omega arith) r)
+      (λ e q.
+      let l = leb-true (takes bare st e) (length (st .rest)) (step-ok bare st s e q .twelve) in
+      let d = length-drop (takes bare st e) (st .rest) in
+      bind-placed (walk bare (next bare st e) ss) _
+      (walk-placed ss bare (next bare st e) (omega arith) (omega arith) (cond-below (opens st) (omega arith) o))
+      (λ _ _. fine))
+
+  run-placed : (us indices : List ℕ) → length us ≤ k → length (entries indices) ≤ k → Placed k (runFrom us indices)
+  unfolding runFrom
+  run-placed us indices h e =
+      need-placed (not (empty us && empty indices)) 6 0 _ (omega arith) (omega arith)
+      (λ _. bind-placed (walk (empty us) (start us) (entries indices)) _ (walk-placed (entries indices) (empty us) (start us) (omega arith) (omega arith) (omega arith))
+      (λ p _. need-placed (leb (length (p .glyphs)) maxGlyphs) 15 0 _ (omega arith) (omega arith) (λ _. fine)))
+
+first-length : (b : ℕ) (l : List (List ℕ)) → length (onFirst b l) ≤ suc (length l)
+first-length b [] = omega arith
+first-length b (x ∷ l) = omega arith
+
+split-length : (c : ℕ) (s : List ℕ) → length (split c s) ≤ suc (length s)
+split-length c [] = rw (split-nil c) (omega arith)
+split-length c (b ∷ s) =
+    let h = split-length c s in
+    cases (eqb b c) (λ t. rw (split-hit c b s t) (omega arith)) (λ t. rw (split-miss c b s t) (omega (arith, first-length b (split c s))))
+
+entries-length : (s : List ℕ) → length (entries s) ≤ suc (length s)
+unfolding entries
+entries-length [] = omega arith
+entries-length (b ∷ s) = split-length 59 (b ∷ s)
+
+-- the units of an accepted text
+text-few : (text us : List ℕ) → textUnits text ≡ ok us → length us ≤ 4096
+text-few text us h = leb-true (length us) 4096 (text-ok text us h .fifth)
+
+read-placed : (text indices : List ℕ) → Placed 262145 (read text indices)
+unfolding read
+read-placed text indices =
+    need-placed 262145 (leb (length text) maxTextBytes && leb (length indices) maxIndicesBytes) 1 0 _ (omega arith) (omega arith)
+    (λ t.
+    let a = leb-true (length text) 16384 (and-l (leb (length text) 16384) (leb (length indices) 262144) t) in
+    let b = leb-true (length indices) 262144 (and-r (leb (length text) 16384) (leb (length indices) 262144) t) in
+    bind-placed 262145 (textUnits text) _ (text-placed 262145 text (omega arith))
+    (λ us e. let f = text-few text us e in run-placed 262145 us indices (omega arith) (omega (arith, entries-length indices))))
+
+-- ── a reading ──
+
+-- the counts of an accepted label
+pub counts-few : (text indices : List ℕ) (n : Counts) → counted (read text indices) ≡ ok n → (n .units ≤ 4096) × (n .clusters ≤ 4096) × (n .glyphs ≤ 4096)
+counts-few text indices n h = go (read text indices) refl h
+  where
+    go : (o : Outcome Run) → read text indices ≡ o → counted o ≡ ok n → (n .units ≤ 4096) × (n .clusters ≤ 4096) × (n .glyphs ≤ 4096)
+    go (no m p) e q = no-ok m p n q
+    go (ok r) e q =
+        let s : SoundRun r = sound-parts r (read-sound text indices r e) in
+        let c = few-clusters (r .units) (r .clusters) (r .glyphs) (s .fit) in
+        rw (← ok-path (counts r) n q) (s .few-units, omega (arith, s .few-glyphs), s .few-glyphs)
+
+pub reading-fits : (u c g : ℕ) (text indices : List ℕ) → ReadingFits (counted (readBytes u c g text indices))
+unfolding readBytes readInto
+reading-fits u c g text indices = go (read text indices) refl (read-placed text indices)
+  where
+    go : (o : Outcome Run) → read text indices ≡ o → Placed 262145 o
+        → ReadingFits (counted (o >>= (λ r. need (leb (length (r .units)) (u / 2)) 16 (length (r .units)) >> (need (leb (2 * length (r .clusters)) (c / 4)) 17 (length (r .clusters)) >> (need (leb (4 * length (r .glyphs)) (g / 4)) 18 (length (r .glyphs)) >> ok r)))))
+    go (no n p) e (refused a b) = (omega arith, omega arith)
+    go (ok r) e x =
+        let (a, b, d) = counts-few text indices (counts r) (rw e) in
+        cases (leb (length (r .units)) (u / 2))
+        (λ t. cases (leb (2 * length (r .clusters)) (c / 4))
+        (λ s. cases (leb (4 * length (r .glyphs)) (g / 4)) (λ q. rw (t, s, q) (omega arith, omega arith, omega arith)) (λ q. rw (t, s, q) (omega arith, omega arith)))
+        (λ s. rw (t, s) (omega arith, omega arith)))
+        (λ t. rw t (omega arith, omega arith))
+
+-- ── a writing ──
+
+-- the two lengths of a sound run's writing
+written-short : (us : List ℕ) (cs gs : List ℤ) → sound us cs gs ≡ true
+    → (length (normal (runOf us cs gs) .text) ≤ 16384) × (length (normal (runOf us cs gs) .indices) ≤ 262144)
+unfolding sound
+written-short us cs gs h =
+    let s : SoundRun (runOf us cs gs) = sound-parts (runOf us cs gs) (and-r (wholeClusters cs && wholeGlyphs gs) (soundRun (runOf us cs gs)) h) in (
+      text-back us (s .proper) .short (s .few-units),
+      indices-back (empty us) us (clustersOf cs) (glyphsOf gs) (proper-first us (s .proper)) (s .few-units) (s .few-glyphs) (s .fit) .short,
+    )
+
+pub writing-fits : (t i : ℕ) (us cs gs : List ℕ) → WritingFits (lengths (writeBytes t i us cs gs))
+unfolding writeBytes writeInto write
+writing-fits t i us cs gs =
+    let l : Label = normal (runOf (halves us) (words cs) (words gs)) in
+    cases (noLeftOver us cs gs)
+    (λ w. cases (sound (halves us) (words cs) (words gs))
+    (λ s.
+    let (a, b) = written-short (halves us) (words cs) (words gs) s in
+    cases (leb (length (l .text)) t)
+    (λ p. cases (leb (length (l .indices)) i) (λ q. rw (w, s, p, q) (omega arith, omega arith)) (λ q. rw (w, s, p, q) (omega arith, omega arith)))
+    (λ p. rw (w, s, p) (omega arith, omega arith)))
+    (λ s. rw (w, s) (omega arith, omega arith)))
+    (λ w. rw w (omega arith, omega arith))
+
+-- ── a pick ──
+
+holding-below : (cs : List Cluster) (n u : ℕ) → (holding n u cs .first ≤ u + unitSum cs) × (holding n u cs .end ≤ u + unitSum cs)
+unfolding holding unitSum
+holding-below [] n u = (omega arith, omega arith)
+holding-below (c ∷ cs) n u =
+    let (a, b) = holding-below cs (n - c .glyphs) (u + c .units) in
+    cases (ltb n (c .glyphs)) (λ t. rw t (omega arith, omega arith)) (λ t. rw t (omega arith, omega arith))
+
+touched-fits : (first end : ℕ) (cs : List Cluster) → unitSum cs ≤ 4096 → StretchFits (ok (touched first end cs))
+unfolding touched
+touched-fits first end cs h =
+    let a = holding-below cs first 0 .0 in
+    let b = holding-below cs (end - 1) 0 .1 in
+    (omega arith, omega arith)
+
+pick-fits : (t s q : Bool) (x : Stretch) → (s ≡ true → StretchFits (ok x)) → StretchFits (need t 19 0 >> (need s 19 0 >> (need q 22 0 >> ok x)))
+pick-fits false s q x h = (omega arith, omega arith)
+pick-fits true false q x h = (omega arith, omega arith)
+pick-fits true true false x h = (omega arith, omega arith)
+pick-fits true true true x h = h refl
+
+pub stretch-fits : (turn : Bool) (us cs gs : List ℕ) (first end : ℕ) → StretchFits (pickBytes turn us cs gs first end)
+unfolding pickUnitsBytes pickGlyphsBytes pickUnits pickGlyphs
+stretch-fits false us cs gs first end =
+    pick-fits (noLeftOver us cs gs) (sound (halves us) (words cs) (words gs)) (inside first end (length (glyphsOf (words gs)))) (touched first end (clustersOf (words cs)))
+    (λ s. touched-fits first end (clustersOf (words cs)) (let e = units-add-up (halves us) (words cs) (words gs) s in omega (arith, few-units (halves us) (words cs) (words gs) s)))
+stretch-fits true us cs gs first end =
+    pick-fits (noLeftOver us cs gs) (sound (halves us) (words cs) (words gs)) (inside first end (length (halves us))) (touched first end (turned (clustersOf (words cs))))
+    (λ s. touched-fits first end (turned (clustersOf (words cs))) (let e = glyphs-add-up (halves us) (words cs) (words gs) s in omega (arith, few-glyphs (halves us) (words cs) (words gs) s)))

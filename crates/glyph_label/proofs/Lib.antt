@@ -1,0 +1,4 @@
+pub mod Sizes
+pub mod Bounds
+pub mod Fills
+pub mod Writes

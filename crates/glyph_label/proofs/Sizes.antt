@@ -1,0 +1,113 @@
+-- How many numbers a run handed in as bytes has, and the arrays that hold them. Assumes nothing.
+use mathlib.Core.Path.{_≡_, refl, sym, _∙_}
+use mathlib.Core.Bool.{Bool, true, false, _&&_, false≢true}
+use mathlib.Core.List.{List, [], _∷_}
+use Prim.Native.Nat.{ℕ, zero, suc, _-_, _*_, _/_, _%_, _≤_}
+use native.Mathlib.Omega.{arith}
+use borrow.Author.Tests.{le-leb, leb-true}
+use lib.Dec.{leb, eqb}
+use lib.IntN.{ℤ}
+use lib.ListN.{length, drop}
+use Rattle.label.specs.Bytes.{empty}
+use Rattle.label.specs.Run.{named}
+use Rattle.label.specs.Sound.{natural, choice, glyphFits, mayOpen, wholeClusters, wholeGlyphs, clustersOf, glyphsOf, fits, soundRun, runOf, sound}
+use Rattle.label.specs.Wire.{halves, words, evenBytes, wordBytes, noLeftOver}
+use Rattle.label.specs.declared.Cluster.{Cluster}
+use Rattle.label.specs.declared.Glyph.{Glyph}
+use Rattle.label.specs.declared.Counts.{Counts}
+use Rattle.label.proofs.Basics.{and-l, and-r, cases, clash}
+use Rattle.label.proofs.Sounds.{SoundRun, sound-parts}
+use Rattle.words.proofs.Packs.{halves-length, words-length}
+use Rattle.sound.proofs.Facts.{few-units, few-glyphs}
+use Rattle.glyph_label.specs.declared.Room.{Room}
+use Rattle.glyph_label.specs.declared.Room.the-variants.{Small, Medium, Large, Beyond}
+use Rattle.glyph_label.specs.Runs.{within, Holds, RoomFor, wholeBytes, RoomIn}
+
+-- ── arrays ──
+
+pub holds : (k u c g : ℕ) → within k u c g ≡ true → Holds k u c g
+holds k u c g h =
+    let a : (leb u k && leb c (2 * k)) ≡ true = and-l (leb u k && leb c (2 * k)) (leb g (4 * k)) h in
+    (leb-true u k (and-l (leb u k) (leb c (2 * k)) a), leb-true c (2 * k) (and-r (leb u k) (leb c (2 * k)) a), leb-true g (4 * k) (and-r (leb u k && leb c (2 * k)) (leb g (4 * k)) h))
+
+held : (k u c g : ℕ) → u ≤ k → c ≤ 2 * k → g ≤ 4 * k → within k u c g ≡ true
+held k u c g p q r = rw (le-leb u k p, le-leb c (2 * k) q, le-leb g (4 * k) r)
+
+pub in-room : (u c g : ℕ) (r : Room) → wholeBytes u c g ≡ true → RoomFor (u / 2) (c / 4) (g / 4) r → RoomIn u c g r
+in-room u c g Small w h = (w, h)
+in-room u c g Medium w h = (w, h)
+in-room u c g Large w h = (w, h)
+in-room u c g Beyond w h = rw (w, h)
+
+pub not-beyond : {A : Type 0} {n : Counts} → (n .units ≤ 4096) × (n .clusters ≤ 4096) × (n .glyphs ≤ 4096) → within 4096 (n .units) (2 * n .clusters) (4 * n .glyphs) ≡ false → A
+not-beyond {n = n} (u, c, g) h =
+    clash (within 4096 (n .units) (2 * n .clusters) (4 * n .glyphs)) (held 4096 (n .units) (2 * n .clusters) (4 * n .glyphs) u (omega arith) (omega arith)) h
+
+-- ── whole numbers ──
+
+even-is : (s : List ℕ) → eqb (length s % 2) 0 ≡ evenBytes s
+unfolding evenBytes
+even-is [] = refl
+even-is (a ∷ []) = refl
+even-is (a ∷ b ∷ s) = let e : suc (suc (length s)) % 2 ≡ length s % 2 = omega arith in rw e (even-is s)
+
+word-is : (s : List ℕ) → eqb (length s % 4) 0 ≡ wordBytes s
+unfolding wordBytes
+word-is [] = refl
+word-is (a ∷ []) = refl
+word-is (a ∷ b ∷ []) = refl
+word-is (a ∷ b ∷ c ∷ []) = refl
+word-is (a ∷ b ∷ c ∷ d ∷ s) = let e : suc (suc (suc (suc (length s)))) % 4 ≡ length s % 4 = omega arith in rw e (word-is s)
+
+pub whole-is : (us cs gs : List ℕ) → wholeBytes (length us) (length cs) (length gs) ≡ noLeftOver us cs gs
+whole-is us cs gs = rw (even-is us, word-is cs, word-is gs)
+
+-- ── a sound run has no more clusters than glyphs, and no more numbers than the large arrays hold ──
+
+fits-few : (bare : Bool) (lack : ℕ) (us : List ℕ) (cs : List Cluster) (gs : List Glyph) → fits bare lack us cs gs ≡ true → length cs ≤ length gs
+unfolding fits
+fits-few bare lack us [] gs e = omega arith
+fits-few bare lack us (c ∷ cs) [] e = clash false (and-r (eqb lack 0) false (and-l (eqb lack 0 && false) (empty us) e)) refl
+fits-few bare (suc n) us (c ∷ cs) (g ∷ gs) e =
+    let h = fits-few bare n us (c ∷ cs) gs (and-r (glyphFits g && named (g .index)) _ e) in omega arith
+fits-few bare zero us (c ∷ cs) (g ∷ gs) e =
+    let h = fits-few bare (c .glyphs - 1) (drop (c .units) us) cs gs (and-r (glyphFits g && mayOpen bare us c g) _ e) in omega arith
+
+cluster-numbers : (zs : List ℤ) → wholeClusters zs ≡ true → length zs ≡ 2 * length (clustersOf zs)
+unfolding wholeClusters clustersOf
+cluster-numbers [] h = refl
+cluster-numbers (a ∷ []) h = absurd (false≢true h)
+cluster-numbers (a ∷ b ∷ zs) h = let e = cluster-numbers zs (and-r (natural a && natural b) (wholeClusters zs) h) in omega arith
+
+glyph-numbers : (zs : List ℤ) → wholeGlyphs zs ≡ true → length zs ≡ 4 * length (glyphsOf zs)
+unfolding wholeGlyphs glyphsOf
+glyph-numbers [] h = refl
+glyph-numbers (i ∷ []) h = absurd (false≢true h)
+glyph-numbers (i ∷ a ∷ []) h = absurd (false≢true h)
+glyph-numbers (i ∷ a ∷ u ∷ []) h = absurd (false≢true h)
+glyph-numbers (i ∷ a ∷ u ∷ v ∷ zs) h = let e = glyph-numbers zs (and-r (choice i && choice a) (wholeGlyphs zs) h) in omega arith
+
+pub few-clusters : (us : List ℕ) (cs : List Cluster) (gs : List Glyph) → fits (empty us) 0 us cs gs ≡ true → length cs ≤ length gs
+few-clusters us cs gs h = fits-few (empty us) 0 us cs gs h
+
+sound-within : (us : List ℕ) (cs gs : List ℤ) → sound us cs gs ≡ true → within 4096 (length us) (length cs) (length gs) ≡ true
+unfolding sound
+sound-within us cs gs h =
+    let w : (wholeClusters cs && wholeGlyphs gs) ≡ true = and-l (wholeClusters cs && wholeGlyphs gs) (soundRun (runOf us cs gs)) h in
+    let s : SoundRun (runOf us cs gs) = sound-parts (runOf us cs gs) (and-r (wholeClusters cs && wholeGlyphs gs) (soundRun (runOf us cs gs)) h) in
+    let c = cluster-numbers cs (and-l (wholeClusters cs) (wholeGlyphs gs) w) in
+    let g = glyph-numbers gs (and-r (wholeClusters cs) (wholeGlyphs gs) w) in
+    let f = few-clusters us (clustersOf cs) (glyphsOf gs) (s .fit) in
+    held 4096 (length us) (length cs) (length gs) (s .few-units) (omega (arith, s .few-glyphs)) (omega (arith, s .few-glyphs))
+
+-- bytes beyond the large arrays, or left over: no sound run
+pub beyond : (us cs gs : List ℕ)
+    → (wholeBytes (length us) (length cs) (length gs) && within 4096 (length us / 2) (length cs / 4) (length gs / 4)) ≡ false
+    → (noLeftOver us cs gs && sound (halves us) (words cs) (words gs)) ≡ false
+beyond us cs gs h =
+    cases (noLeftOver us cs gs && sound (halves us) (words cs) (words gs))
+    (λ t.
+    let w = sound-within (halves us) (words cs) (words gs) (and-r (noLeftOver us cs gs) _ t) in
+    let e : within 4096 (length us / 2) (length cs / 4) (length gs / 4) ≡ true = rw (halves-length us, words-length cs, words-length gs) at w in
+    clash true refl (sym (rw (whole-is us cs gs, and-l (noLeftOver us cs gs) _ t, e)) ∙ h))
+    (λ t. t)

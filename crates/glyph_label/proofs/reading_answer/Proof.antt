@@ -1,0 +1,50 @@
+use Rattle.glyph_label.specs.Runs.{ReadingFits}
+use Rattle.glyph_label.specs.Answers.{readingAnswer}
+use Rattle.label.specs.declared.Reading.{Reading}
+use Rattle.label.specs.Calls.{readingOutcome}
+use mathlib.Core.Path.{sym, ap, subst}
+use native.Mathlib.Omega.{arith}
+use borrow.Author.Needs.{needs}
+use Rattle.glyph_label.proofs.reading_answer.Statement.{statement}
+use Rattle.glyph_label.proofs.reading_answer.Tie as tie
+
+enum-known-r : tie.Need-enum-known-r
+enum-known-r c = search needs
+
+cast-t5 : tie.Need-cast-t5
+cast-t5 c = omega (arith, subst (λ (a : Reading). ReadingFits (readingOutcome a)) (c .before .before .r .given .1) (c .before .before .before .before .pre))
+
+cast-t6 : tie.Need-cast-t6
+cast-t6 c = omega (arith, subst (λ (a : Reading). ReadingFits (readingOutcome a)) (c .before .before .before .r .given .1) (c .before .before .before .before .before .pre))
+
+cast-t7 : tie.Need-cast-t7
+cast-t7 c = omega (arith, subst (λ (a : Reading). ReadingFits (readingOutcome a)) (c .before .before .before .before .r .given .1) (c .before .before .before .before .before .before .pre))
+
+enum-known-r-2 : tie.Need-enum-known-r-2
+enum-known-r-2 c = search needs
+
+cast-t8 : tie.Need-cast-t8
+cast-t8 c = omega (arith, subst (λ (a : Reading). ReadingFits (readingOutcome a)) (c .before .before .r2 .given .1) (c .before .before .before .before .pre))
+
+cast-t9 : tie.Need-cast-t9
+cast-t9 c = omega (arith, subst (λ (a : Reading). ReadingFits (readingOutcome a)) (c .before .before .before .r2 .given .1) (c .before .before .before .before .before .pre))
+
+returns : tie.Need-returns
+returns c = sym (ap (λ (a : Reading). readingAnswer (readingOutcome a)) (c .before .before .before .before .r .given .1))
+
+returns-2 : tie.Need-returns-2
+returns-2 c = sym (ap (λ (a : Reading). readingAnswer (readingOutcome a)) (c .before .before .before .r2 .given .1))
+
+pub reading-answer-spec : {M : Type 1} → statement M
+reading-answer-spec =
+    tie.close
+    (tie.spec
+    enum-known-r
+    cast-t5
+    cast-t6
+    cast-t7
+    enum-known-r-2
+    cast-t8
+    cast-t9
+    returns
+    returns-2)

@@ -1,0 +1,33 @@
+use Rattle.words.specs.Words.{putHalf}
+use lib.Bits.{and-le-r, and-mask}
+use native.Mathlib.Omega.{arith}
+use borrow.Author.Needs.{needs}
+use Rattle.words.proofs.put_u16.Statement.{statement}
+use Rattle.words.proofs.put_u16.Tie as tie
+
+cast-buf : tie.Need-cast-buf
+cast-buf c = omega (arith, and-le-r (c .args .n) 255)
+
+slice-write-buf : tie.Need-slice-write-buf
+slice-write-buf c = search needs
+
+cast-buf-2 : tie.Need-cast-buf-2
+cast-buf-2 c = search needs
+
+add-buf : tie.Need-add-buf
+add-buf c = search needs
+
+slice-write-buf-2 : tie.Need-slice-write-buf-2
+slice-write-buf-2 c = search needs
+
+same-length : tie.Need-same-length
+same-length c = search needs
+
+returns : tie.Need-returns
+unfolding putHalf
+returns c = rw (and-mask (c .args .n) 8)
+
+pub put-u16-spec : {M : Type 1} → statement M
+put-u16-spec =
+    tie.close
+    (tie.spec cast-buf slice-write-buf cast-buf-2 add-buf slice-write-buf-2 same-length returns)

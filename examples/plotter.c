@@ -1,0 +1,119 @@
+/* Reads the label given on the command line, prints its run cluster by cluster, picks a stretch of glyphs, and writes
+ * the label back in its normal writing.
+ *
+ *     cc -I include examples/plotter.c target/staticlib/libglyph_label.a -o plotter
+ *     ./plotter 'flow' '(2:1)192;7,55.5'            picks all glyphs
+ *     ./plotter 'flow' '(2:1)192;7,55.5' 1 2        picks glyph 1
+ */
+#include <stdio.h>
+#include <stdlib.h>
+#include <string.h>
+
+#include "glyph_label.h"
+
+/* Large enough for every label. */
+enum { UNITS = 2 * 4096, CLUSTERS = 8 * 4096, GLYPHS = 16 * 4096, TEXT = 16384, INDICES = 262144 };
+
+static uint8_t units[UNITS], clusters[CLUSTERS], glyphs[GLYPHS], text_out[TEXT], indices_out[INDICES];
+
+static unsigned unit(size_t i) { return units[2 * i] | (unsigned)units[2 * i + 1] << 8; }
+
+/* Number i of clusters or glyphs. */
+static long number(const uint8_t *numbers, size_t i) {
+    const uint8_t *p = numbers + 4 * i;
+    uint32_t bits = p[0] | (uint32_t)p[1] << 8 | (uint32_t)p[2] << 16 | (uint32_t)p[3] << 24;
+    return bits < 0x80000000u ? (long)bits : -(long)(0xffffffffu - bits) - 1;
+}
+
+/* Thousandths as a decimal. */
+static void print_value(const char *name, long v) {
+    unsigned long size = v < 0 ? (unsigned long)-v : (unsigned long)v;
+    printf(" %s %s%lu.%03lu", name, v < 0 ? "-" : "", size / 1000, size % 1000);
+}
+
+static void print_glyph(size_t i) {
+    long index = number(glyphs, 4 * i), advance = number(glyphs, 4 * i + 1);
+    long u = number(glyphs, 4 * i + 2), v = number(glyphs, 4 * i + 3);
+    if (index < 0)
+        printf(" font");
+    else
+        printf(" %ld", index);
+    if (advance >= 0)
+        print_value("advance", advance);
+    if (u != 0)
+        print_value("u", u);
+    if (v != 0)
+        print_value("v", v);
+}
+
+/* One line a cluster: its code units, and its glyphs. */
+static void print_run(glyph_label_reading r) {
+    size_t u = 0, g = 0;
+    printf("%u code units, %u clusters, %u glyphs\n", r.units, r.clusters, r.glyphs);
+    printf("cluster  units / glyphs\n");
+    for (size_t c = 0; c < r.clusters; c++) {
+        size_t u_end = u + (size_t)number(clusters, 2 * c), g_end = g + (size_t)number(clusters, 2 * c + 1);
+        printf("%7zu ", c);
+        for (; u < u_end; u++)
+            printf(" %04X", unit(u));
+        printf(" /");
+        for (; g < g_end; g++) {
+            print_glyph(g);
+            printf(g + 1 < g_end ? "," : "");
+        }
+        printf("\n");
+    }
+}
+
+static void print_bytes(const char *name, const uint8_t *bytes, size_t n) {
+    printf("%s", name);
+    for (size_t i = 0; i < n; i++) {
+        if (bytes[i] < 0x20 || bytes[i] == 0x7f)
+            printf("\\x%02X", bytes[i]);
+        else
+            putchar(bytes[i]);
+    }
+    printf("\n");
+}
+
+/* Number and place of a refusal, and the part of the label that it is about. */
+static int refused(const uint8_t *text, size_t text_len, const uint8_t *indices, size_t indices_len, uint32_t number,
+                   uint32_t place) {
+    glyph_label_part p = glyph_label_fault(text, text_len, indices, indices_len, number, place);
+    printf("refused: number %u, place %u\n", number, place);
+    if (p.in_indices)
+        print_bytes("entry: ", indices + p.start, p.length);
+    else if (p.length != 0)
+        print_bytes("text: ", text + p.start, p.length);
+    return 1;
+}
+
+int main(int argc, char **argv) {
+    if (argc != 2 && argc != 3 && argc != 5) {
+        fprintf(stderr, "usage: plotter TEXT [INDICES [FIRST END]]\n");
+        return 2;
+    }
+    const uint8_t *text = (const uint8_t *)argv[1], *indices = argc < 3 ? NULL : (const uint8_t *)argv[2];
+    size_t text_len = strlen(argv[1]), indices_len = argc < 3 ? 0 : strlen(argv[2]);
+
+    glyph_label_reading r =
+        glyph_label_read(text, text_len, indices, indices_len, units, UNITS, clusters, CLUSTERS, glyphs, GLYPHS);
+    if (r.number != 0)
+        return refused(text, text_len, indices, indices_len, r.number, r.place);
+    print_run(r);
+
+    /* From here on the run is handed in, with its exact sizes. */
+    size_t u = 2 * (size_t)r.units, c = 8 * (size_t)r.clusters, g = 16 * (size_t)r.glyphs;
+    size_t first = argc < 5 ? 0 : strtoul(argv[3], NULL, 10), end = argc < 5 ? r.glyphs : strtoul(argv[4], NULL, 10);
+    glyph_label_stretch s = glyph_label_units_of(units, u, clusters, c, glyphs, g, first, end);
+    if (s.number != 0)
+        return refused(text, text_len, indices, indices_len, s.number, s.place);
+    printf("glyphs %zu to %zu touch the code units %u to %u\n", first, end, s.first, s.end);
+
+    glyph_label_writing w = glyph_label_write(units, u, clusters, c, glyphs, g, text_out, TEXT, indices_out, INDICES);
+    if (w.number != 0)
+        return refused(text, text_len, indices, indices_len, w.number, w.place);
+    print_bytes("text:    ", text_out, w.text);
+    print_bytes("indices: ", indices_out, w.indices);
+    return 0;
+}

@@ -1,0 +1,130 @@
+/* Glyph labels of OpenXPS (ECMA-388, 12.1): from the text and the indices of a Glyphs element to a run of code units,
+ * clusters and glyphs, and back.
+ *
+ * A label is a text (the value of UnicodeString in UTF-8, its XML references resolved) with its indices (the value of
+ * Indices). Reading it gives a run: its UTF-16 code units, its clusters, and its glyph records. Writing a run gives
+ * its normal writing, the one label that stands for all those that read as this run. Picking goes from a stretch of
+ * glyphs to the code units of all clusters that they touch, and back.
+ *
+ * Link target/staticlib/libglyph_label.a (made by `rt staticlib glyph_label`). Nothing is allocated, nothing is kept
+ * between calls, and there is no state: any number of threads may call at once. The largest call takes about
+ * 112 KiB of stack.
+ *
+ * BUFFERS. A buffer is a pointer and its size in bytes. A size of 0 is an empty buffer, and the pointer may then be
+ * NULL. Inputs are const and only read. A buffer that a call fills may share no byte with any other buffer of that
+ * call, and nobody else may write to any of them until the call returns. Pointers need no alignment.
+ *
+ * NUMBERS OF A RUN are bytes, low byte first, on every machine:
+ *
+ *     buffer     one thing     bytes   its numbers
+ *     units      code unit         2   the unit, 0 to 65535
+ *     clusters   cluster           8   its count of code units, its count of glyphs
+ *     glyphs     glyph            16   index, or -1: chosen by the font
+ *                                      advance, or -1: the font's own
+ *                                      u offset
+ *                                      v offset
+ *
+ * Each number of clusters and glyphs is 4 bytes in two's complement. Advances and offsets are in thousandths of the
+ * standard's unit, which is a hundredth of an em. Each cluster holds the units and the glyphs next after those of the
+ * clusters before it.
+ *
+ * ANSWERS. `number` is 0 where the call did what it was asked. Else it is the number of a refusal, `place` is its
+ * place, the other fields are 0, and no byte of any buffer has changed. A call that succeeds changes exactly the
+ * bytes it reports; those behind them stay, left-over bytes that hold no whole number included.
+ *
+ *     number  cause                                                   place
+ *     ------  ------------------------------------------------------  -------------------------------------------
+ *          1  text above 16,384 bytes or indices above 262,144        0
+ *          2  ill-formed UTF-8                                        byte of the text where no character starts
+ *          3  character that XML 1.0 does not allow                   byte of the text where it starts
+ *          4  the text begins with `{` and not with `{}`              0
+ *          5  above 4,096 code units                                  0
+ *          6  no code units and no bytes of indices                   0
+ *          7  entry not well formed                                   number of the entry
+ *          8  index above 65,535                                      number of the entry
+ *          9  number with above 18 digits, or above 2 in its          number of the entry
+ *             exponent, or a size above 1,000,000,000 thousandths
+ *         10  a count of the map is 0                                 number of the entry
+ *         11  a map or a missing index where none may be              number of the entry
+ *         12  the cluster passes the end of the text                  number of the entry
+ *         13  the cluster, or the tail, ends inside a pair            number of the code unit, the pair's low half
+ *         14  the last cluster lacks glyphs                           number of the entry that opened it
+ *         15  above 4,096 glyphs, the tail included                   0
+ *         16  units has too little room                               code units needed
+ *         17  clusters has too little room                            clusters needed
+ *         18  glyphs has too little room                              glyphs needed
+ *         19  the run is not sound: no label reads as it              0
+ *         20  text has too little room                                bytes needed
+ *         21  indices has too little room                             bytes needed
+ *         22  the stretch is empty, reversed or passes the end        0
+ *
+ * Bytes, entries, code units, clusters and glyphs are numbered from 0. The checks are made in this order, but for
+ * 14, which comes before the tail's 13; entries are checked one by one, each from 7 to 13. The first that fails gives
+ * the answer. */
+#ifndef GLYPH_LABEL_H
+#define GLYPH_LABEL_H
+
+#include <stddef.h>
+#include <stdint.h>
+
+#ifdef __cplusplus
+extern "C" {
+#endif
+
+/* What was read: counts of code units, clusters and glyphs, at most 4,096 each. */
+typedef struct {
+    uint32_t number, place, units, clusters, glyphs;
+} glyph_label_reading;
+
+/* Bytes that were written: at most 16,384 of text and 262,144 of indices. */
+typedef struct {
+    uint32_t number, place, text, indices;
+} glyph_label_writing;
+
+/* A stretch from `first` up to and without `end`. */
+typedef struct {
+    uint32_t number, place, first, end;
+} glyph_label_stretch;
+
+/* `length` bytes from byte `start` on, of the text (in_indices is 0) or of the indices (1). */
+typedef struct {
+    uint32_t in_indices;
+    size_t start, length;
+} glyph_label_part;
+
+/* Reads a label into the three buffers of a run. Refusals 1 to 18. Buffers of 8,192, 32,768 and 65,536 bytes are
+ * large enough for every label; to learn what one needs, read it with empty buffers and look at 16, 17 and 18 one
+ * after the other. */
+glyph_label_reading glyph_label_read(const uint8_t *text, size_t text_len, const uint8_t *indices, size_t indices_len,
+                                     uint8_t *units, size_t units_len, uint8_t *clusters, size_t clusters_len,
+                                     uint8_t *glyphs, size_t glyphs_len);
+
+/* Writes a run's normal writing into text and indices. The three sizes of the run are exactly those of its numbers,
+ * so a left-over byte makes it unsound. Refusals 19 to 21. Buffers of 16,384 and 262,144 bytes are large enough for
+ * every run. */
+glyph_label_writing glyph_label_write(const uint8_t *units, size_t units_len, const uint8_t *clusters,
+                                      size_t clusters_len, const uint8_t *glyphs, size_t glyphs_len, uint8_t *text,
+                                      size_t text_len, uint8_t *indices, size_t indices_len);
+
+/* The code units of all clusters touched by the glyphs from `first` up to and without `end`: 0 to 0 in a run without
+ * code units. The run's sizes are exact, as in glyph_label_write. Refusals 19 and 22. */
+glyph_label_stretch glyph_label_units_of(const uint8_t *units, size_t units_len, const uint8_t *clusters,
+                                         size_t clusters_len, const uint8_t *glyphs, size_t glyphs_len,
+                                         size_t first, size_t end);
+
+/* The glyphs of all clusters touched by the code units from `first` up to and without `end`. Refusals 19 and 22. */
+glyph_label_stretch glyph_label_glyphs_of(const uint8_t *units, size_t units_len, const uint8_t *clusters,
+                                          size_t clusters_len, const uint8_t *glyphs, size_t glyphs_len,
+                                          size_t first, size_t end);
+
+/* The part of a label that a refusal is about: for 2 to 4 the text from the place on, for 7 to 12 and 14 the entry.
+ * For every other number, and where there is no such place, it is the empty start of the text (0, 0, 0). The label is
+ * not read again: number and place are taken as they come. */
+glyph_label_part glyph_label_fault(const uint8_t *text, size_t text_len, const uint8_t *indices, size_t indices_len,
+                                   uint32_t number, size_t place);
+
+#ifdef __cplusplus
+}
+#endif
+
+#endif

@@ -1,0 +1,25 @@
+#!/bin/sh
+# Builds the archive, then compiles and runs the tests of the calls for C and the example: plainly, and under valgrind.
+# Quiet but for failures; the last line says what passed.
+set -eu
+cd "$(dirname "$0")/../.."
+out=target/c
+mkdir -p "$out"
+archive=target/staticlib/libglyph_label.a
+
+rt staticlib glyph_label > "$out/staticlib.log" 2>&1 || {
+    cat "$out/staticlib.log"
+    exit 1
+}
+flags="-std=c99 -Wall -Wextra -Werror -O1 -g -Iinclude"
+${CC:-cc} $flags tests/c/test_calls.c "$archive" -o "$out/test_calls"
+${CC:-cc} $flags examples/plotter.c "$archive" -o "$out/plotter"
+${CXX:-c++} -x c++ -Wall -Wextra -Werror -fsyntax-only include/glyph_label.h
+
+passed=$("$out/test_calls")
+checked=$(valgrind -q --error-exitcode=9 "$out/test_calls" 2000)
+"$out/plotter" '{}flow' '(2:1)192;07,+55.50,,0' 1 2 > "$out/plotter.out"
+"$out/plotter" AB '(2:2)5' >> "$out/plotter.out" && exit 1
+diff tests/c/plotter.expected "$out/plotter.out"
+echo "tests/c: $passed"
+echo "tests/c: passed, under valgrind too: ${checked%%;*}; header as C and C++, example"
