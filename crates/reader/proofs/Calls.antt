@@ -32,7 +32,7 @@ use Rattle.text.specs.declared.TextRead.{TextRead}
 use Rattle.text.specs.declared.TextRead.the-variants.{Units, Refused as TextRefused}
 use Rattle.text.proofs.Texts.{text-from}
 use Rattle.reader.specs.Steps.{tailParts}
-use Rattle.reader.proofs.Walking.{units-at}
+use Rattle.reader.proofs.Walking.{walk-end, units-at}
 use Rattle.reader.proofs.Endings.{tail-is}
 
 -- ── where the units start ──
@@ -61,7 +61,7 @@ pub record TextHas (t : List ℕ) (n at : ℕ) : Type 0 where
   pub count : n ≡ length (unitsFrom t at)
   pub few : n ≤ 4096
 
-pub text-has : (t us : List ℕ) → textUnits t ≡ ok us → TextHas t (length us) (unitsStart t)
+text-has : (t us : List ℕ) → textUnits t ≡ ok us → TextHas t (length us) (unitsStart t)
 text-has t us h =
     let d : decode 0 (unitsStart t) (drop (unitsStart t) t) ≡ ok us = text-from t us h in
     let e : unitsFrom t (unitsStart t) ≡ us = units-at t (unitsStart t) us d in
@@ -115,12 +115,9 @@ module _ (t s : List ℕ) where
 -- a run has no more clusters than glyphs
 walk-even : (ss : List (List ℕ)) (bare : Bool) (st : State) (p : Parts) → walk bare st ss ≡ ok p → length (p .clusters) ≤ length (p .glyphs)
 walk-even [] bare st p h =
-    let (t, b) = need-ok (opens st) 14 (st .opener) (tail (st .at) (st .rest)) p (sym (walk-nil bare st) ∙ h) in
+    let (t, b) = need-ok (opens st) 14 (st .opener) (tail (st .at) (st .rest)) p (sym (walk-end bare st) ∙ h) in
     let e : tailParts (length (st .rest)) ≡ p = tail-is (st .rest) (st .at) p b in
     subst (λ (q : Parts). length (q .clusters) ≤ length (q .glyphs)) e (rw (length-replicate (length (st .rest)) (cluster 1 1), length-replicate (length (st .rest)) fontGlyph) (omega arith))
-  where
-    walk-nil : (bare : Bool) (st : State) → walk bare st [] ≡ (need (opens st) 14 (st .opener) >> tail (st .at) (st .rest))
-    walk-nil bare st = unfold walk in refl
 walk-even (s ∷ ss) bare st p h =
     let x : Walked bare st s ss p = walk-ok bare st s ss p h in
     let r : length (x .others .clusters) ≤ length (x .others .glyphs) = walk-even ss bare (next bare st (x .first)) (x .others) (x .walked) in

@@ -108,7 +108,7 @@ entry-inside s k h =
     let r = from-inside s k (firstPlace s) (rw e at h) in
     rw e (omega (arith, r))
 
-pub part-inside : (t s : List ℕ) (n p : ℕ) → faultPart t s n p .start + faultPart t s n p .length ≤ length (cond (faultPart t s n p .«in_indices») s t)
+part-inside : (t s : List ℕ) (n p : ℕ) → faultPart t s n p .start + faultPart t s n p .length ≤ length (cond (faultPart t s n p .«in_indices») s t)
 unfolding faultPart
 part-inside t s n p =
     cases (ofText n && ltb p (length t))

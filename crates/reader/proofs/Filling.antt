@@ -10,7 +10,7 @@ use lib.Dec.{eqb, leb}
 use lib.IntN.{ℤ}
 use lib.ListN.{length, drop, replicate, length-append, length-drop, length-replicate}
 use lib.Seq.{sets}
-use Rattle.label.specs.Outcome.{Outcome, ok, no, need, _>>_}
+use Rattle.label.specs.Outcome.{Outcome, ok, no}
 use Rattle.label.specs.Bytes.{empty}
 use Rattle.label.specs.Entry.{entry, entries}
 use Rattle.label.specs.Run.{Parts, State, start, opens, takes, step, next, walk, tail, cluster, fontGlyph}
@@ -28,7 +28,7 @@ use Rattle.entry.specs.declared.EntryRead.the-variants.{Read, Refused}
 use Rattle.reader.specs.Steps.{itemEntry, advanced, openedHere, clusterPlaces, glyphPlaces, tailParts}
 use Rattle.reader.proofs.Entries.{empty-eqb, leftFrom, left-is, left-few}
 use Rattle.reader.proofs.Placing.{read-is, refused-is}
-use Rattle.reader.proofs.Walking.{stateOf, Stands, Ready, Turned, turned, takes-cut, handed, read-here, refusing, step-no, ends-open, ends-shut}
+use Rattle.reader.proofs.Walking.{walk-end, stateOf, Stands, Ready, Turned, turned, takes-cut, handed, read-here, refusing, step-no, ends-open, ends-shut}
 use Rattle.reader.proofs.Endings.{tail-is}
 use Rattle.reader.proofs.Stores.{Stored, Flattens, clusters-flatten, glyphs-flatten, room-more, flat-stored}
 
@@ -36,12 +36,9 @@ use Rattle.reader.proofs.Stores.{Stored, Flattens, clusters-flatten, gl
 
 walk-lack : (ss : List (List ℕ)) (bare : Bool) (st : State) (p : Parts) → walk bare st ss ≡ ok p → st .lack ≤ length ss
 walk-lack [] bare st p h =
-    let (t, b) = need-ok (opens st) 14 (st .opener) (tail (st .at) (st .rest)) p (sym (walk-nil bare st) ∙ h) in
+    let (t, b) = need-ok (opens st) 14 (st .opener) (tail (st .at) (st .rest)) p (sym (walk-end bare st) ∙ h) in
     let z : st .lack ≡ 0 = eqb-true (st .lack) 0 t in
     omega arith
-  where
-    walk-nil : (bare : Bool) (st : State) → walk bare st [] ≡ (need (opens st) 14 (st .opener) >> tail (st .at) (st .rest))
-    walk-nil bare st = unfold walk in refl
 walk-lack (s ∷ ss) bare st p h =
     let x : Walked bare st s ss p = walk-ok bare st s ss p h in
     let r : next bare st (x .first) .lack ≤ length ss = walk-lack ss bare (next bare st (x .first)) (x .others) (x .walked) in

@@ -11,7 +11,7 @@ use borrow.Author.Tests.{eq-eqb, ne-eqb, leb-true, eqb-true, eqb-false}
 use lib.Dec.{eqb, leb}
 use lib.ListN.{length, take, drop, length-append, length-drop}
 use lib.Seq.{drop-drop}
-use Rattle.label.specs.Outcome.{Outcome, ok, no}
+use Rattle.label.specs.Outcome.{Outcome, ok, no, need, _>>_}
 use Rattle.label.specs.Bytes.{empty}
 use Rattle.label.specs.Text.{decode}
 use Rattle.label.specs.Entry.{Entry, entry, entries}
@@ -46,6 +46,10 @@ after-none (no n p) = refl
 pub after-after : (p q : Parts) (o : Outcome Parts) → after p (after q o) ≡ after (joined p q) o
 after-after p q (ok r) = rw (append-assoc (p .clusters) (q .clusters) (r .clusters), append-assoc (p .glyphs) (q .glyphs) (r .glyphs))
 after-after p q (no n m) = refl
+
+pub walk-end : (bare : Bool) (st : State) → walk bare st [] ≡ (need (opens st) 14 (st .opener) >> tail (st .at) (st .rest))
+unfolding walk
+walk-end bare st = refl
 
 -- ── where the walk stands ──
 
@@ -295,7 +299,7 @@ module _ (text us s : List ℕ) (pre : Parts) (lack : ℕ) (c : Cursor) (st : St
             ∙ ap (over e) q′,
       )
 
-  pub turn-took : (x : Item) (d : Cursor) → entryRead (length head) (entry (c .entry) head) ≡ Read x → Turns (empty us) text c x (Took d)
+  turn-took : (x : Item) (d : Cursor) → entryRead (length head) (entry (c .entry) head) ≡ Read x → Turns (empty us) text c x (Took d)
       → Turned us s pre lack c d (takes (empty us) (stateAt text c) (itemEntry x)) x × At text us d
   unfolding Turns
   turn-took x d h t =
@@ -311,7 +315,7 @@ module _ (text us s : List ℕ) (pre : Parts) (lack : ℕ) (c : Cursor) (st : St
       ∙ ap (λ (y : Item). advanced c (d .byte) (takes (empty us) (stateOf us c lack) e) (y .glyphs) (c .place + y .used + 1)) (sym ex) in
       (turned us s pre lack c st rd hi e q (d .byte) d x n ex u ed, further-on text us c d n (x .glyphs) (c .place + x .used + 1) at (t .1) (t .2))
 
-  pub turn-stopped : (x : Item) (r : Refusal) → entryRead (length head) (entry (c .entry) head) ≡ Read x → Turns (empty us) text c x (Stopped r)
+  turn-stopped : (x : Item) (r : Refusal) → entryRead (length head) (entry (c .entry) head) ≡ Read x → Turns (empty us) text c x (Stopped r)
       → walk (empty us) (start us) (entries s) ≡ no (r .number) (r .place)
   unfolding Turns
   turn-stopped x r h t = let (e, ex, q) = step-read x h (no (r .number) (r .place)) t in refusing us s pre lack c st hi (r .number) (r .place) q

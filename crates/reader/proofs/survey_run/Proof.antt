@@ -1,13 +1,12 @@
 use Rattle.reader.proofs.Endings.{nothing-is, run-nothing, run-stop, run-tail, refused-outcome}
 use Rattle.reader.proofs.Walking.{nothing, Stands, Ready, At, stands-start, ready-start, at-start, at-decodes, at-length, read-here, read-inside, code-took, code-stopped, turn-unread, ends-open}
-use mathlib.Core.Path.{_≡_, sym, _∙_, ap}
+use mathlib.Core.Path.{_≡_, sym, _∙_}
 use Rattle.reader.proofs.Walking.{nothing, Stands, Ready, At, stands-start, ready-start}
 use Rattle.text.specs.Moves.{unitsFrom}
-use Rattle.label.specs.Run.{Parts, tail}
-use Rattle.reader.specs.Steps.{countedFrom}
+use Rattle.label.specs.Run.{Parts}
 use Rattle.label.specs.Bytes.{empty}
 use lib.ListN.{length}
-use mathlib.Core.Path.{_≡_, sym, _∙_, ap}
+use mathlib.Core.Path.{_≡_, sym, _∙_}
 use mathlib.Core.Bool.{false, _&&_}
 use native.Mathlib.Omega.{arith}
 use Prim.Native.Nat.{ℕ, _+_, _-_}
