@@ -125,6 +125,7 @@ pub record Turned (us s : List ℕ) (pre : Parts) (lack : ℕ) (c d : Cursor) (t
   pub stands : Stands us s (joined pre (added (empty us) (stateOf us c lack) e)) lack′ d
   pub ready : Ready us s d
   pub further : c .place < d .place
+  pub behind : c .place + x .used ≤ length s
   pub opened : opens (stateOf us c lack) ≡ eqb (c .lack) 0
   pub units-are : takes (empty us) (stateOf us c lack) e ≡ t
   pub item-is : cutItem (length (here (drop (c .place) s))) e ≡ x
@@ -226,6 +227,7 @@ module _ (us s : List ℕ) (pre : Parts) (lack : ℕ) (c : Cursor) (st : Stands 
             stands = subst (λ (y : Cursor). Stands us s (joined pre (added (empty us) (stateOf us c lack) e)) lacking y) (sym ed) next-stands;
             ready = subst (λ (y : Cursor). Ready us s y) (sym ed) next-ready;
             further = subst (λ (y : Cursor). c .place < y .place) (sym ed) (unfold advanced in omega arith);
+            behind = subst (λ (y : Item). c .place + y .used ≤ length s) ex (here-inside s (c .place) hi);
             opened = same;
             units-are = et;
             item-is = ex;

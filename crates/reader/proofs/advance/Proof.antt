@@ -1,6 +1,6 @@
-use Rattle.reader.specs.Steps.{advanced}
-use borrow.Author.Tests.{eq-eqb, ne-eqb}
 use borrow.Author.Needs.{needs}
+use borrow.Author.Tests.{eq-eqb, ne-eqb}
+use Rattle.reader.specs.Steps.{advanced}
 use Rattle.reader.proofs.advance.Statement.{statement}
 use Rattle.reader.proofs.advance.Tie as tie
 

@@ -1,11 +1,11 @@
-use Rattle.reader.proofs.Stores.{given-fits}
-use Rattle.label.specs.declared.Advance.{Advance}
-use Rattle.label.specs.Sound.{advanceNumber, advanceFits}
-use mathlib.Core.Path.{_≡_, sym, ap, subst, _∙_}
 use mathlib.Core.Bool.{true}
+use mathlib.Core.Path.{_≡_, sym, ap, subst, _∙_}
+use borrow.Author.Needs.{needs}
 use mir.Facts.{toZ-pos}
 use mir.Syntax.{w32}
-use borrow.Author.Needs.{needs}
+use Rattle.label.specs.Sound.{advanceNumber, advanceFits}
+use Rattle.label.specs.declared.Advance.{Advance}
+use Rattle.reader.proofs.Stores.{given-fits}
 use Rattle.reader.proofs.advance_number.Statement.{statement}
 use Rattle.reader.proofs.advance_number.Tie as tie
 

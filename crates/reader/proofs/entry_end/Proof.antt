@@ -1,10 +1,10 @@
-use Rattle.reader.proofs.Entries.{here-semi, here-other, here-end}
-use Rattle.entry.specs.Items.{here}
-use lib.ListN.{length, drop}
-use mathlib.Core.Path.{_≡_, refl}
-use native.Mathlib.Omega.{arith}
 use Prim.Native.Nat.{_+_, _-_, _≤_}
+use native.Mathlib.Omega.{arith}
+use mathlib.Core.Path.{_≡_, refl}
 use borrow.Author.Needs.{needs}
+use lib.ListN.{length, drop}
+use Rattle.entry.specs.Items.{here}
+use Rattle.reader.proofs.Entries.{here-semi, here-other, here-end}
 use Rattle.reader.proofs.entry_end.Statement.{statement}
 use Rattle.reader.proofs.entry_end.Tie as tie
 
@@ -22,8 +22,9 @@ shared-slice-read-if1 c = search needs
 
 returns : tie.Need-returns Inv-loop μ-loop
 returns c =
-    let h = here-semi (c .before .before .before .before .args .s .now) (c .before .before .before .loop .i) (c .before .before .loop-test .taken) (c .if1 .taken) in
-    (omega (arith, h, c .before .before .before .loop .inv .2), (c .before .before .before .loop .inv .0, c .before .before .before .loop .inv .1))
+    let p = c .before .before .before in
+    let h = here-semi (c .before .before .before .before .args .s .now) (p .loop .i) (c .before .before .loop-test .taken) (c .if1 .taken) in
+    (omega (arith, h, p .loop .inv .2), (p .loop .inv .0, p .loop .inv .1))
 
 add-i : tie.Need-add-i Inv-loop μ-loop
 add-i c = search needs
@@ -33,8 +34,9 @@ loop-less c = omega arith
 
 loop-again : tie.Need-loop-again Inv-loop μ-loop
 loop-again c =
-    let h = here-other (c .before .before .before .before .args .s .now) (c .before .before .before .loop .i) (c .before .before .loop-test .taken) (c .if1 .left) in
-    (omega arith, omega arith, omega (arith, h, c .before .before .before .loop .inv .2))
+    let p = c .before .before .before in
+    let h = here-other (c .before .before .before .before .args .s .now) (p .loop .i) (c .before .before .loop-test .taken) (c .if1 .left) in
+    (omega arith, omega arith, omega (arith, h, p .loop .inv .2))
 
 returns-2 : tie.Need-returns-2 Inv-loop μ-loop
 returns-2 c =

@@ -1,6 +1,6 @@
 use native.Mathlib.Omega.{arith}
-use Rattle.reader.proofs.Faults.{part-below, in-indices, in-text, shows-indices, shows-text}
 use borrow.Author.Needs.{needs}
+use Rattle.reader.proofs.Faults.{part-below, in-indices, in-text, shows-indices, shows-text}
 use Rattle.reader.proofs.fault.Statement.{statement}
 use Rattle.reader.proofs.fault.Tie as tie
 

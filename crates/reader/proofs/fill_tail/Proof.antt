@@ -1,13 +1,13 @@
+use Prim.Native.Nat.{_+_, _*_, _≤_}
+use native.Mathlib.Omega.{arith}
+use mathlib.Core.List.{[]}
 use mathlib.Core.Path.{_≡_, refl, _∙_, ap}
-use Rattle.reader.proofs.Stores.{opened-yes, clusters-flatten, glyphs-flatten, tail-more, tail-done}
-use Rattle.reader.specs.Steps.{clusterPlaces, glyphPlaces, tailParts}
+use lib.ListN.{length}
+use lib.Seq.{sets}
 use Rattle.label.specs.Run.{cluster, fontGlyph}
 use Rattle.label.specs.Sound.{flatClusters, flatGlyphs}
-use lib.Seq.{sets}
-use lib.ListN.{length}
-use mathlib.Core.List.{[]}
-use native.Mathlib.Omega.{arith}
-use Prim.Native.Nat.{_+_, _*_, _≤_}
+use Rattle.reader.specs.Steps.{clusterPlaces, glyphPlaces, tailParts}
+use Rattle.reader.proofs.Stores.{opened-yes, clusters-flatten, glyphs-flatten, tail-more, tail-done}
 use Rattle.reader.proofs.fill_tail.Statement.{statement}
 use Rattle.reader.proofs.fill_tail.Tie as tie
 
@@ -43,13 +43,14 @@ loop-less c = omega arith
 
 loop-again : tie.Need-loop-again Inv-loop μ-loop
 loop-again c =
-    let e = c .before .before .before .before .put-cluster .ensures ∙ ap (sets (c .before .before .before .before .before .before .before .loop .clusters) (2 * c .before .before .before .before .before .before .before .loop .c)) (opened-yes 0 1 1 refl) in (
-      c .before .before .before .before .put-cluster .kept .0 ∙ c .before .before .before .before .before .before .before .loop .inv .0,
-      c .before .put-glyph .kept .0 ∙ c .before .before .before .before .before .before .before .loop .inv .1,
+    let p = c .before .before .before .before .before .before .before in
+    let e = c .before .before .before .before .put-cluster .ensures ∙ ap (sets (p .loop .clusters) (2 * p .loop .c)) (opened-yes 0 1 1 refl) in (
+      c .before .before .before .before .put-cluster .kept .0 ∙ p .loop .inv .0,
+      c .before .put-glyph .kept .0 ∙ p .loop .inv .1,
       omega arith,
       omega arith,
-      tail-more flatClusters clusterPlaces 2 clusters-flatten (cluster 1 1) _ _ _ _ _ e (c .before .before .before .before .before .before .loop-test .taken) (c .before .before .before .before .before .before .before .loop .inv .4),
-      tail-more flatGlyphs glyphPlaces 4 glyphs-flatten fontGlyph _ _ _ _ _ (c .before .put-glyph .ensures) (c .before .before .before .before .before .before .loop-test .taken) (c .before .before .before .before .before .before .before .loop .inv .5),
+      tail-more flatClusters clusterPlaces 2 clusters-flatten (cluster 1 1) _ _ _ _ _ e (c .before .before .before .before .before .before .loop-test .taken) (p .loop .inv .4),
+      tail-more flatGlyphs glyphPlaces 4 glyphs-flatten fontGlyph _ _ _ _ _ (c .before .put-glyph .ensures) (c .before .before .before .before .before .before .loop-test .taken) (p .loop .inv .5),
     )
 
 same-length : tie.Need-same-length Inv-loop μ-loop

@@ -1,10 +1,10 @@
-use Rattle.reader.proofs.Faults.{partFrom, from-start, from-next, from-here, from-none}
-use Rattle.reader.specs.Faults.{entryPart}
-use lib.ListN.{length}
-use mathlib.Core.Path.{_≡_, sym, _∙_}
-use native.Mathlib.Omega.{arith}
 use Prim.Native.Nat.{_+_, _-_}
+use native.Mathlib.Omega.{arith}
+use mathlib.Core.Path.{_≡_, sym, _∙_}
 use borrow.Author.Needs.{needs}
+use lib.ListN.{length}
+use Rattle.reader.specs.Faults.{entryPart}
+use Rattle.reader.proofs.Faults.{partFrom, from-start, from-next, from-here, from-none}
 use Rattle.reader.proofs.find_entry.Statement.{statement}
 use Rattle.reader.proofs.find_entry.Tie as tie
 

@@ -1,10 +1,10 @@
-use borrow.Author.Needs.{needs}
-use Rattle.reader.proofs.Endings.{Passing, passing-start, passing-one, passing-pair, passing-no-ill, passing-no-outside, passing-end}
-use Rattle.text.proofs.Chars.{reached-inside}
-use mathlib.Core.Path.{sym, _∙_}
-use native.Mathlib.Omega.{arith}
-use lib.ListN.{length}
 use Prim.Native.Nat.{_-_}
+use native.Mathlib.Omega.{arith}
+use mathlib.Core.Path.{sym, _∙_}
+use borrow.Author.Needs.{needs}
+use lib.ListN.{length}
+use Rattle.text.proofs.Chars.{reached-inside}
+use Rattle.reader.proofs.Endings.{Passing, passing-start, passing-one, passing-pair, passing-no-ill, passing-no-outside, passing-end}
 use Rattle.reader.proofs.find_pair.Statement.{statement}
 use Rattle.reader.proofs.find_pair.Tie as tie
 

@@ -1,9 +1,9 @@
-use Rattle.reader.proofs.Faults.{part-text, part-entry, part-none, part-starts}
-use lib.ListN.{length}
-use lib.Dec.{ltb}
-use mathlib.Core.Path.{sym, _∙_, ap}
 use mathlib.Core.Bool.{Bool, _&&_}
+use mathlib.Core.Path.{sym, _∙_, ap}
 use borrow.Author.Needs.{needs}
+use lib.Dec.{ltb}
+use lib.ListN.{length}
+use Rattle.reader.proofs.Faults.{part-text, part-entry, part-none, part-starts}
 use Rattle.reader.proofs.find_part.Statement.{statement}
 use Rattle.reader.proofs.find_part.Tie as tie
 
@@ -15,12 +15,14 @@ both-requires c κs = search needs
 
 part-of-requires : tie.Need-part-of-requires
 part-of-requires c κs =
-    let t = c .before .both .ensures ∙ ap (λ (b : Bool). b && ltb (c .before .before .before .before .before .args .place) (length (c .before .before .before .before .before .args .text .now))) (c .before .before .is-of-text .ensures) in
-    part-starts (c .before .before .before .before .before .args .text .now) (c .before .before .before .before .before .args .indices .now) (c .before .before .before .before .before .args .number) _ _ t (c .if1 .taken)
+    let a = c .before .before .before .before .before in
+    let t = c .before .both .ensures ∙ ap (λ (b : Bool). b && ltb (a .args .place) (length (a .args .text .now))) (c .before .before .is-of-text .ensures) in
+    part-starts (a .args .text .now) (a .args .indices .now) (a .args .number) _ _ t (c .if1 .taken)
 
 returns : tie.Need-returns
 returns c =
-    let t = c .before .before .both .ensures ∙ ap (λ (b : Bool). b && ltb (c .before .before .before .before .before .before .args .place) (length (c .before .before .before .before .before .before .args .text .now))) (c .before .before .before .is-of-text .ensures) in
+    let a = c .before .before .before .before .before .before in
+    let t = c .before .before .both .ensures ∙ ap (λ (b : Bool). b && ltb (a .args .place) (length (a .args .text .now))) (c .before .before .before .is-of-text .ensures) in
     c .part-of .ensures ∙ part-text _ _ _ _ _ t (c .before .if1 .taken)
 
 is-of-entry-requires : tie.Need-is-of-entry-requires
@@ -31,7 +33,8 @@ find-entry-requires c κs = search needs
 
 returns-2 : tie.Need-returns-2
 returns-2 c =
-    let t = c .before .before .before .before .both .ensures ∙ ap (λ (b : Bool). b && ltb (c .before .before .before .before .before .before .before .before .args .place) (length (c .before .before .before .before .before .before .before .before .args .text .now))) (c .before .before .before .before .before .is-of-text .ensures) in
+    let a = c .before .before .before .before .before .before .before .before in
+    let t = c .before .before .before .before .both .ensures ∙ ap (λ (b : Bool). b && ltb (a .args .place) (length (a .args .text .now))) (c .before .before .before .before .before .is-of-text .ensures) in
     c .find-entry .ensures ∙ part-entry _ _ _ _ _ t (c .before .before .before .if1 .left) (sym (c .before .before .is-of-entry .ensures) ∙ c .before .if2 .taken)
 
 part-of-requires-2 : tie.Need-part-of-requires-2
@@ -39,7 +42,8 @@ part-of-requires-2 c κs = search needs
 
 returns-3 : tie.Need-returns-3
 returns-3 c =
-    let t = c .before .before .before .before .both .ensures ∙ ap (λ (b : Bool). b && ltb (c .before .before .before .before .before .before .before .before .args .place) (length (c .before .before .before .before .before .before .before .before .args .text .now))) (c .before .before .before .before .before .is-of-text .ensures) in
+    let a = c .before .before .before .before .before .before .before .before in
+    let t = c .before .before .before .before .both .ensures ∙ ap (λ (b : Bool). b && ltb (a .args .place) (length (a .args .text .now))) (c .before .before .before .before .before .is-of-text .ensures) in
     c .part-of2 .ensures ∙ part-none _ _ _ _ _ t (c .before .before .before .if1 .left) (sym (c .before .before .is-of-entry .ensures) ∙ c .before .if2 .left)
 
 pub find-part-spec : {M : Type 1} → statement M

@@ -1,9 +1,9 @@
-use Rattle.label.specs.Sound.{indexNumber}
-use mathlib.Core.Path.{sym, ap, _∙_}
 use native.Mathlib.Omega.{arith}
+use mathlib.Core.Path.{sym, ap, _∙_}
+use borrow.Author.Needs.{needs}
 use mir.Facts.{toZ-pos}
 use mir.Syntax.{w32}
-use borrow.Author.Needs.{needs}
+use Rattle.label.specs.Sound.{indexNumber}
 use Rattle.reader.proofs.index_number.Statement.{statement}
 use Rattle.reader.proofs.index_number.Tie as tie
 

@@ -1,7 +1,7 @@
-use lib.Dec.{eqb}
-use mathlib.Core.Path.{_∙_, ap}
 use mathlib.Core.Bool.{Bool, _||_}
+use mathlib.Core.Path.{_∙_, ap}
 use borrow.Author.Needs.{needs}
+use lib.Dec.{eqb}
 use Rattle.reader.proofs.is_of_entry.Statement.{statement}
 use Rattle.reader.proofs.is_of_entry.Tie as tie
 

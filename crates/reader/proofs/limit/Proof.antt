@@ -1,5 +1,5 @@
-use borrow.Author.Tests.{le-leb, lt-leb}
 use borrow.Author.Needs.{needs}
+use borrow.Author.Tests.{le-leb, lt-leb}
 use Rattle.reader.proofs.limit.Statement.{statement}
 use Rattle.reader.proofs.limit.Tie as tie
 

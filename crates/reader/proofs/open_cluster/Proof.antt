@@ -1,6 +1,6 @@
-use Rattle.reader.proofs.Placing.{moves-fit, half-fit, opens-to, opens-past, opens-half}
 use native.Mathlib.Omega.{arith}
 use borrow.Author.Needs.{needs}
+use Rattle.reader.proofs.Placing.{moves-fit, half-fit, opens-to, opens-past, opens-half}
 use Rattle.reader.proofs.open_cluster.Statement.{statement}
 use Rattle.reader.proofs.open_cluster.Tie as tie
 
@@ -11,7 +11,9 @@ enum-known-byte : tie.Need-enum-known-byte
 enum-known-byte c = search needs
 
 advance-requires : tie.Need-advance-requires
-advance-requires c κs = let f = moves-fit (c .before .before .before .before .before .args .text .now) (c .before .before .before .before .before .args .c) (c .before .before .before .before .before .args .units) 0 0 _ _ (c .before .before .before .move-past .ensures) (c .before .byte .given .1) in omega (arith, f)
+advance-requires c κs =
+    let a = c .before .before .before .before .before in
+    let f = moves-fit (a .args .text .now) (a .args .c) (a .args .units) 0 0 _ _ (c .before .before .before .move-past .ensures) (c .before .byte .given .1) in omega (arith, f)
 
 enum-told : tie.Need-enum-told
 enum-told c = search needs
@@ -23,7 +25,9 @@ enum-told-2 : tie.Need-enum-told-2
 enum-told-2 c = search needs
 
 add-stopped : tie.Need-add-stopped
-add-stopped c = let f = half-fit (c .before .before .before .before .before .args .text .now) (c .before .before .before .before .before .args .c) (c .before .before .before .before .before .args .units) 0 0 _ (c .before .before .before .move-past .ensures) (c .before .enum-told2 .given .1) in record { fits = omega (arith, f) }
+add-stopped c =
+    let a = c .before .before .before .before .before in
+    let f = half-fit (a .args .text .now) (a .args .c) (a .args .units) 0 0 _ (c .before .before .before .move-past .ensures) (c .before .enum-told2 .given .1) in record { fits = omega (arith, f) }
 
 stopped-requires-2 : tie.Need-stopped-requires-2
 stopped-requires-2 c κs = search needs

@@ -1,7 +1,7 @@
-use Rattle.reader.proofs.Stores.{pair-room, pair-stored, opened-no}
-use lib.ListN.{length-set}
 use native.Mathlib.Omega.{arith}
 use borrow.Author.Needs.{needs}
+use lib.ListN.{length-set}
+use Rattle.reader.proofs.Stores.{pair-room, pair-stored, opened-no}
 use Rattle.reader.proofs.put_cluster.Statement.{statement}
 use Rattle.reader.proofs.put_cluster.Tie as tie
 

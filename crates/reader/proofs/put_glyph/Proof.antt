@@ -1,10 +1,10 @@
-use Rattle.reader.proofs.Stores.{four-stored}
-use Rattle.words.proofs.Signed.{back}
-use mathlib.Core.Path.{_∙_}
-use lib.ListN.{length-set}
-use native.Mathlib.Omega.{arith}
 use Prim.Native.Nat.{_*_}
+use native.Mathlib.Omega.{arith}
+use mathlib.Core.Path.{_∙_}
 use borrow.Author.Needs.{needs}
+use lib.ListN.{length-set}
+use Rattle.words.proofs.Signed.{back}
+use Rattle.reader.proofs.Stores.{four-stored}
 use Rattle.reader.proofs.put_glyph.Statement.{statement}
 use Rattle.reader.proofs.put_glyph.Tie as tie
 
@@ -55,8 +55,9 @@ same-length c = search needs
 
 returns : tie.Need-returns
 returns c =
-    let g = c .before .before .before .before .args .g in
-    four-stored (c .before .before .before .before .args .out .now) (4 * c .before .before .before .before .args .k) g _ _ _ _ (back (c .before .before .before .index-number .result) (c .before .before .before .index-number .ok) ∙ c .before .before .before .index-number .ensures)
+    let a = c .before .before .before .before in
+    let g = a .args .g in
+    four-stored (a .args .out .now) (4 * a .args .k) g _ _ _ _ (back (c .before .before .before .index-number .result) (c .before .before .before .index-number .ok) ∙ c .before .before .before .index-number .ensures)
     (back (c .before .before .advance-number .result) (c .before .before .advance-number .ok) ∙ c .before .before .advance-number .ensures) (back (g .u) (c .before .struct-told .given .1 .1 .0 .1)) (back (g .v) (c .before .struct-told .given .1 .1 .1 .0 .1))
 
 pub put-glyph-spec : {M : Type 1} → statement M

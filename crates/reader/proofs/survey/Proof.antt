@@ -1,6 +1,6 @@
-use Rattle.reader.proofs.Calls.{text-long, indices-long, text-units, read-units, text-refused}
 use mathlib.Core.Path.{_∙_}
 use borrow.Author.Needs.{needs}
+use Rattle.reader.proofs.Calls.{text-long, indices-long, text-units, read-units, text-refused}
 use Rattle.reader.proofs.survey.Statement.{statement}
 use Rattle.reader.proofs.survey.Tie as tie
 

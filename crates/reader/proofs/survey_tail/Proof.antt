@@ -1,6 +1,6 @@
-use Rattle.reader.proofs.Endings.{tail-plain, tail-pair}
 use mathlib.Core.Path.{_∙_}
 use borrow.Author.Needs.{needs}
+use Rattle.reader.proofs.Endings.{tail-plain, tail-pair}
 use Rattle.reader.proofs.survey_tail.Statement.{statement}
 use Rattle.reader.proofs.survey_tail.Tie as tie
 
@@ -29,10 +29,14 @@ refused-requires : tie.Need-refused-requires
 refused-requires c κs = search needs
 
 returns : tie.Need-returns
-returns c = c .limit .ensures ∙ tail-plain (c .before .before .before .before .before .before .before .before .args .text .now) _ (c .before .before .before .before .before .before .before .before .args .c) _ (c .before .before .before .before .before .before .find-pair .ensures) (c .before .before .before .before .enum-told .given .1) (c .before .before .before .before .before .before .before .before .pre .1 .0)
+returns c =
+    let a = c .before .before .before .before .before .before .before .before in
+    c .limit .ensures ∙ tail-plain (a .args .text .now) _ (a .args .c) _ (c .before .before .before .before .before .before .find-pair .ensures) (c .before .before .before .before .enum-told .given .1) (a .pre .1 .0)
 
 returns-2 : tie.Need-returns-2
-returns-2 c = tail-pair (c .before .before .before .before .before .before .args .text .now) _ (c .before .before .before .before .before .before .args .c) _ _ _ (c .before .before .before .before .find-pair .ensures) (c .before .before .unit .given .1) (c .refused .ensures)
+returns-2 c =
+    let a = c .before .before .before .before .before .before in
+    tail-pair (a .args .text .now) _ (a .args .c) _ _ _ (c .before .before .before .before .find-pair .ensures) (c .before .before .unit .given .1) (c .refused .ensures)
 
 pub survey-tail-spec : {M : Type 1} → statement M
 survey-tail-spec =

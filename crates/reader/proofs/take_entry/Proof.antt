@@ -1,11 +1,8 @@
 use mathlib.Core.Bool.{not}
-use Rattle.reader.proofs.Placing.{turn-ten, turn-eleven, turn-opens, turn-further, allowed-is}
-use mathlib.Core.Bool.{not}
-use mathlib.Core.Path.{sym, _∙_}
-use Rattle.reader.proofs.Placing.{turn-ten, turn-eleven, turn-opens, turn-further}
-use borrow.Author.Tests.{not-true, not-false}
 use mathlib.Core.Path.{sym, _∙_}
 use borrow.Author.Needs.{needs}
+use borrow.Author.Tests.{not-true, not-false}
+use Rattle.reader.proofs.Placing.{turn-ten, turn-eleven, turn-opens, turn-further, allowed-is}
 use Rattle.reader.proofs.take_entry.Statement.{statement}
 use Rattle.reader.proofs.take_entry.Tie as tie
 
@@ -45,7 +42,9 @@ add-place-2 : tie.Need-add-place-2
 add-place-2 c = search needs
 
 open-cluster-requires : tie.Need-open-cluster-requires
-open-cluster-requires c κs = (c .before .before .before .before .before .before .before .before .before .before .before .before .before .before .before .before .pre .0, (c .before .before .before .before .before .before .before .before .before .before .before .before .before .before .before .before .pre .1 .0, c .before .before .before .before .before .before .before .before .before .before .before .before .before .before .before .before .pre .1 .1, c .before .before .before .before .before .before .before .before .before .before .before .before .before .before .before .before .pre .1 .2))
+open-cluster-requires c κs =
+    let a = c .before .before .before .before .before .before .before .before .before .before .before .before .before .before .before .before in
+    (a .pre .0, (a .pre .1 .0, a .pre .1 .1, a .pre .1 .2))
 
 returns-3 : tie.Need-returns-3
 returns-3 c = turn-opens _ _ _ _ _ (c .open-cluster .ensures) (sym (c .before .before .before .before .before .before .before .before .before .before .before .before .before .both .ensures) ∙ not-false _ (c .before .before .before .before .before .before .before .before .before .before .before .before .if1 .left)) (sym (c .before .before .before .before .before .before .before .before .before .before .both2 .ensures) ∙ c .before .if3 .taken)
@@ -55,8 +54,9 @@ advance-requires c κs = search needs
 
 returns-4 : tie.Need-returns-4
 returns-4 c =
-    let allowed = allowed-is _ _ _ _ _ (not (c .before .before .before .before .before .before .before .before .before .before .before .before .before .before .before .before .before .args .x .mapped)) _ (c .before .before .before .before .before .either .ensures) (c .before .before .before .before .before .before .before .before .before .before .both2 .ensures) (c .before .before .before .before .before .before .both3 .ensures) (c .before .before .before .before .before .before .before .is-named .ensures) in
-    turn-further _ _ _ _ _ (c .advance .ensures) (c .before .before .before .before .before .before .before .before .before .before .before .before .before .before .before .before .before .pre .0) (sym (c .before .before .before .before .before .before .before .before .before .before .before .before .before .both .ensures) ∙ not-false _ (c .before .before .before .before .before .before .before .before .before .before .before .before .if1 .left)) (sym allowed ∙ not-false _ (c .before .before .before .before .if2 .left)) (sym (c .before .before .before .before .before .before .before .before .before .before .both2 .ensures) ∙ c .before .if3 .left)
+    let a = c .before .before .before .before .before .before .before .before .before .before .before .before .before .before .before .before .before in
+    let allowed = allowed-is _ _ _ _ _ (not (a .args .x .mapped)) _ (c .before .before .before .before .before .either .ensures) (c .before .before .before .before .before .before .before .before .before .before .both2 .ensures) (c .before .before .before .before .before .before .both3 .ensures) (c .before .before .before .before .before .before .before .is-named .ensures) in
+    turn-further _ _ _ _ _ (c .advance .ensures) (a .pre .0) (sym (c .before .before .before .before .before .before .before .before .before .before .before .before .before .both .ensures) ∙ not-false _ (c .before .before .before .before .before .before .before .before .before .before .before .before .if1 .left)) (sym allowed ∙ not-false _ (c .before .before .before .before .if2 .left)) (sym (c .before .before .before .before .before .before .before .before .before .before .both2 .ensures) ∙ c .before .if3 .left)
 
 pub take-entry-spec : {M : Type 1} → statement M
 take-entry-spec =

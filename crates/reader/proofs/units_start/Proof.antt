@@ -1,5 +1,5 @@
-use Rattle.reader.proofs.Calls.{start-short, start-marked, start-plain}
 use borrow.Author.Needs.{needs}
+use Rattle.reader.proofs.Calls.{start-short, start-marked, start-plain}
 use Rattle.reader.proofs.units_start.Statement.{statement}
 use Rattle.reader.proofs.units_start.Tie as tie
 
