@@ -119,6 +119,16 @@ unfolding wholeClusters flatClusters
 clusters-whole [] = refl
 clusters-whole (c ∷ cs) = clusters-whole cs
 
+pub length-clusters : (cs : List Cluster) → length (flatClusters cs) ≡ 2 * length cs
+unfolding flatClusters
+length-clusters [] = refl
+length-clusters (c ∷ cs) = omega (arith, length-clusters cs)
+
+pub length-glyphs : (gs : List Glyph) → length (flatGlyphs gs) ≡ 4 * length gs
+unfolding flatGlyphs
+length-glyphs [] = refl
+length-glyphs (g ∷ gs) = omega (arith, length-glyphs gs)
+
 index-number : (z : ℤ) → choice z ≡ true → indexNumber (numberIndex z) ≡ z
 index-number (pos n) h = refl
 index-number (negsuc n) h = rw (eqb-true n 0 h)
