@@ -1,7 +1,7 @@
 -- Parts by their counts: every place in exactly one; a run's counts add up; a run's numbers and back; the soundness test and "some label reads as it"; the stretch
 -- that a pick gives; the cluster map.
 -- Assumes nothing.
-use Prim.Native.Nat.{ℕ, zero, suc, _+_, _-_, _≤_, _<_}
+use Prim.Native.Nat.{ℕ, zero, suc, _+_, _*_, _-_, _≤_, _<_}
 use native.Mathlib.Omega.{arith}
 use native.Mathlib.Nat.{not-suc-le-zero, zero-add}
 use mathlib.Core.Path.{_≡_, refl, _∙_}

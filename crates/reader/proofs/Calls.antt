@@ -1,6 +1,6 @@
 -- The calls: from the text to its units, from the counts that were found to the run, and 16 to 18.
 -- Assumes nothing.
-use Prim.Native.Nat.{ℕ, _*_, _-_, _≤_, _<_}
+use Prim.Native.Nat.{ℕ, _*_, _≤_, _<_}
 use native.Mathlib.Omega.{arith}
 use mathlib.Core.Path.{_≡_, refl, sym, _∙_, ap, subst}
 use mathlib.Core.Bool.{Bool, true, false, _&&_, and-false}
@@ -22,6 +22,7 @@ use Rattle.label.specs.declared.Counts.{Counts}
 use Rattle.label.specs.declared.Refusal.{Refusal}
 use Rattle.label.specs.declared.Reading.{Reading}
 use Rattle.label.specs.declared.Reading.the-variants.{Read, Refused}
+use Rattle.label.proofs.Checks.{runWith}
 use Rattle.label.proofs.Basics.{clash, need-ok, no-ok, and-r}
 use Rattle.label.proofs.Walks.{ok-path, Walked, walk-ok}
 use Rattle.label.proofs.Sounds.{text-ok, WasRead, read-ok}
@@ -126,9 +127,6 @@ walk-even (s ∷ ss) bare st p h =
     go : (o : Bool) (c : Cluster) (g : Glyph) (q : Parts) → length (q .clusters) ≤ length (q .glyphs) → length (before o c g q .clusters) ≤ length (before o c g q .glyphs)
     go true c g q r = omega arith
     go false c g q r = omega arith
-
-abbrev pub runWith : List ℕ → Parts → Run
-runWith us p = record { units = us; clusters = p .clusters; glyphs = p .glyphs }
 
 -- what the counts of a label say: it is accepted, and has so many
 pub record Found (t s : List ℕ) (n : Counts) : Type 0 where
