@@ -19,9 +19,7 @@ use Rattle.label.proofs.Basics.{and-l, and-r, cases, clash}
 use Rattle.label.proofs.Sounds.{SoundRun, sound-parts}
 use Rattle.words.proofs.Packs.{halves-length, words-length}
 use Rattle.sound.proofs.Facts.{few-units, few-glyphs}
-use Rattle.glyph_label.specs.declared.Room.{Room}
-use Rattle.glyph_label.specs.declared.Room.the-variants.{Small, Medium, Large, Beyond}
-use Rattle.glyph_label.specs.Runs.{within, Holds, RoomFor, wholeBytes, RoomIn}
+use Rattle.glyph_label.specs.Runs.{within, wholeBytes, mayBeSound, Holds}
 
 -- ── arrays ──
 
@@ -33,15 +31,19 @@ holds k u c g h =
 held : (k u c g : ℕ) → u ≤ k → c ≤ 2 * k → g ≤ 4 * k → within k u c g ≡ true
 held k u c g p q r = rw (le-leb u k p, le-leb c (2 * k) q, le-leb g (4 * k) r)
 
-pub in-room : (u c g : ℕ) (r : Room) → wholeBytes u c g ≡ true → RoomFor (u / 2) (c / 4) (g / 4) r → RoomIn u c g r
-in-room u c g Small w h = (w, h)
-in-room u c g Medium w h = (w, h)
-in-room u c g Large w h = (w, h)
-in-room u c g Beyond w h = rw (w, h)
+-- the places of a run with so many clusters and glyphs
+pub counts-hold : {n : Counts} → (n .units ≤ 4096) × (n .clusters ≤ 4096) × (n .glyphs ≤ 4096) → Holds 4096 (n .units) (2 * n .clusters) (4 * n .glyphs)
+counts-hold (u, c, g) = (u, omega arith, omega arith)
 
-pub not-beyond : {A : Type 0} {n : Counts} → (n .units ≤ 4096) × (n .clusters ≤ 4096) × (n .glyphs ≤ 4096) → within 4096 (n .units) (2 * n .clusters) (4 * n .glyphs) ≡ false → A
-not-beyond {n = n} (u, c, g) h =
-    clash (within 4096 (n .units) (2 * n .clusters) (4 * n .glyphs)) (held 4096 (n .units) (2 * n .clusters) (4 * n .glyphs) u (omega arith) (omega arith)) h
+-- the places by other names
+pub held-as : (k : ℕ) {u c g u′ c′ g′ : ℕ} → u ≡ u′ → c ≡ c′ → g ≡ g′ → within k u c g ≡ true → Holds k u′ c′ g′
+held-as k {u} {c} {g} p q r h = rw (← p, ← q, ← r) (holds k u c g h)
+
+pub whole-of : (u c g : ℕ) → mayBeSound u c g ≡ true → wholeBytes u c g ≡ true
+whole-of u c g h = and-l (wholeBytes u c g) (within 4096 (u / 2) (c / 4) (g / 4)) h
+
+pub within-of : (u c g : ℕ) → mayBeSound u c g ≡ true → Holds 4096 (u / 2) (c / 4) (g / 4)
+within-of u c g h = holds 4096 (u / 2) (c / 4) (g / 4) (and-r (wholeBytes u c g) (within 4096 (u / 2) (c / 4) (g / 4)) h)
 
 -- ── whole numbers ──
 
@@ -102,7 +104,7 @@ sound-within us cs gs h =
 
 -- bytes beyond the large arrays, or left over: no sound run
 pub beyond : (us cs gs : List ℕ)
-    → (wholeBytes (length us) (length cs) (length gs) && within 4096 (length us / 2) (length cs / 4) (length gs / 4)) ≡ false
+    → mayBeSound (length us) (length cs) (length gs) ≡ false
     → (noLeftOver us cs gs && sound (halves us) (words cs) (words gs)) ≡ false
 beyond us cs gs h =
     cases (noLeftOver us cs gs && sound (halves us) (words cs) (words gs))

@@ -2,7 +2,7 @@
 use mathlib.Core.Path.{_≡_, refl, sym, ap, _∙_}
 use mathlib.Core.Bool.{Bool, true, false, _&&_}
 use mathlib.Core.List.{List}
-use Prim.Native.Nat.{ℕ, _/_}
+use Prim.Native.Nat.{ℕ}
 use lib.IntN.{ℤ}
 use lib.ListN.{length, take, drop}
 use lib.Seq.{take-at}
@@ -17,7 +17,7 @@ use Rattle.label.specs.declared.Writing.the-variants.{Refused}
 use Rattle.label.specs.declared.Stretch.{Stretch}
 use Rattle.label.proofs.Basics.{cases}
 use Rattle.picks.specs.Ways.{pickBy}
-use Rattle.glyph_label.specs.Runs.{within, wholeBytes, WrittenBytes, pickBytes}
+use Rattle.glyph_label.specs.Runs.{wholeBytes, mayBeSound, WrittenBytes, pickBytes}
 use Rattle.glyph_label.proofs.Sizes.{whole-is, beyond}
 
 -- ── numbers from the start of an array ──
@@ -32,9 +32,6 @@ module _ (us cs gs : List ℕ) where
   abbrev Whole : Bool
   Whole = wholeBytes (length us) (length cs) (length gs)
 
-  abbrev Room : Bool
-  Room = within 4096 (length us / 2) (length cs / 4) (length gs / 4)
-
   exact : Whole ≡ true → noLeftOver us cs gs ≡ true
   exact h = sym (whole-is us cs gs) ∙ h
 
@@ -47,7 +44,7 @@ module _ (us cs gs : List ℕ) where
     unfolding writeBytes
     written h p q s x y z = rw (exact h, ← p, ← q, ← s) (record { answer = x; text = y; indices = z })
 
-    pub unwritten : (Whole && Room) ≡ false → WrittenBytes (writeBytes (length T) (length I) us cs gs) (Refused (refusal 19 0)) T I T I
+    pub unwritten : mayBeSound (length us) (length cs) (length gs) ≡ false → WrittenBytes (writeBytes (length T) (length I) us cs gs) (Refused (refusal 19 0)) T I T I
     unwritten h = rw (unsound (beyond us cs gs h)) (record { answer = refl; text = refl; indices = refl })
       where
         unsound : (noLeftOver us cs gs && sound (halves us) (words cs) (words gs)) ≡ false → writeBytes (length T) (length I) us cs gs ≡ no 19 0
@@ -71,7 +68,7 @@ module _ (us cs gs : List ℕ) where
         → o ≡ pickBytes turn us cs gs first end
     picked h p q s x = rw (pick-is turn first end, exact h, ← p, ← q, ← s) x
 
-    pub unpicked : (Whole && Room) ≡ false → no 19 0 ≡ pickBytes turn us cs gs first end
+    pub unpicked : mayBeSound (length us) (length cs) (length gs) ≡ false → no 19 0 ≡ pickBytes turn us cs gs first end
     unpicked h =
         let e = beyond us cs gs h in
         sym (pick-is turn first end ∙ cases (noLeftOver us cs gs) (λ t. rw (t, unsound-pick turn first end (rw t at e))) (λ t. rw t))

@@ -1,2 +1,3 @@
 pub mod Answers
 pub mod Runs
+pub mod Tasks

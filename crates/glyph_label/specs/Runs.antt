@@ -16,8 +16,6 @@ use Rattle.label.specs.declared.Counts.{Counts}
 use Rattle.label.specs.declared.Lengths.{Lengths}
 use Rattle.label.specs.declared.Stretch.{Stretch}
 use Rattle.label.specs.declared.Writing.{Writing}
-use Rattle.glyph_label.specs.declared.Room.{Room}
-use Rattle.glyph_label.specs.declared.Room.the-variants.{Small, Medium, Large, Beyond}
 
 -- ── arrays ──
 
@@ -28,23 +26,13 @@ within k u c g = leb u k && leb c (2 * k) && leb g (4 * k)
 abbrev pub Holds : ℕ → ℕ → ℕ → ℕ → Type 0
 Holds k u c g = (u ≤ k) × (c ≤ 2 * k) × (g ≤ 4 * k)
 
--- the arrays for so many places
-abbrev pub RoomFor : ℕ → ℕ → ℕ → Room → Type 0
-RoomFor u c g Small = Holds 32 u c g
-RoomFor u c g Medium = Holds 512 u c g
-RoomFor u c g Large = Holds maxGlyphs u c g
-RoomFor u c g Beyond = within maxGlyphs u c g ≡ false
-
 -- so many bytes are whole numbers
 abbrev pub wholeBytes : ℕ → ℕ → ℕ → Bool
 wholeBytes u c g = eqb (u % 2) 0 && eqb (c % 4) 0 && eqb (g % 4) 0
 
--- the arrays for the numbers in so many bytes
-abbrev pub RoomIn : ℕ → ℕ → ℕ → Room → Type 0
-RoomIn u c g Small = (wholeBytes u c g ≡ true) × Holds 32 (u / 2) (c / 4) (g / 4)
-RoomIn u c g Medium = (wholeBytes u c g ≡ true) × Holds 512 (u / 2) (c / 4) (g / 4)
-RoomIn u c g Large = (wholeBytes u c g ≡ true) × Holds maxGlyphs (u / 2) (c / 4) (g / 4)
-RoomIn u c g Beyond = (wholeBytes u c g && within maxGlyphs (u / 2) (c / 4) (g / 4)) ≡ false
+-- a run of so many bytes may be sound: they are whole numbers, and no more than those of 4,096 units, clusters and glyphs
+abbrev pub mayBeSound : ℕ → ℕ → ℕ → Bool
+mayBeSound u c g = wholeBytes u c g && within maxGlyphs (u / 2) (c / 4) (g / 4)
 
 -- three arrays from whose starts the numbers in these bytes stand
 pub record Unpacked (units clusters glyphs u₀ : List ℕ) (c₀ g₀ : List ℤ) (u : List ℕ) (c g : List ℤ) : Type 0 where

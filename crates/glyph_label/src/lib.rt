@@ -9,9 +9,12 @@ ghost use Rattle.label.specs.Calls.{refusal, readingOutcome, writingOutcome, pi
 ghost use Rattle.label.specs.Wire.{readBytes, unitBytesAfter, clusterBytesAfter, glyphBytesAfter, writeBytes, pickUnitsBytes, pickGlyphsBytes};
 ghost use Rattle.label.specs.Fault.{faultPart};
 ghost use Rattle.label.specs.declared.Reading.the-variants.{Refused as RefusedReading};
+ghost use Rattle.label.specs.declared.Writing.the-variants.{Refused as RefusedWriting};
+ghost use Rattle.label.specs.declared.Pick.the-variants.{Refused as RefusedPick};
 ghost use Rattle.picks.specs.Ways.{pickBy};
 ghost use Rattle.glyph_label.specs.Answers.{readingAnswer, writingAnswer, stretchAnswer, partAnswer};
-ghost use Rattle.glyph_label.specs.Runs.{within, Holds, RoomFor, wholeBytes, RoomIn, Unpacked, Accepted, ReadBytes, WrittenBytes, pickBytes, ReadingFits, WritingFits, StretchFits};
+ghost use Rattle.glyph_label.specs.Runs.{within, wholeBytes, mayBeSound, Holds, Unpacked, Accepted, ReadBytes, WrittenBytes, pickBytes, ReadingFits, WritingFits, StretchFits};
+ghost use Rattle.glyph_label.specs.Tasks.{unitPlaces, clusterPlaces, glyphPlaces, Asks, writingOf, pickOf, Does};
 
 // ── answers ──
 
@@ -131,22 +134,16 @@ fn part_answer(x: label::Part) -> GlyphLabelPart
     }
 }
 
-// ── arrays for a run's numbers ──
+// ── a run's numbers in arrays ──
 
-// Arrays hold the numbers of so many units, clusters and glyphs: small ones for a small run, so that it costs little. No sound run is beyond the
-// large ones.
+// The sizes of the arrays, in units, clusters and glyphs: a small run costs little, and no sound run is beyond the largest.
 const SMALL: usize = 32;
 
-const MEDIUM: usize = 512;
+const MEDIUM: usize = 256;
+
+const BIG: usize = 1_024;
 
 const LARGE: usize = label::Limits::GLYPHS;
-
-enum Room {
-    Small,
-    Medium,
-    Large,
-    Beyond,
-}
 
 // Whether so many places are at most those of k units, k clusters and k glyphs.
 fn is_within(k: usize, units: usize, clusters: usize, glyphs: usize) -> bool
@@ -157,22 +154,6 @@ fn is_within(k: usize, units: usize, clusters: usize, glyphs: usize) -> bool
     words::both(few, glyphs <= 4 * k)
 }
 
-// For so many places.
-fn room_for(units: usize, clusters: usize, glyphs: usize) -> Room
-    ensures { λ r. ⌜ RoomFor units clusters glyphs r ⌝ }
-{
-    if is_within(SMALL, units, clusters, glyphs) {
-        return Room::Small;
-    }
-    if is_within(MEDIUM, units, clusters, glyphs) {
-        return Room::Medium;
-    }
-    if is_within(LARGE, units, clusters, glyphs) {
-        return Room::Large;
-    }
-    Room::Beyond
-}
-
 // Whether so many bytes are whole numbers.
 fn whole_bytes(units: usize, clusters: usize, glyphs: usize) -> bool
     ensures { λ r. ⌜ r ≡ wholeBytes units clusters glyphs ⌝ }
@@ -181,14 +162,14 @@ fn whole_bytes(units: usize, clusters: usize, glyphs: usize) -> bool
     words::both(pairs, glyphs % 4 == 0)
 }
 
-// For the numbers in so many bytes; left-over bytes are beyond all.
-fn room_in(units: usize, clusters: usize, glyphs: usize) -> Room
-    ensures { λ r. ⌜ RoomIn units clusters glyphs r ⌝ }
+// Whether a run of so many bytes may be sound: they are whole numbers, and no more than the largest arrays hold.
+fn may_be_sound(units: usize, clusters: usize, glyphs: usize) -> bool
+    ensures { λ r. ⌜ r ≡ mayBeSound units clusters glyphs ⌝ }
 {
-    if !whole_bytes(units, clusters, glyphs) {
-        return Room::Beyond;
-    }
-    room_for(units / 2, clusters / 4, glyphs / 4)
+    words::both(
+        whole_bytes(units, clusters, glyphs),
+        is_within(LARGE, units / 2, clusters / 4, glyphs / 4),
+    )
 }
 
 // The numbers of a run handed in as bytes, from the start of each array.
@@ -207,8 +188,6 @@ fn unpack_run(
     words::unpack_numbers(clusters, cs);
     words::unpack_numbers(glyphs, gs);
 }
-
-// ── reading ──
 
 // The run of an accepted label, through arrays of numbers.
 fn fill_through(
@@ -235,89 +214,219 @@ fn fill_through(
     words::pack_numbers(&gs[..g], glyphs);
 }
 
-fn fill_small(
-    text: &[u8],
-    indices: &[u8],
-    n: label::Counts,
-    units: &mut [u8],
-    clusters: &mut [u8],
-    glyphs: &mut [u8],
-)
-    requires { ⌜ Accepted (now text) (now indices) n (length (now units)) (length (now clusters)) (length (now glyphs)) ⌝ }
-    requires places { ⌜ Holds 32 (n .units) (2 * n .clusters) (4 * n .glyphs) ⌝ }
-    ensures { λ _. ⌜ ReadBytes (readLabel (now (text .entry)) (now (indices .entry))) (now (units .entry)) (now (clusters .entry)) (now (glyphs .entry)) (now (units .exit)) (now (clusters .exit)) (now (glyphs .exit)) ⌝ }
+// The normal writing of a run handed in as whole numbers, through arrays of them.
+fn write_through(
+    units: &[u8],
+    clusters: &[u8],
+    glyphs: &[u8],
+    us: &mut [u16],
+    cs: &mut [i32],
+    gs: &mut [i32],
+    text: &mut [u8],
+    indices: &mut [u8],
+) -> label::Writing
+    requires { ⌜ wholeBytes (length (now units)) (length (now clusters)) (length (now glyphs)) ≡ true ⌝ }
+    requires places { ⌜ (length (now units) / 2 ≤ length (now us)) × (length (now clusters) / 4 ≤ length (now cs)) × (length (now glyphs) / 4 ≤ length (now gs)) ⌝ }
+    ensures { λ r. ⌜ WrittenBytes (writeBytes (length (now (text .entry))) (length (now (indices .entry))) (now (units .entry)) (now (clusters .entry)) (now (glyphs .entry))) r (now (text .entry)) (now (indices .entry)) (now (text .exit)) (now (indices .exit)) ⌝ }
+{
+    unpack_run(units, clusters, glyphs, us, cs, gs);
+    let u = units.len() / 2;
+    let c = clusters.len() / 4;
+    let g = glyphs.len() / 4;
+    writer::write(&us[..u], &cs[..c], &gs[..g], text, indices)
+}
+
+// From glyphs to units, or, turned, from units to glyphs.
+fn pick_numbers(
+    units: &[u16],
+    clusters: &[i32],
+    glyphs: &[i32],
+    turn: bool,
+    first: usize,
+    end: usize,
+) -> label::Pick
+    ensures { λ r. ⌜ pickOutcome r ≡ pickBy turn (now (units .entry)) (now (clusters .entry)) (now (glyphs .entry)) first end ⌝ }
+{
+    if turn {
+        picks::glyphs_of(units, clusters, glyphs, first, end)
+    } else {
+        picks::units_of(units, clusters, glyphs, first, end)
+    }
+}
+
+// A pick from a run handed in as whole numbers, through arrays of them.
+fn pick_through(
+    units: &[u8],
+    clusters: &[u8],
+    glyphs: &[u8],
+    us: &mut [u16],
+    cs: &mut [i32],
+    gs: &mut [i32],
+    turn: bool,
+    first: usize,
+    end: usize,
+) -> label::Pick
+    requires { ⌜ wholeBytes (length (now units)) (length (now clusters)) (length (now glyphs)) ≡ true ⌝ }
+    requires places { ⌜ (length (now units) / 2 ≤ length (now us)) × (length (now clusters) / 4 ≤ length (now cs)) × (length (now glyphs) / 4 ≤ length (now gs)) ⌝ }
+    ensures { λ r. ⌜ pickOutcome r ≡ pickBytes turn (now (units .entry)) (now (clusters .entry)) (now (glyphs .entry)) first end ⌝ }
+{
+    unpack_run(units, clusters, glyphs, us, cs, gs);
+    let u = units.len() / 2;
+    let c = clusters.len() / 4;
+    let g = glyphs.len() / 4;
+    pick_numbers(&us[..u], &cs[..c], &gs[..g], turn, first, end)
+}
+
+// ── tasks ──
+
+// What is to be done with a run's numbers once there are arrays for them: the run of an accepted label with these counts is filled in; a run
+// handed in is written; a stretch of its glyphs, or, turned, of its units, is picked.
+enum Task {
+    Fill(label::Counts),
+    Write,
+    Pick(bool, usize, usize),
+}
+
+enum Done {
+    Filled,
+    Wrote(label::Writing),
+    Picked(label::Pick),
+}
+
+// The task on arrays that hold the run. The inputs a, b, c are a label's text and indices, or a run's units, clusters and glyphs; the outputs x, y,
+// z are the other of the two. What a task has no use for stays.
+fn through(
+    task: Task,
+    a: &[u8],
+    b: &[u8],
+    c: &[u8],
+    us: &mut [u16],
+    cs: &mut [i32],
+    gs: &mut [i32],
+    x: &mut [u8],
+    y: &mut [u8],
+    z: &mut [u8],
+) -> Done
+    requires { ⌜ Asks task (now a) (now b) (now c) (length (now x)) (length (now y)) (length (now z)) ⌝ }
+    requires places { ⌜ (unitPlaces task (now a) ≤ length (now us)) × (clusterPlaces task (now b) ≤ length (now cs)) × (glyphPlaces task (now c) ≤ length (now gs)) ⌝ }
+    ensures { λ r. ⌜ Does task (now (a .entry)) (now (b .entry)) (now (c .entry)) (now (x .entry)) (now (y .entry)) (now (z .entry)) r (now (x .exit)) (now (y .exit)) (now (z .exit)) ⌝ }
+{
+    match task {
+        Task::Fill(n) => {
+            fill_through(a, b, n, us, cs, gs, x, y, z);
+            Done::Filled
+        }
+        Task::Write => Done::Wrote(write_through(a, b, c, us, cs, gs, x, y)),
+        Task::Pick(turn, first, end) => {
+            Done::Picked(pick_through(a, b, c, us, cs, gs, turn, first, end))
+        }
+    }
+}
+
+fn in_small(
+    task: Task,
+    a: &[u8],
+    b: &[u8],
+    c: &[u8],
+    x: &mut [u8],
+    y: &mut [u8],
+    z: &mut [u8],
+) -> Done
+    requires { ⌜ Asks task (now a) (now b) (now c) (length (now x)) (length (now y)) (length (now z)) ⌝ }
+    requires places { ⌜ Holds 32 (unitPlaces task (now a)) (clusterPlaces task (now b)) (glyphPlaces task (now c)) ⌝ }
+    ensures { λ r. ⌜ Does task (now (a .entry)) (now (b .entry)) (now (c .entry)) (now (x .entry)) (now (y .entry)) (now (z .entry)) r (now (x .exit)) (now (y .exit)) (now (z .exit)) ⌝ }
 {
     let mut us = [0u16; SMALL];
     let mut cs = [0i32; 2 * SMALL];
     let mut gs = [0i32; 4 * SMALL];
-    fill_through(
-        text,
-        indices,
-        n,
-        &mut us,
-        &mut cs,
-        &mut gs,
-        units,
-        clusters,
-        glyphs,
-    );
+    through(task, a, b, c, &mut us, &mut cs, &mut gs, x, y, z)
 }
 
-fn fill_medium(
-    text: &[u8],
-    indices: &[u8],
-    n: label::Counts,
-    units: &mut [u8],
-    clusters: &mut [u8],
-    glyphs: &mut [u8],
-)
-    requires { ⌜ Accepted (now text) (now indices) n (length (now units)) (length (now clusters)) (length (now glyphs)) ⌝ }
-    requires places { ⌜ Holds 512 (n .units) (2 * n .clusters) (4 * n .glyphs) ⌝ }
-    ensures { λ _. ⌜ ReadBytes (readLabel (now (text .entry)) (now (indices .entry))) (now (units .entry)) (now (clusters .entry)) (now (glyphs .entry)) (now (units .exit)) (now (clusters .exit)) (now (glyphs .exit)) ⌝ }
+fn in_medium(
+    task: Task,
+    a: &[u8],
+    b: &[u8],
+    c: &[u8],
+    x: &mut [u8],
+    y: &mut [u8],
+    z: &mut [u8],
+) -> Done
+    requires { ⌜ Asks task (now a) (now b) (now c) (length (now x)) (length (now y)) (length (now z)) ⌝ }
+    requires places { ⌜ Holds 256 (unitPlaces task (now a)) (clusterPlaces task (now b)) (glyphPlaces task (now c)) ⌝ }
+    ensures { λ r. ⌜ Does task (now (a .entry)) (now (b .entry)) (now (c .entry)) (now (x .entry)) (now (y .entry)) (now (z .entry)) r (now (x .exit)) (now (y .exit)) (now (z .exit)) ⌝ }
 {
     let mut us = [0u16; MEDIUM];
     let mut cs = [0i32; 2 * MEDIUM];
     let mut gs = [0i32; 4 * MEDIUM];
-    fill_through(
-        text,
-        indices,
-        n,
-        &mut us,
-        &mut cs,
-        &mut gs,
-        units,
-        clusters,
-        glyphs,
-    );
+    through(task, a, b, c, &mut us, &mut cs, &mut gs, x, y, z)
 }
 
-fn fill_large(
-    text: &[u8],
-    indices: &[u8],
-    n: label::Counts,
-    units: &mut [u8],
-    clusters: &mut [u8],
-    glyphs: &mut [u8],
-)
-    requires { ⌜ Accepted (now text) (now indices) n (length (now units)) (length (now clusters)) (length (now glyphs)) ⌝ }
-    requires places { ⌜ Holds maxGlyphs (n .units) (2 * n .clusters) (4 * n .glyphs) ⌝ }
-    ensures { λ _. ⌜ ReadBytes (readLabel (now (text .entry)) (now (indices .entry))) (now (units .entry)) (now (clusters .entry)) (now (glyphs .entry)) (now (units .exit)) (now (clusters .exit)) (now (glyphs .exit)) ⌝ }
+fn in_big(
+    task: Task,
+    a: &[u8],
+    b: &[u8],
+    c: &[u8],
+    x: &mut [u8],
+    y: &mut [u8],
+    z: &mut [u8],
+) -> Done
+    requires { ⌜ Asks task (now a) (now b) (now c) (length (now x)) (length (now y)) (length (now z)) ⌝ }
+    requires places { ⌜ Holds 1024 (unitPlaces task (now a)) (clusterPlaces task (now b)) (glyphPlaces task (now c)) ⌝ }
+    ensures { λ r. ⌜ Does task (now (a .entry)) (now (b .entry)) (now (c .entry)) (now (x .entry)) (now (y .entry)) (now (z .entry)) r (now (x .exit)) (now (y .exit)) (now (z .exit)) ⌝ }
+{
+    let mut us = [0u16; BIG];
+    let mut cs = [0i32; 2 * BIG];
+    let mut gs = [0i32; 4 * BIG];
+    through(task, a, b, c, &mut us, &mut cs, &mut gs, x, y, z)
+}
+
+fn in_large(
+    task: Task,
+    a: &[u8],
+    b: &[u8],
+    c: &[u8],
+    x: &mut [u8],
+    y: &mut [u8],
+    z: &mut [u8],
+) -> Done
+    requires { ⌜ Asks task (now a) (now b) (now c) (length (now x)) (length (now y)) (length (now z)) ⌝ }
+    requires places { ⌜ Holds maxGlyphs (unitPlaces task (now a)) (clusterPlaces task (now b)) (glyphPlaces task (now c)) ⌝ }
+    ensures { λ r. ⌜ Does task (now (a .entry)) (now (b .entry)) (now (c .entry)) (now (x .entry)) (now (y .entry)) (now (z .entry)) r (now (x .exit)) (now (y .exit)) (now (z .exit)) ⌝ }
 {
     let mut us = [0u16; LARGE];
     let mut cs = [0i32; 2 * LARGE];
     let mut gs = [0i32; 4 * LARGE];
-    fill_through(
-        text,
-        indices,
-        n,
-        &mut us,
-        &mut cs,
-        &mut gs,
-        units,
-        clusters,
-        glyphs,
-    );
+    through(task, a, b, c, &mut us, &mut cs, &mut gs, x, y, z)
 }
+
+// The task on larger arrays than the small ones, for so many places. It is called in three places, so that the compiler keeps it, and the memory
+// of its arrays, out of the calls for small runs.
+fn in_larger(
+    units: usize,
+    clusters: usize,
+    glyphs: usize,
+    task: Task,
+    a: &[u8],
+    b: &[u8],
+    c: &[u8],
+    x: &mut [u8],
+    y: &mut [u8],
+    z: &mut [u8],
+) -> Done
+    requires { ⌜ Asks task (now a) (now b) (now c) (length (now x)) (length (now y)) (length (now z)) ⌝ }
+    requires places { ⌜ (units ≡ unitPlaces task (now a)) × (clusters ≡ clusterPlaces task (now b)) × (glyphs ≡ glyphPlaces task (now c)) × Holds maxGlyphs units clusters glyphs ⌝ }
+    ensures { λ r. ⌜ Does task (now (a .entry)) (now (b .entry)) (now (c .entry)) (now (x .entry)) (now (y .entry)) (now (z .entry)) r (now (x .exit)) (now (y .exit)) (now (z .exit)) ⌝ }
+{
+    if is_within(MEDIUM, units, clusters, glyphs) {
+        return in_medium(task, a, b, c, x, y, z);
+    }
+    if is_within(BIG, units, clusters, glyphs) {
+        return in_big(task, a, b, c, x, y, z);
+    }
+    in_large(task, a, b, c, x, y, z)
+}
+
+// ── reading ──
 
 fn fill_bytes(
     text: &[u8],
@@ -330,23 +439,15 @@ fn fill_bytes(
     requires { ⌜ Accepted (now text) (now indices) n (length (now units)) (length (now clusters)) (length (now glyphs)) ⌝ }
     ensures { λ _. ⌜ ReadBytes (readLabel (now (text .entry)) (now (indices .entry))) (now (units .entry)) (now (clusters .entry)) (now (glyphs .entry)) (now (units .exit)) (now (clusters .exit)) (now (glyphs .exit)) ⌝ }
 {
-    match room_for(n.units, 2 * n.clusters, 4 * n.glyphs) {
-        Room::Small => {
-            fill_small(text, indices, n, units, clusters, glyphs);
-            return;
-        }
-        Room::Medium => {
-            fill_medium(text, indices, n, units, clusters, glyphs);
-            return;
-        }
-        Room::Large => {
-            fill_large(text, indices, n, units, clusters, glyphs);
-            return;
-        }
-        Room::Beyond => {
-            return;
-        }
+    let u = n.units;
+    let c = 2 * n.clusters;
+    let g = 4 * n.glyphs;
+    let task = Task::Fill(n);
+    if is_within(SMALL, u, c, g) {
+        in_small(task, text, indices, text, units, clusters, glyphs);
+        return;
     }
+    in_larger(u, c, g, task, text, indices, text, units, clusters, glyphs);
 }
 
 fn refused(number: usize, place: usize) -> label::Reading
@@ -403,104 +504,24 @@ pub extern "C" fn glyph_label_read(
 
 // ── writing ──
 
-// The normal writing of a run handed in as whole numbers, through arrays of them.
-fn write_through(
-    units: &[u8],
-    clusters: &[u8],
-    glyphs: &[u8],
-    us: &mut [u16],
-    cs: &mut [i32],
-    gs: &mut [i32],
-    text: &mut [u8],
-    indices: &mut [u8],
-) -> label::Writing
-    requires { ⌜ wholeBytes (length (now units)) (length (now clusters)) (length (now glyphs)) ≡ true ⌝ }
-    requires places { ⌜ (length (now units) / 2 ≤ length (now us)) × (length (now clusters) / 4 ≤ length (now cs)) × (length (now glyphs) / 4 ≤ length (now gs)) ⌝ }
-    ensures { λ r. ⌜ WrittenBytes (writeBytes (length (now (text .entry))) (length (now (indices .entry))) (now (units .entry)) (now (clusters .entry)) (now (glyphs .entry))) r (now (text .entry)) (now (indices .entry)) (now (text .exit)) (now (indices .exit)) ⌝ }
+// The answer of a writing.
+fn written(d: Done) -> label::Writing
+    ensures { λ r. ⌜ r ≡ writingOf d ⌝ }
 {
-    unpack_run(units, clusters, glyphs, us, cs, gs);
-    let u = units.len() / 2;
-    let c = clusters.len() / 4;
-    let g = glyphs.len() / 4;
-    writer::write(&us[..u], &cs[..c], &gs[..g], text, indices)
+    match d {
+        Done::Wrote(w) => w,
+        Done::Filled => unsound_writing(),
+        Done::Picked(_) => unsound_writing(),
+    }
 }
 
-fn write_small(
-    units: &[u8],
-    clusters: &[u8],
-    glyphs: &[u8],
-    text: &mut [u8],
-    indices: &mut [u8],
-) -> label::Writing
-    requires { ⌜ wholeBytes (length (now units)) (length (now clusters)) (length (now glyphs)) ≡ true ⌝ }
-    requires places { ⌜ Holds 32 (length (now units) / 2) (length (now clusters) / 4) (length (now glyphs) / 4) ⌝ }
-    ensures { λ r. ⌜ WrittenBytes (writeBytes (length (now (text .entry))) (length (now (indices .entry))) (now (units .entry)) (now (clusters .entry)) (now (glyphs .entry))) r (now (text .entry)) (now (indices .entry)) (now (text .exit)) (now (indices .exit)) ⌝ }
+fn unsound_writing() -> label::Writing
+    ensures { λ r. ⌜ r ≡ RefusedWriting (refusal 19 0) ⌝ }
 {
-    let mut us = [0u16; SMALL];
-    let mut cs = [0i32; 2 * SMALL];
-    let mut gs = [0i32; 4 * SMALL];
-    write_through(
-        units,
-        clusters,
-        glyphs,
-        &mut us,
-        &mut cs,
-        &mut gs,
-        text,
-        indices,
-    )
-}
-
-fn write_medium(
-    units: &[u8],
-    clusters: &[u8],
-    glyphs: &[u8],
-    text: &mut [u8],
-    indices: &mut [u8],
-) -> label::Writing
-    requires { ⌜ wholeBytes (length (now units)) (length (now clusters)) (length (now glyphs)) ≡ true ⌝ }
-    requires places { ⌜ Holds 512 (length (now units) / 2) (length (now clusters) / 4) (length (now glyphs) / 4) ⌝ }
-    ensures { λ r. ⌜ WrittenBytes (writeBytes (length (now (text .entry))) (length (now (indices .entry))) (now (units .entry)) (now (clusters .entry)) (now (glyphs .entry))) r (now (text .entry)) (now (indices .entry)) (now (text .exit)) (now (indices .exit)) ⌝ }
-{
-    let mut us = [0u16; MEDIUM];
-    let mut cs = [0i32; 2 * MEDIUM];
-    let mut gs = [0i32; 4 * MEDIUM];
-    write_through(
-        units,
-        clusters,
-        glyphs,
-        &mut us,
-        &mut cs,
-        &mut gs,
-        text,
-        indices,
-    )
-}
-
-fn write_large(
-    units: &[u8],
-    clusters: &[u8],
-    glyphs: &[u8],
-    text: &mut [u8],
-    indices: &mut [u8],
-) -> label::Writing
-    requires { ⌜ wholeBytes (length (now units)) (length (now clusters)) (length (now glyphs)) ≡ true ⌝ }
-    requires places { ⌜ Holds maxGlyphs (length (now units) / 2) (length (now clusters) / 4) (length (now glyphs) / 4) ⌝ }
-    ensures { λ r. ⌜ WrittenBytes (writeBytes (length (now (text .entry))) (length (now (indices .entry))) (now (units .entry)) (now (clusters .entry)) (now (glyphs .entry))) r (now (text .entry)) (now (indices .entry)) (now (text .exit)) (now (indices .exit)) ⌝ }
-{
-    let mut us = [0u16; LARGE];
-    let mut cs = [0i32; 2 * LARGE];
-    let mut gs = [0i32; 4 * LARGE];
-    write_through(
-        units,
-        clusters,
-        glyphs,
-        &mut us,
-        &mut cs,
-        &mut gs,
-        text,
-        indices,
-    )
+    label::Writing::Refused(label::Refusal {
+        number: 19,
+        place: 0,
+    })
 }
 
 fn write_bytes(
@@ -512,15 +533,36 @@ fn write_bytes(
 ) -> label::Writing
     ensures { λ r. ⌜ WrittenBytes (writeBytes (length (now (text .entry))) (length (now (indices .entry))) (now (units .entry)) (now (clusters .entry)) (now (glyphs .entry))) r (now (text .entry)) (now (indices .entry)) (now (text .exit)) (now (indices .exit)) ⌝ }
 {
-    match room_in(units.len(), clusters.len(), glyphs.len()) {
-        Room::Small => write_small(units, clusters, glyphs, text, indices),
-        Room::Medium => write_medium(units, clusters, glyphs, text, indices),
-        Room::Large => write_large(units, clusters, glyphs, text, indices),
-        Room::Beyond => label::Writing::Refused(label::Refusal {
-            number: 19,
-            place: 0,
-        }),
+    let u = units.len() / 2;
+    let c = clusters.len() / 4;
+    let g = glyphs.len() / 4;
+    let mut none = [0u8; 1];
+    if !may_be_sound(units.len(), clusters.len(), glyphs.len()) {
+        return unsound_writing();
     }
+    if is_within(SMALL, u, c, g) {
+        return written(in_small(
+            Task::Write,
+            units,
+            clusters,
+            glyphs,
+            text,
+            indices,
+            &mut none,
+        ));
+    }
+    written(in_larger(
+        u,
+        c,
+        g,
+        Task::Write,
+        units,
+        clusters,
+        glyphs,
+        text,
+        indices,
+        &mut none,
+    ))
 }
 
 // Writes a run handed in as bytes: its normal writing into two lent buffers, where none of 19 to 21 holds.
@@ -541,129 +583,24 @@ pub extern "C" fn glyph_label_write(
 
 // ── picks ──
 
-// From glyphs to units, or, turned, from units to glyphs.
-fn pick_numbers(
-    units: &[u16],
-    clusters: &[i32],
-    glyphs: &[i32],
-    turn: bool,
-    first: usize,
-    end: usize,
-) -> label::Pick
-    ensures { λ r. ⌜ pickOutcome r ≡ pickBy turn (now (units .entry)) (now (clusters .entry)) (now (glyphs .entry)) first end ⌝ }
+// The answer of a pick.
+fn picked(d: Done) -> label::Pick
+    ensures { λ r. ⌜ r ≡ pickOf d ⌝ }
 {
-    if turn {
-        picks::glyphs_of(units, clusters, glyphs, first, end)
-    } else {
-        picks::units_of(units, clusters, glyphs, first, end)
+    match d {
+        Done::Picked(p) => p,
+        Done::Filled => unsound_pick(),
+        Done::Wrote(_) => unsound_pick(),
     }
 }
 
-// A pick from a run handed in as whole numbers, through arrays of them.
-fn pick_through(
-    units: &[u8],
-    clusters: &[u8],
-    glyphs: &[u8],
-    us: &mut [u16],
-    cs: &mut [i32],
-    gs: &mut [i32],
-    turn: bool,
-    first: usize,
-    end: usize,
-) -> label::Pick
-    requires { ⌜ wholeBytes (length (now units)) (length (now clusters)) (length (now glyphs)) ≡ true ⌝ }
-    requires places { ⌜ (length (now units) / 2 ≤ length (now us)) × (length (now clusters) / 4 ≤ length (now cs)) × (length (now glyphs) / 4 ≤ length (now gs)) ⌝ }
-    ensures { λ r. ⌜ pickOutcome r ≡ pickBytes turn (now (units .entry)) (now (clusters .entry)) (now (glyphs .entry)) first end ⌝ }
+fn unsound_pick() -> label::Pick
+    ensures { λ r. ⌜ r ≡ RefusedPick (refusal 19 0) ⌝ }
 {
-    unpack_run(units, clusters, glyphs, us, cs, gs);
-    let u = units.len() / 2;
-    let c = clusters.len() / 4;
-    let g = glyphs.len() / 4;
-    pick_numbers(&us[..u], &cs[..c], &gs[..g], turn, first, end)
-}
-
-fn pick_small(
-    units: &[u8],
-    clusters: &[u8],
-    glyphs: &[u8],
-    turn: bool,
-    first: usize,
-    end: usize,
-) -> label::Pick
-    requires { ⌜ wholeBytes (length (now units)) (length (now clusters)) (length (now glyphs)) ≡ true ⌝ }
-    requires places { ⌜ Holds 32 (length (now units) / 2) (length (now clusters) / 4) (length (now glyphs) / 4) ⌝ }
-    ensures { λ r. ⌜ pickOutcome r ≡ pickBytes turn (now (units .entry)) (now (clusters .entry)) (now (glyphs .entry)) first end ⌝ }
-{
-    let mut us = [0u16; SMALL];
-    let mut cs = [0i32; 2 * SMALL];
-    let mut gs = [0i32; 4 * SMALL];
-    pick_through(
-        units,
-        clusters,
-        glyphs,
-        &mut us,
-        &mut cs,
-        &mut gs,
-        turn,
-        first,
-        end,
-    )
-}
-
-fn pick_medium(
-    units: &[u8],
-    clusters: &[u8],
-    glyphs: &[u8],
-    turn: bool,
-    first: usize,
-    end: usize,
-) -> label::Pick
-    requires { ⌜ wholeBytes (length (now units)) (length (now clusters)) (length (now glyphs)) ≡ true ⌝ }
-    requires places { ⌜ Holds 512 (length (now units) / 2) (length (now clusters) / 4) (length (now glyphs) / 4) ⌝ }
-    ensures { λ r. ⌜ pickOutcome r ≡ pickBytes turn (now (units .entry)) (now (clusters .entry)) (now (glyphs .entry)) first end ⌝ }
-{
-    let mut us = [0u16; MEDIUM];
-    let mut cs = [0i32; 2 * MEDIUM];
-    let mut gs = [0i32; 4 * MEDIUM];
-    pick_through(
-        units,
-        clusters,
-        glyphs,
-        &mut us,
-        &mut cs,
-        &mut gs,
-        turn,
-        first,
-        end,
-    )
-}
-
-fn pick_large(
-    units: &[u8],
-    clusters: &[u8],
-    glyphs: &[u8],
-    turn: bool,
-    first: usize,
-    end: usize,
-) -> label::Pick
-    requires { ⌜ wholeBytes (length (now units)) (length (now clusters)) (length (now glyphs)) ≡ true ⌝ }
-    requires places { ⌜ Holds maxGlyphs (length (now units) / 2) (length (now clusters) / 4) (length (now glyphs) / 4) ⌝ }
-    ensures { λ r. ⌜ pickOutcome r ≡ pickBytes turn (now (units .entry)) (now (clusters .entry)) (now (glyphs .entry)) first end ⌝ }
-{
-    let mut us = [0u16; LARGE];
-    let mut cs = [0i32; 2 * LARGE];
-    let mut gs = [0i32; 4 * LARGE];
-    pick_through(
-        units,
-        clusters,
-        glyphs,
-        &mut us,
-        &mut cs,
-        &mut gs,
-        turn,
-        first,
-        end,
-    )
+    label::Pick::Refused(label::Refusal {
+        number: 19,
+        place: 0,
+    })
 }
 
 fn pick_bytes(
@@ -676,15 +613,31 @@ fn pick_bytes(
 ) -> label::Pick
     ensures { λ r. ⌜ pickOutcome r ≡ pickBytes turn (now (units .entry)) (now (clusters .entry)) (now (glyphs .entry)) first end ⌝ }
 {
-    match room_in(units.len(), clusters.len(), glyphs.len()) {
-        Room::Small => pick_small(units, clusters, glyphs, turn, first, end),
-        Room::Medium => pick_medium(units, clusters, glyphs, turn, first, end),
-        Room::Large => pick_large(units, clusters, glyphs, turn, first, end),
-        Room::Beyond => label::Pick::Refused(label::Refusal {
-            number: 19,
-            place: 0,
-        }),
+    let u = units.len() / 2;
+    let c = clusters.len() / 4;
+    let g = glyphs.len() / 4;
+    let task = Task::Pick(turn, first, end);
+    let mut x = [0u8; 1];
+    let mut y = [0u8; 1];
+    let mut z = [0u8; 1];
+    if !may_be_sound(units.len(), clusters.len(), glyphs.len()) {
+        return unsound_pick();
     }
+    if is_within(SMALL, u, c, g) {
+        return picked(in_small(task, units, clusters, glyphs, &mut x, &mut y, &mut z));
+    }
+    picked(in_larger(
+        u,
+        c,
+        g,
+        task,
+        units,
+        clusters,
+        glyphs,
+        &mut x,
+        &mut y,
+        &mut z,
+    ))
 }
 
 // The code units of all clusters touched by glyphs `first` up to and without `end`.

@@ -1,40 +1,38 @@
 use Rattle.glyph_label.proofs.Writes.{unwritten}
-use Rattle.glyph_label.specs.Runs.{RoomIn}
+use Rattle.glyph_label.proofs.Sizes.{holds, whole-of, within-of}
+use Rattle.glyph_label.specs.Tasks.{unitPlaces, clusterPlaces, glyphPlaces, Asks, Does}
+use borrow.Author.Tests.{not-true, not-false}
 use lib.ListN.{length}
-use mathlib.Core.Path.{subst}
+use mathlib.Core.Path.{sym, refl, _∙_}
 use borrow.Author.Needs.{needs}
 use Rattle.glyph_label.proofs.write_bytes.Statement.{statement}
 use Rattle.glyph_label.proofs.write_bytes.Tie as tie
 
-room-in-requires : tie.Need-room-in-requires
-room-in-requires c κs = search needs
+may-be-sound-requires : tie.Need-may-be-sound-requires
+may-be-sound-requires c κs = search needs
 
-enum-told : tie.Need-enum-told
-enum-told c = search needs
+unsound-writing-requires : tie.Need-unsound-writing-requires
+unsound-writing-requires c κs = search needs
 
-write-small-requires : tie.Need-write-small-requires
-write-small-requires c κs =
-    let a = c .before .before .before .before .before .before .before .before .before .before .args in
-    subst (RoomIn (length (a .units .now)) (length (a .clusters .now)) (length (a .glyphs .now))) (c .before .before .enum-told .given .1) (c .before .before .before .before .room-in .ensures)
+returns : tie.Need-returns
+returns c =
+    let a = c .before .before .before .before .before .before .before .before .args in
+    rw (c .unsound-writing .ensures) (unwritten (a .units .now) (a .clusters .now) (a .glyphs .now) (a .text .now) (a .indices .now) (sym (c .before .before .may-be-sound .ensures) ∙ not-true _ (c .before .if1 .taken)))
 
-enum-told-2 : tie.Need-enum-told-2
-enum-told-2 c = search needs
+is-within-requires : tie.Need-is-within-requires
+is-within-requires c κs = search needs
 
-write-medium-requires : tie.Need-write-medium-requires
-write-medium-requires c κs =
-    let a = c .before .before .before .before .before .before .before .before .before .before .args in
-    subst (RoomIn (length (a .units .now)) (length (a .clusters .now)) (length (a .glyphs .now))) (c .before .before .enum-told2 .given .1) (c .before .before .before .before .room-in .ensures)
+slice-aggregate-in-small : tie.Need-slice-aggregate-in-small
+slice-aggregate-in-small c = search needs
 
-enum-told-3 : tie.Need-enum-told-3
-enum-told-3 c = search needs
+in-small-requires : tie.Need-in-small-requires
+unfolding Asks unitPlaces clusterPlaces glyphPlaces
+in-small-requires c κs =
+    let a = c .before .before .before .before .before .before .before .before .before .before .before .before .args in
+    (whole-of (length (a .units .now)) (length (a .clusters .now)) (length (a .glyphs .now)) (sym (c .before .before .before .before .before .before .may-be-sound .ensures) ∙ not-false _ (c .before .before .before .before .before .if1 .left)), holds 32 _ _ _ (sym (c .before .before .before .before .is-within .ensures) ∙ c .before .before .before .if2 .taken))
 
-write-large-requires : tie.Need-write-large-requires
-write-large-requires c κs =
-    let a = c .before .before .before .before .before .before .before .before .before .before .args in
-    subst (RoomIn (length (a .units .now)) (length (a .clusters .now)) (length (a .glyphs .now))) (c .before .before .enum-told3 .given .1) (c .before .before .before .before .room-in .ensures)
-
-enum-told-4 : tie.Need-enum-told-4
-enum-told-4 c = search needs
+written-requires : tie.Need-written-requires
+written-requires c κs = search needs
 
 same-length : tie.Need-same-length
 same-length c = search needs
@@ -42,8 +40,22 @@ same-length c = search needs
 same-length-2 : tie.Need-same-length-2
 same-length-2 c = search needs
 
-returns : tie.Need-returns
-returns c = search needs
+returns-2 : tie.Need-returns-2
+unfolding Does
+returns-2 c = rw (c .written .ensures) (c .before .before .before .before .before .before .in-small .ensures)
+
+slice-aggregate-in-larger : tie.Need-slice-aggregate-in-larger
+slice-aggregate-in-larger c = search needs
+
+in-larger-requires : tie.Need-in-larger-requires
+unfolding Asks unitPlaces clusterPlaces glyphPlaces
+in-larger-requires c κs =
+    let a = c .before .before .before .before .before .before .before .before .before .before .before .before .args in
+    let m = sym (c .before .before .before .before .before .before .may-be-sound .ensures) ∙ not-false _ (c .before .before .before .before .before .if1 .left) in
+    (whole-of (length (a .units .now)) (length (a .clusters .now)) (length (a .glyphs .now)) m, (refl, refl, refl, within-of (length (a .units .now)) (length (a .clusters .now)) (length (a .glyphs .now)) m))
+
+written-requires-2 : tie.Need-written-requires-2
+written-requires-2 c κs = search needs
 
 same-length-3 : tie.Need-same-length-3
 same-length-3 c = search needs
@@ -51,43 +63,27 @@ same-length-3 c = search needs
 same-length-4 : tie.Need-same-length-4
 same-length-4 c = search needs
 
-returns-2 : tie.Need-returns-2
-returns-2 c = search needs
-
-same-length-5 : tie.Need-same-length-5
-same-length-5 c = search needs
-
-same-length-6 : tie.Need-same-length-6
-same-length-6 c = search needs
-
 returns-3 : tie.Need-returns-3
-returns-3 c = search needs
-
-returns-4 : tie.Need-returns-4
-returns-4 c =
-    let a = c .before .before .before .before .before .before .before .before .args in
-    unwritten (a .units .now) (a .clusters .now) (a .glyphs .now) _ _
-    (subst (RoomIn (length (a .units .now)) (length (a .clusters .now)) (length (a .glyphs .now))) (c .enum-told4 .given .1) (c .before .before .room-in .ensures))
+unfolding Does
+returns-3 c = rw (c .written2 .ensures) (c .before .before .before .before .before .before .in-larger .ensures)
 
 pub write-bytes-spec : {M : Type 1} → statement M
 write-bytes-spec =
     tie.close
     (tie.spec
-    room-in-requires
-    enum-told
-    write-small-requires
-    enum-told-2
-    write-medium-requires
-    enum-told-3
-    write-large-requires
-    enum-told-4
+    may-be-sound-requires
+    unsound-writing-requires
+    returns
+    is-within-requires
+    slice-aggregate-in-small
+    in-small-requires
+    written-requires
     same-length
     same-length-2
-    returns
+    returns-2
+    slice-aggregate-in-larger
+    in-larger-requires
+    written-requires-2
     same-length-3
     same-length-4
-    returns-2
-    same-length-5
-    same-length-6
-    returns-3
-    returns-4)
+    returns-3)
