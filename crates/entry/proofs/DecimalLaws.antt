@@ -1,22 +1,14 @@
 -- The digits of a number, the last behind the others. Assumes nothing.
 use mathlib.Core.Path.{_≡_, sym, ap, _∙_}
 use mathlib.Core.List.{List, [], _∷_, _++_}
-use Prim.Native.Nat.{ℕ, zero, suc, _+_, _-_, _/_, _%_, _<_, _≤_}
+use Prim.Native.Nat.{ℕ, zero, suc, _+_, _/_, _%_, _<_, _≤_}
 use native.Mathlib.Omega.{arith}
-use borrow.Author.Tests.{lt-ltb, le-ltb, ltb-true, ltb-false}
+use borrow.Author.Tests.{ltb-true, ltb-false}
 use lib.Dec.{ltb}
 use lib.ListN.{length}
 use Rattle.label.specs.Bytes.{decimalFrom, decimal}
 use Rattle.label.proofs.Basics.{cases}
-use Rattle.label.proofs.Decimals.{length-decimal}
-
-dec-small : (f n : ℕ) → n < 10 → decimalFrom (suc f) n ≡ (48 + n) ∷ []
-unfolding decimalFrom
-dec-small f n h = rw (lt-ltb n 10 h)
-
-dec-big : (f n : ℕ) → 10 ≤ n → decimalFrom (suc f) n ≡ decimalFrom f (n / 10) ++ ((48 + n % 10) ∷ [])
-unfolding decimalFrom
-dec-big f n h = rw (le-ltb n 10 h)
+use Rattle.label.proofs.Decimals.{dec-small, dec-big, length-decimal}
 
 enough : (f e n : ℕ) → n < f → n < e → decimalFrom f n ≡ decimalFrom e n
 enough zero e n h k = absurd (omega arith)

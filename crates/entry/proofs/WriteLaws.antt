@@ -13,8 +13,8 @@ use Rattle.label.specs.Sound.{natural, size, numberIndex, numberAdvance}
 use Rattle.label.proofs.Basics.{cases, clash}
 use Rattle.label.proofs.Splits.{empty-nil}
 use Rattle.label.proofs.Decimals.{empty-decimal}
-use Rattle.words.specs.Places.{place}
-use Rattle.entry.specs.Fields.{partsV, partsUV, partsAUV, fields, glyphAt}
+use Rattle.words.specs.Places.{glyphAt, place}
+use Rattle.entry.specs.Fields.{partsV, partsUV, partsAUV, fields}
 
 -- ── values ──
 

@@ -1,17 +1,11 @@
 -- The parts of an entry as the code writes them: a glyph at a place of a run's numbers, and its fields from one on.
 -- Assumes nothing.
-use Prim.Native.Nat.{ℕ, _+_}
+use Prim.Native.Nat.{ℕ}
 use mathlib.Core.List.{List, [], _∷_}
 use lib.IntN.{ℤ}
 use Rattle.label.specs.Bytes.{joinRest, trim}
 use Rattle.label.specs.Write.{advanceBytes, offsetBytes}
-use Rattle.label.specs.Sound.{numberIndex, numberAdvance}
-use Rattle.label.specs.declared.Glyph.{Glyph}
-use Rattle.words.specs.Places.{place}
-
--- the glyph record whose four numbers begin at place k
-unfoldable pub glyphAt : List ℤ → ℕ → Glyph
-glyphAt s k = record { index = numberIndex (place s k); advance = numberAdvance (place s (k + 1)); u = place s (k + 2); v = place s (k + 3) }
+use Rattle.label.specs.Sound.{numberAdvance}
 
 -- an entry's fields from the v offset on, from the u offset on, from the advance on
 unfoldable pub partsV : ℤ → List (List ℕ)

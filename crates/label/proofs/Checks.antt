@@ -19,7 +19,7 @@ use Rattle.label.specs.Write.{Label, normal, write}
 use Rattle.label.specs.Pick.{inside, touched, turned, pickUnits, pickGlyphs}
 use Rattle.label.specs.Calls.{readInto, writeInto}
 use Rattle.label.specs.Checks.{Check, check, verdict, refuses, Given, textChecks, bitUnits, entryChecks, tailChecks, walkChecks, tailParts, walkParts, saidUnits, saidParts, saidRun, runChecks, labelChecks, readChecks, writeChecks, pickChecks}
-use Rattle.label.proofs.Basics.{no-ok}
+use Rattle.label.proofs.Basics.{no-ok, or-l, or-r}
 
 -- ── a list of checks before an outcome ──
 
@@ -150,7 +150,7 @@ walk-by-checks (s ∷ ss) bare st =
 
 -- ── the whole ──
 
-abbrev runWith : List ℕ → Parts → Run
+abbrev pub runWith : List ℕ → Parts → Run
 runWith us p = record { units = us; clusters = p .clusters; glyphs = p .glyphs }
 
 run-by-checks : (us indices : List ℕ) → runFrom us indices ≡ (verdict (runChecks us indices) >> ok (runWith us (saidParts us indices)))
@@ -272,14 +272,6 @@ first-given (c ∷ cs) n p h = go (c .holds) refl (first-given cs n p)
           number = g .number;
           place = g .place;
         }
-
-or-l : (a b : Bool) → (a || b) ≡ false → a ≡ false
-or-l true b h = h
-or-l false b h = refl
-
-or-r : (a b : Bool) → (a || b) ≡ false → b ≡ false
-or-r true b h = absurd (false≢true (sym h))
-or-r false b h = h
 
 given-first : {A : Type 0} (cs : List Check) (n p : ℕ) (o : Outcome A) → Given cs n p → (verdict cs >> o) ≡ no n p
 unfolding verdict refuses

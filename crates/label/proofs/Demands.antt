@@ -5,7 +5,7 @@ use native.Mathlib.Omega.{arith}
 use mathlib.Core.Path.{_≡_, refl, sym, _∙_, ap, subst}
 use mathlib.Core.Logic.{_↔_, _⊎_, inl, inr}
 use mathlib.Core.Bool.{true, false, _&&_}
-use mathlib.Core.List.{List, [], _∷_}
+use mathlib.Core.List.{List}
 use borrow.Author.Tests.{leb-true, le-leb, lt-ltb}
 use lib.Dec.{ltb, leb}
 use lib.IntN.{ℤ}
@@ -21,14 +21,12 @@ use Rattle.label.specs.Calls.{filled, readInto, writeInto}
 use Rattle.label.specs.Wire.{fromHalves, fromWords, halves, words, evenBytes, wordBytes, noLeftOver, readBytes, writeBytes}
 use Rattle.label.specs.Checks.{Given, refuses, saidRun, labelChecks, readChecks, writeChecks, pickChecks}
 use Rattle.label.specs.Demands.{unitCounts, glyphCounts, WholeClusters, Roomy, RoomyFor, writes, bytes, ReadableBytes, Left, LeftBytes, Wrote, NotWrote, Demand1, Demand2, passedOn, Passed, Demand3}
-use Rattle.label.specs.declared.Glyph.{Glyph}
-use Rattle.label.specs.declared.Cluster.{Cluster}
 use Rattle.label.specs.declared.Stretch.{Stretch}
 use Rattle.label.proofs.Basics.{and-l, and-r, and-i, cases, bind-ok, need-ok, no-ok}
 use Rattle.label.proofs.Walks.{ok-path}
 use Rattle.label.proofs.Sounds.{read-sound, read-back, SoundRun, sound-parts}
 use Rattle.label.proofs.Checks.{read-by-checks, into-by-checks, write-by-checks, units-by-checks, glyphs-by-checks, given-is, passes, stops}
-use Rattle.label.proofs.Parts.{sum, divided, fits-units, fits-glyphs, clusters-of, glyphs-of, run-sound, sound-readable, readable-sound, touched-whole, turned-glyphs, turned-units, map-sum, map-at}
+use Rattle.label.proofs.Parts.{sum, length-clusters, length-glyphs, divided, fits-units, fits-glyphs, clusters-of, glyphs-of, run-sound, sound-readable, readable-sound, touched-whole, turned-glyphs, turned-units, map-sum, map-at}
 use Rattle.label.proofs.Wires.{halves-back, halves-even, halves-forth, words-back, words-forth, words-whole, glyphs-32, clusters-32}
 
 -- ── the reader and the writer, with room ──
@@ -297,16 +295,6 @@ same A B lA lB a b p q = (
   λ e. same-back A B a b (sym (ap (λ (l : Label). l .text) p) ∙ e .0 ∙ ap (λ (l : Label). l .text) q)
       (sym (ap (λ (l : Label). l .indices) p) ∙ e .1 ∙ ap (λ (l : Label). l .indices) q),
 )
-
-length-clusters : (cs : List Cluster) → length (flatClusters cs) ≡ 2 * length cs
-unfolding flatClusters
-length-clusters [] = refl
-length-clusters (c ∷ cs) = omega (arith, length-clusters cs)
-
-length-glyphs : (gs : List Glyph) → length (flatGlyphs gs) ≡ 4 * length gs
-unfolding flatGlyphs
-length-glyphs [] = refl
-length-glyphs (g ∷ gs) = omega (arith, length-glyphs gs)
 
 held : {A : Type 0} (xs old : List A) (n : ℕ) → length xs ≡ n → take n (filled xs old) ≡ xs
 held xs old n e = take-at xs (drop (length xs) old) n e

@@ -1,7 +1,7 @@
 -- Parts by their counts: every place in exactly one; a run's counts add up; a run's numbers and back; the soundness test and "some label reads as it"; the stretch
 -- that a pick gives; the cluster map.
 -- Assumes nothing.
-use Prim.Native.Nat.{ℕ, zero, suc, _+_, _-_, _≤_, _<_}
+use Prim.Native.Nat.{ℕ, zero, suc, _+_, _*_, _-_, _≤_, _<_}
 use native.Mathlib.Omega.{arith}
 use native.Mathlib.Nat.{not-suc-le-zero, zero-add}
 use mathlib.Core.Path.{_≡_, refl, _∙_}
@@ -118,6 +118,16 @@ clusters-whole : (cs : List Cluster) → wholeClusters (flatClusters cs) ≡ tru
 unfolding wholeClusters flatClusters
 clusters-whole [] = refl
 clusters-whole (c ∷ cs) = clusters-whole cs
+
+pub length-clusters : (cs : List Cluster) → length (flatClusters cs) ≡ 2 * length cs
+unfolding flatClusters
+length-clusters [] = refl
+length-clusters (c ∷ cs) = omega (arith, length-clusters cs)
+
+pub length-glyphs : (gs : List Glyph) → length (flatGlyphs gs) ≡ 4 * length gs
+unfolding flatGlyphs
+length-glyphs [] = refl
+length-glyphs (g ∷ gs) = omega (arith, length-glyphs gs)
 
 index-number : (z : ℤ) → choice z ≡ true → indexNumber (numberIndex z) ≡ z
 index-number (pos n) h = refl

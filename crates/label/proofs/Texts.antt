@@ -71,48 +71,45 @@ xml-range c h =
     (or-cases (eqb c 9 || eqb c 10 || eqb c 13 || within 32 55295 c || within 57344 65533 c) (within 65536 1114111 c) h)
 
 -- the tests of a range
-pub in-range : (lo hi b : ℕ) → lo ≤ b → b ≤ hi → within lo hi b ≡ true
-in-range lo hi b h k = rw (le-leb lo b h, le-leb b hi k)
-
 pub above-range : (lo hi b : ℕ) → hi < b → within lo hi b ≡ false
 above-range lo hi b h = rw (lt-leb b hi h, and-false (leb lo b))
 
 -- the nine rows by their first bytes
 pub row-1 : (b : ℕ) → 0 ≤ b → b ≤ 127 → lead b ≡ row 0 0 0
 unfolding lead
-row-1 b h k = rw (in-range 0 127 b h k)
+row-1 b h k = rw (within-is 0 127 b h k)
 
 pub row-2 : (b : ℕ) → 194 ≤ b → b ≤ 223 → lead b ≡ row 1 128 191
 unfolding lead
-row-2 b h k = rw (above-range 0 127 b (omega arith), in-range 194 223 b h k)
+row-2 b h k = rw (above-range 0 127 b (omega arith), within-is 194 223 b h k)
 
 pub row-3 : (b : ℕ) → 224 ≤ b → b ≤ 224 → lead b ≡ row 2 160 191
 unfolding lead
-row-3 b h k = rw (above-range 0 127 b (omega arith), above-range 194 223 b (omega arith), in-range 224 224 b h k)
+row-3 b h k = rw (above-range 0 127 b (omega arith), above-range 194 223 b (omega arith), within-is 224 224 b h k)
 
 pub row-4 : (b : ℕ) → 225 ≤ b → b ≤ 236 → lead b ≡ row 2 128 191
 unfolding lead
-row-4 b h k = rw (above-range 0 127 b (omega arith), above-range 194 223 b (omega arith), above-range 224 224 b (omega arith), in-range 225 236 b h k)
+row-4 b h k = rw (above-range 0 127 b (omega arith), above-range 194 223 b (omega arith), above-range 224 224 b (omega arith), within-is 225 236 b h k)
 
 pub row-5 : (b : ℕ) → 237 ≤ b → b ≤ 237 → lead b ≡ row 2 128 159
 unfolding lead
-row-5 b h k = rw (above-range 0 127 b (omega arith), above-range 194 223 b (omega arith), above-range 224 224 b (omega arith), above-range 225 236 b (omega arith), in-range 237 237 b h k)
+row-5 b h k = rw (above-range 0 127 b (omega arith), above-range 194 223 b (omega arith), above-range 224 224 b (omega arith), above-range 225 236 b (omega arith), within-is 237 237 b h k)
 
 pub row-6 : (b : ℕ) → 238 ≤ b → b ≤ 239 → lead b ≡ row 2 128 191
 unfolding lead
-row-6 b h k = rw (above-range 0 127 b (omega arith), above-range 194 223 b (omega arith), above-range 224 224 b (omega arith), above-range 225 236 b (omega arith), above-range 237 237 b (omega arith), in-range 238 239 b h k)
+row-6 b h k = rw (above-range 0 127 b (omega arith), above-range 194 223 b (omega arith), above-range 224 224 b (omega arith), above-range 225 236 b (omega arith), above-range 237 237 b (omega arith), within-is 238 239 b h k)
 
 pub row-7 : (b : ℕ) → 240 ≤ b → b ≤ 240 → lead b ≡ row 3 144 191
 unfolding lead
-row-7 b h k = rw (above-range 0 127 b (omega arith), above-range 194 223 b (omega arith), above-range 224 224 b (omega arith), above-range 225 236 b (omega arith), above-range 237 237 b (omega arith), above-range 238 239 b (omega arith), in-range 240 240 b h k)
+row-7 b h k = rw (above-range 0 127 b (omega arith), above-range 194 223 b (omega arith), above-range 224 224 b (omega arith), above-range 225 236 b (omega arith), above-range 237 237 b (omega arith), above-range 238 239 b (omega arith), within-is 240 240 b h k)
 
 pub row-8 : (b : ℕ) → 241 ≤ b → b ≤ 243 → lead b ≡ row 3 128 191
 unfolding lead
-row-8 b h k = rw (above-range 0 127 b (omega arith), above-range 194 223 b (omega arith), above-range 224 224 b (omega arith), above-range 225 236 b (omega arith), above-range 237 237 b (omega arith), above-range 238 239 b (omega arith), above-range 240 240 b (omega arith), in-range 241 243 b h k)
+row-8 b h k = rw (above-range 0 127 b (omega arith), above-range 194 223 b (omega arith), above-range 224 224 b (omega arith), above-range 225 236 b (omega arith), above-range 237 237 b (omega arith), above-range 238 239 b (omega arith), above-range 240 240 b (omega arith), within-is 241 243 b h k)
 
 pub row-9 : (b : ℕ) → 244 ≤ b → b ≤ 244 → lead b ≡ row 3 128 143
 unfolding lead
-row-9 b h k = rw (above-range 0 127 b (omega arith), above-range 194 223 b (omega arith), above-range 224 224 b (omega arith), above-range 225 236 b (omega arith), above-range 237 237 b (omega arith), above-range 238 239 b (omega arith), above-range 240 240 b (omega arith), above-range 241 243 b (omega arith), in-range 244 244 b h k)
+row-9 b h k = rw (above-range 0 127 b (omega arith), above-range 194 223 b (omega arith), above-range 224 224 b (omega arith), above-range 225 236 b (omega arith), above-range 237 237 b (omega arith), above-range 238 239 b (omega arith), above-range 240 240 b (omega arith), above-range 241 243 b (omega arith), within-is 244 244 b h k)
 
 -- a character's UTF-8 is read as the character
 sum-3 : (c : ℕ) → c ≤ 65535 → (224 + c / 4096) % 16 * 4096 + (128 + c / 64 % 64) % 64 * 64 + (128 + c % 64) % 64 ≡ c

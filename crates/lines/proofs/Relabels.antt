@@ -6,21 +6,21 @@ use mathlib.Core.Path.{_≡_, refl, sym, _∙_, ap}
 use mathlib.Core.List.{List}
 use borrow.Author.Tests.{le-leb, lt-leb}
 use lib.IntN.{ℤ}
-use lib.ListN.{length, take}
+use lib.ListN.{length}
 use Rattle.label.specs.Limits.{maxTextBytes, maxIndicesBytes, maxUnits, maxGlyphs, maxLineBytes}
 use Rattle.label.specs.Outcome.{Outcome, ok, no}
 use Rattle.label.specs.Run.{Run, read}
-use Rattle.label.specs.Write.{Label, normal}
-use Rattle.label.specs.Calls.{readInto, counts, counted, unitsAfter, clustersAfter, glyphsAfter, writeInto, writingOutcome, lengths, lengthsOf, textAfter, indicesAfter}
+use Rattle.label.specs.Write.{normal}
+use Rattle.label.specs.Calls.{readInto, counts, counted, unitsAfter, clustersAfter, glyphsAfter, lengths, textAfter, indicesAfter}
 use Rattle.label.specs.Relabel.{relabelRead}
 use Rattle.label.specs.Demands.{Roomy, RoomyFor, passedOn}
 use Rattle.label.specs.declared.Counts.{Counts}
-use Rattle.label.specs.declared.Writing.{Writing}
 use Rattle.label.proofs.Basics.{no-ok}
 use Rattle.label.proofs.Sounds.{read-sound}
 use Rattle.label.proofs.Demands.{passed-is}
 use Rattle.label.proofs.Sizes.{sound-roomy, sound-short, read-largest}
-use Rattle.lines.specs.Lines.{shown, relabelled, textLine, indicesLine}
+use Rattle.lines.specs.Lines.{answered, placesWritten, relabelled, textLine, indicesLine}
+use Rattle.lines.specs.declared.Relabelled.{Relabelled}
 
 pub long-line : (t i : List ℕ) → maxLineBytes < length i → no 1 0 ≡ relabelRead t i
 unfolding relabelRead
@@ -60,13 +60,51 @@ module _ (t i : List ℕ) (few : length i ≤ maxLineBytes) where
       go (ok r) e k = let q : c ≡ counts r = cc in record { run = r; is = sym (into-largest t i) ∙ e; relabelled-is = read-is ∙ e; counts-are = q }
       go (no n p) e k = no-ok n p c (sym k)
 
-  -- the writer handed the places that the reading filled
-  pub written : (c : Counts) (w : WasRead c) (us : List ℕ) (cs gs : List ℤ) (x y : ℕ) → length us ≡ maxUnits → length cs ≡ 2 * maxGlyphs → length gs ≡ 4 * maxGlyphs
-      → maxTextBytes ≤ x → maxIndicesBytes ≤ y → passedOn (w .run) t i us cs gs x y ≡ ok (normal (w .run))
-  written c w us cs gs x y hu hc hg hx hy =
-      let s = read-sound t i (w .run) (w .is) in
-      let m = sound-roomy (w .run) s in
-      let n = sound-short (w .run) s in
-      passed-is t i (w .run) us cs gs x y (w .is)
-      (rw (hu, hc, hg) m)
-      (record { for-text = omega (arith, n .for-text); for-indices = omega (arith, n .for-indices) })
+-- ── at the calls ──
+
+-- a label read into buffers of the largest sizes, and the two outputs before
+module _ (t i us : List ℕ) (cs gs : List ℤ) (tx ix : List ℕ) (few : length i ≤ maxLineBytes)
+    (sizes : (length us ≡ maxUnits) × (length cs ≡ 2 * maxGlyphs) × (length gs ≡ 4 * maxGlyphs)) where
+  abbrev reading : Outcome Run
+  reading = readInto (length us) (length cs) (length gs) t i
+
+  largest : reading ≡ readInto maxUnits (2 * maxGlyphs) (4 * maxGlyphs) t i
+  largest = rw (sizes .0, sizes .1, sizes .2)
+
+  pub line-refused : (n p : ℕ) → no n p ≡ counted reading
+      → (no n p ≡ relabelled (relabelRead t i)) × ((tx ≡ textLine (relabelRead t i) tx) × (ix ≡ indicesLine (relabelRead t i) ix))
+  line-refused n p h = rw (refused t i few n p (h ∙ ap counted largest)) (refl, (refl, refl))
+
+  -- what the writer handed the places that the reading filled leaves
+  answered-as : (c : Counts) (r : Run) → c ≡ counts r → read t i ≡ ok r → relabelRead t i ≡ ok r
+      → (us′ : List ℕ) (cs′ gs′ : List ℤ) (o : Outcome Relabelled) (tx′ ix′ : List ℕ) → maxTextBytes ≤ length tx → maxIndicesBytes ≤ length ix
+      → us′ ≡ unitsAfter reading us → cs′ ≡ clustersAfter reading cs → gs′ ≡ glyphsAfter reading gs
+      → o ≡ answered c (lengths (placesWritten c us′ cs′ gs′ (length tx) (length ix)))
+      → tx′ ≡ textAfter (placesWritten c us′ cs′ gs′ (length tx) (length ix)) tx → ix′ ≡ indicesAfter (placesWritten c us′ cs′ gs′ (length tx) (length ix)) ix
+      → (o ≡ relabelled (relabelRead t i)) × ((tx′ ≡ textLine (relabelRead t i) tx) × (ix′ ≡ indicesLine (relabelRead t i) ix))
+  answered-as c r k a b us′ cs′ gs′ o tx′ ix′ hx hy hu hc hg ho ht hi =
+      let s = read-sound t i r a in
+      let m : Roomy r maxUnits (2 * maxGlyphs) (4 * maxGlyphs) = sound-roomy r s in
+      let n : RoomyFor (normal r) maxTextBytes maxIndicesBytes = sound-short r s in
+      let v : passedOn r t i us cs gs (length tx) (length ix) ≡ ok (normal r) =
+      passed-is t i r us cs gs (length tx) (length ix) a (rw (sizes .0, sizes .1, sizes .2) m)
+      (record { for-text = omega (arith, n .for-text); for-indices = omega (arith, n .for-indices) }) in
+      let w : placesWritten c us′ cs′ gs′ (length tx) (length ix) ≡ ok (normal r) = rw (hu, hc, hg, k) v in
+      (ho ∙ rw (w, b, k), (ht ∙ rw (w, b), hi ∙ rw (w, b)))
+
+  module _ (c : Counts) (h : ok c ≡ counted reading) where
+    read-as : WasRead t i few c
+    read-as = was-read t i few c (h ∙ ap counted largest)
+
+    pub line-room : (us′ : List ℕ) (cs′ gs′ : List ℤ) → length us′ ≡ length us → length cs′ ≡ length cs → length gs′ ≡ length gs
+        → (c .units ≤ length us′) × (2 * c .clusters ≤ length cs′) × (4 * c .glyphs ≤ length gs′)
+    line-room us′ cs′ gs′ a b d =
+        let m : Roomy (read-as .run) maxUnits (2 * maxGlyphs) (4 * maxGlyphs) = sound-roomy (read-as .run) (read-sound t i (read-as .run) (read-as .is)) in
+        rw (a, b, d, sizes .0, sizes .1, sizes .2, read-as .counts-are) (m .for-units, m .for-clusters, m .for-glyphs)
+
+    pub line-written : (us′ : List ℕ) (cs′ gs′ : List ℤ) (o : Outcome Relabelled) (tx′ ix′ : List ℕ) → maxTextBytes ≤ length tx → maxIndicesBytes ≤ length ix
+        → us′ ≡ unitsAfter reading us → cs′ ≡ clustersAfter reading cs → gs′ ≡ glyphsAfter reading gs
+        → o ≡ answered c (lengths (placesWritten c us′ cs′ gs′ (length tx) (length ix)))
+        → tx′ ≡ textAfter (placesWritten c us′ cs′ gs′ (length tx) (length ix)) tx → ix′ ≡ indicesAfter (placesWritten c us′ cs′ gs′ (length tx) (length ix)) ix
+        → (o ≡ relabelled (relabelRead t i)) × ((tx′ ≡ textLine (relabelRead t i) tx) × (ix′ ≡ indicesLine (relabelRead t i) ix))
+    line-written = answered-as c (read-as .run) (read-as .counts-are) (read-as .is) (read-as .relabelled-is)

@@ -1,15 +1,18 @@
 -- What the programs print of a label: its counts and the lengths of its two normal lines, or the refusal.
 -- Assumes nothing.
-use Prim.Native.Nat.{ℕ, _+_}
+use Prim.Native.Nat.{ℕ, _+_, _*_}
 use mathlib.Core.Bool.{cond}
 use lib.Dec.{ltb}
 use mathlib.Core.List.{List}
-use lib.ListN.{length, drop}
+use lib.IntN.{ℤ}
+use lib.ListN.{length, take, drop}
 use Rattle.label.specs.Outcome.{Outcome, ok, no}
 use Rattle.label.specs.Relabel.{line}
 use Rattle.label.specs.Run.{Run}
-use Rattle.label.specs.Write.{normal}
-use Rattle.label.specs.Calls.{counts, after}
+use Rattle.label.specs.Write.{Label, normal}
+use Rattle.label.specs.Calls.{counts, after, writeInto}
+use Rattle.label.specs.declared.Counts.{Counts}
+use Rattle.label.specs.declared.Lengths.{Lengths}
 use Rattle.lines.specs.declared.TwoLines.{TwoLines}
 use Rattle.lines.specs.declared.Relabelled.{Relabelled}
 use Rattle.lines.specs.declared.Relabelling.{Relabelling}
@@ -41,6 +44,15 @@ shown r = record { read = counts r; written = record { text = length (normal r .
 abbrev pub relabelled : Outcome Run → Outcome Relabelled
 relabelled (ok r) = ok (shown r)
 relabelled (no n p) = no n p
+
+-- the counts read with what became of the writing
+abbrev pub answered : Counts → Outcome Lengths → Outcome Relabelled
+answered c (ok l) = ok (record { read = c; written = l })
+answered c (no n p) = no n p
+
+-- the writing of the run whose counts these are, from the places at the front of three buffers
+abbrev pub placesWritten : Counts → List ℕ → List ℤ → List ℤ → ℕ → ℕ → Outcome Label
+placesWritten c us cs gs x y = writeInto x y (take (c .units) us) (take (2 * c .clusters) cs) (take (4 * c .glyphs) gs)
 
 -- the two outputs afterwards
 abbrev pub textLine : Outcome Run → List ℕ → List ℕ

@@ -6,11 +6,12 @@ use label::Reading;
 use label::Refusal;
 use label::Writing;
 ghost use mathlib.Core.Path.{_≡_};
-ghost use Prim.Native.Nat.{_+_, _≤_, _<_, min};
+ghost use Prim.Native.Nat.{_+_, _*_, _≤_, _<_, min};
 ghost use lib.ListN.{length};
-ghost use Rattle.label.specs.Limits.{maxTextBytes, maxIndicesBytes};
+ghost use Rattle.label.specs.Limits.{maxTextBytes, maxIndicesBytes, maxUnits, maxGlyphs, maxLineBytes};
 ghost use Rattle.label.specs.Relabel.{relabelRead};
-ghost use Rattle.lines.specs.Lines.{lineEnd, lineBehind, twoLines, relabelOutcome, relabelled, textLine, indicesLine};
+ghost use Rattle.label.specs.Calls.{writingOutcome, lengths, textAfter, indicesAfter};
+ghost use Rattle.lines.specs.Lines.{lineEnd, lineBehind, twoLines, answered, placesWritten, relabelOutcome, relabelled, textLine, indicesLine};
 
 pub struct Relabelled {
     pub read: Counts,
@@ -73,35 +74,83 @@ pub fn two_lines(s: &[u8], at: usize) -> TwoLines
     }
 }
 
-fn answer(read: Counts, w: Writing) -> Relabelling {
+// What was read and what was written, or the refusal.
+fn answer(read: Counts, w: Writing) -> Relabelling
+    ensures { λ r. ⌜ relabelOutcome r ≡ answered read (writingOutcome w) ⌝ }
+{
     match w {
         Writing::Written(written) => Relabelling::Ok(Relabelled { read, written }),
         Writing::Refused(x) => Relabelling::No(x),
     }
 }
 
-// The label of a text line and an indices line: its counts and its normal lines, which are written to the two outputs, or the refusal.
-pub fn relabel(text: &[u8], indices: &[u8], out_text: &mut [u8], out_indices: &mut [u8]) -> Relabelling
-    requires { ⌜ (maxTextBytes ≤ length (now out_text)) × (maxIndicesBytes ≤ length (now out_indices)) ⌝ }
+// Writes the run whose counts these are from the places at the front of three buffers.
+fn write_places(
+    n: Counts,
+    units: &[u16],
+    clusters: &[i32],
+    glyphs: &[i32],
+    first: &mut [u8],
+    second: &mut [u8],
+) -> Relabelling
+    requires { ⌜ (n .units ≤ length (now units)) × (2 * n .clusters ≤ length (now clusters)) × (4 * n .glyphs ≤ length (now glyphs)) ⌝ }
+    ensures result { λ r. ⌜ relabelOutcome r ≡ answered n (lengths (placesWritten n (now (units .entry)) (now (clusters .entry)) (now (glyphs .entry)) (length (now (first .entry))) (length (now (second .entry))))) ⌝ }
+    ensures text { λ _. ⌜ now (first .exit) ≡ textAfter (placesWritten n (now (units .entry)) (now (clusters .entry)) (now (glyphs .entry)) (length (now (first .entry))) (length (now (second .entry)))) (now (first .entry)) ⌝ }
+    ensures indices { λ _. ⌜ now (second .exit) ≡ indicesAfter (placesWritten n (now (units .entry)) (now (clusters .entry)) (now (glyphs .entry)) (length (now (first .entry))) (length (now (second .entry)))) (now (second .entry)) ⌝ }
+{
+    let u = n.units;
+    let c = 2 * n.clusters;
+    let g = 4 * n.glyphs;
+    let w = writer::write(&units[..u], &clusters[..c], &glyphs[..g], first, second);
+    answer(n, w)
+}
+
+// The label of a text line and an indices line that is not too long, read into buffers that hold every run.
+fn relabel_in(
+    text: &[u8],
+    indices: &[u8],
+    units: &mut [u16],
+    clusters: &mut [i32],
+    glyphs: &mut [i32],
+    first: &mut [u8],
+    second: &mut [u8],
+) -> Relabelling
+    requires { ⌜ length (now indices) ≤ maxLineBytes ⌝ }
+    requires buffers { ⌜ (length (now units) ≡ maxUnits) × (length (now clusters) ≡ 2 * maxGlyphs) × (length (now glyphs) ≡ 4 * maxGlyphs) ⌝ }
+    requires outputs { ⌜ (maxTextBytes ≤ length (now first)) × (maxIndicesBytes ≤ length (now second)) ⌝ }
     ensures result { λ r. ⌜ relabelOutcome r ≡ relabelled (relabelRead (now (text .entry)) (now (indices .entry))) ⌝ }
-    ensures text { λ _. ⌜ now (out_text .exit) ≡ textLine (relabelRead (now (text .entry)) (now (indices .entry))) (now (out_text .entry)) ⌝ }
-    ensures indices { λ _. ⌜ now (out_indices .exit) ≡ indicesLine (relabelRead (now (text .entry)) (now (indices .entry))) (now (out_indices .entry)) ⌝ }
+    ensures text { λ _. ⌜ now (first .exit) ≡ textLine (relabelRead (now (text .entry)) (now (indices .entry))) (now (first .entry)) ⌝ }
+    ensures indices { λ _. ⌜ now (second .exit) ≡ indicesLine (relabelRead (now (text .entry)) (now (indices .entry))) (now (second .entry)) ⌝ }
+{
+    match reader::read(text, indices, units, clusters, glyphs) {
+        Reading::Refused(x) => Relabelling::No(x),
+        Reading::Read(n) => write_places(n, units, clusters, glyphs, first, second),
+    }
+}
+
+// The label of a text line and an indices line: its counts and its normal lines, which are written to the two outputs, or the refusal.
+pub fn relabel(text: &[u8], indices: &[u8], first: &mut [u8], second: &mut [u8]) -> Relabelling
+    requires { ⌜ (maxTextBytes ≤ length (now first)) × (maxIndicesBytes ≤ length (now second)) ⌝ }
+    ensures result { λ r. ⌜ relabelOutcome r ≡ relabelled (relabelRead (now (text .entry)) (now (indices .entry))) ⌝ }
+    ensures text { λ _. ⌜ now (first .exit) ≡ textLine (relabelRead (now (text .entry)) (now (indices .entry))) (now (first .entry)) ⌝ }
+    ensures indices { λ _. ⌜ now (second .exit) ≡ indicesLine (relabelRead (now (text .entry)) (now (indices .entry))) (now (second .entry)) ⌝ }
 {
     if Limits::LINE_BYTES < indices.len() {
-        return Relabelling::No(Refusal { number: 1, place: 0 });
+        return Relabelling::No(Refusal {
+            number: 1,
+            place: 0,
+        });
     }
     let mut units = [0u16; Limits::UNITS];
     let mut clusters = [0i32; 2 * Limits::GLYPHS];
     let mut glyphs = [0i32; 4 * Limits::GLYPHS];
-    let r = reader::read(text, indices, &mut units, &mut clusters, &mut glyphs);
-    match r {
-        Reading::Refused(x) => Relabelling::No(x),
-        Reading::Read(n) => {
-            let u = n.units;
-            let c = 2 * n.clusters;
-            let g = 4 * n.glyphs;
-            let w = writer::write(&units[..u], &clusters[..c], &glyphs[..g], out_text, out_indices);
-            answer(n, w)
-        }
-    }
+    relabel_in(
+        text,
+        indices,
+        &mut units,
+        &mut clusters,
+        &mut glyphs,
+        first,
+        second,
+    )
 }

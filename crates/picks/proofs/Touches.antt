@@ -16,8 +16,8 @@ use Rattle.label.specs.Pick.{stretch, holding, touched, turned, inside, pickUni
 use Rattle.label.specs.declared.Cluster.{Cluster}
 use Rattle.label.specs.declared.Stretch.{Stretch}
 use Rattle.label.proofs.Basics.{and-l, and-r, cases}
-use Rattle.words.specs.Places.{place}
-use Rattle.sound.specs.Sounds.{clusterAt, unitSum}
+use Rattle.words.specs.Places.{clusterAt, place}
+use Rattle.sound.specs.Sounds.{unitSum}
 use Rattle.sound.proofs.Parts.{clusters-at, clusters-end}
 use Rattle.sound.proofs.Facts.{few-units, few-glyphs, units-add-up, glyphs-add-up}
 use Rattle.picks.specs.Ways.{way, pickBy}

@@ -1,20 +1,19 @@
 -- The calls: from the text to its units, from the counts that were found to the run, and 16 to 18.
 -- Assumes nothing.
-use Prim.Native.Nat.{ℕ, zero, suc, _+_, _*_, _-_, _≤_, _<_}
+use Prim.Native.Nat.{ℕ, _*_, _≤_, _<_}
 use native.Mathlib.Omega.{arith}
 use mathlib.Core.Path.{_≡_, refl, sym, _∙_, ap, subst}
-use mathlib.Core.Bool.{Bool, true, false, cond, not, _&&_, and-false}
-use mathlib.Core.List.{List, [], _∷_, _++_}
-use borrow.Author.Tests.{le-leb, lt-leb, leb-true, eq-eqb}
+use mathlib.Core.Bool.{Bool, true, false, _&&_, and-false}
+use mathlib.Core.List.{List, [], _∷_}
+use borrow.Author.Tests.{le-leb, lt-leb, leb-true}
 use lib.Dec.{eqb, leb}
 use lib.IntN.{ℤ}
-use lib.ListN.{length, getD, drop, List·getD-eq-default}
-use Rattle.label.specs.Limits.{maxTextBytes, maxIndicesBytes}
+use lib.ListN.{length, getD, drop, length-replicate, List·getD-eq-default}
 use Rattle.label.specs.Outcome.{Outcome, ok, no, need, _>>=_, _>>_}
 use Rattle.label.specs.Bytes.{empty}
 use Rattle.label.specs.Text.{decode, marked, textUnits}
 use Rattle.label.specs.Entry.{entries}
-use Rattle.label.specs.Run.{Run, Parts, State, start, opens, takes, next, walk, tail, before, cluster, runFrom, read}
+use Rattle.label.specs.Run.{Run, Parts, State, start, opens, takes, next, walk, tail, before, cluster, fontGlyph, runFrom, read}
 use Rattle.label.specs.Sound.{flatClusters, flatGlyphs}
 use Rattle.label.specs.Calls.{refusal, readingOutcome, readInto, counts, counted, filled, unitsAfter, clustersAfter, glyphsAfter}
 use Rattle.label.specs.declared.Cluster.{Cluster}
@@ -23,9 +22,10 @@ use Rattle.label.specs.declared.Counts.{Counts}
 use Rattle.label.specs.declared.Refusal.{Refusal}
 use Rattle.label.specs.declared.Reading.{Reading}
 use Rattle.label.specs.declared.Reading.the-variants.{Read, Refused}
+use Rattle.label.proofs.Checks.{runWith}
 use Rattle.label.proofs.Basics.{clash, need-ok, no-ok, and-r}
 use Rattle.label.proofs.Walks.{ok-path, Walked, walk-ok}
-use Rattle.label.proofs.Sounds.{TextIs, text-ok, WasRead, read-ok}
+use Rattle.label.proofs.Sounds.{text-ok, WasRead, read-ok}
 use Rattle.text.specs.Moves.{unitsFrom}
 use Rattle.text.specs.Texts.{unitsStart, unitsRead, textRead}
 use Rattle.text.specs.declared.TextUnits.{TextUnits}
@@ -33,8 +33,8 @@ use Rattle.text.specs.declared.TextRead.{TextRead}
 use Rattle.text.specs.declared.TextRead.the-variants.{Units, Refused as TextRefused}
 use Rattle.text.proofs.Texts.{text-from}
 use Rattle.reader.specs.Steps.{tailParts}
-use Rattle.reader.proofs.Walking.{units-at}
-use Rattle.reader.proofs.Endings.{length-tail, length-tail-g, tail-is}
+use Rattle.reader.proofs.Walking.{walk-end, units-at}
+use Rattle.reader.proofs.Endings.{tail-is}
 
 -- ── where the units start ──
 
@@ -62,7 +62,7 @@ pub record TextHas (t : List ℕ) (n at : ℕ) : Type 0 where
   pub count : n ≡ length (unitsFrom t at)
   pub few : n ≤ 4096
 
-pub text-has : (t us : List ℕ) → textUnits t ≡ ok us → TextHas t (length us) (unitsStart t)
+text-has : (t us : List ℕ) → textUnits t ≡ ok us → TextHas t (length us) (unitsStart t)
 text-has t us h =
     let d : decode 0 (unitsStart t) (drop (unitsStart t) t) ≡ ok us = text-from t us h in
     let e : unitsFrom t (unitsStart t) ≡ us = units-at t (unitsStart t) us d in
@@ -116,12 +116,9 @@ module _ (t s : List ℕ) where
 -- a run has no more clusters than glyphs
 walk-even : (ss : List (List ℕ)) (bare : Bool) (st : State) (p : Parts) → walk bare st ss ≡ ok p → length (p .clusters) ≤ length (p .glyphs)
 walk-even [] bare st p h =
-    let (t, b) = need-ok (opens st) 14 (st .opener) (tail (st .at) (st .rest)) p (sym (walk-nil bare st) ∙ h) in
+    let (t, b) = need-ok (opens st) 14 (st .opener) (tail (st .at) (st .rest)) p (sym (walk-end bare st) ∙ h) in
     let e : tailParts (length (st .rest)) ≡ p = tail-is (st .rest) (st .at) p b in
-    subst (λ (q : Parts). length (q .clusters) ≤ length (q .glyphs)) e (rw (length-tail (length (st .rest)), length-tail-g (length (st .rest))) (omega arith))
-  where
-    walk-nil : (bare : Bool) (st : State) → walk bare st [] ≡ (need (opens st) 14 (st .opener) >> tail (st .at) (st .rest))
-    walk-nil bare st = unfold walk in refl
+    subst (λ (q : Parts). length (q .clusters) ≤ length (q .glyphs)) e (rw (length-replicate (length (st .rest)) (cluster 1 1), length-replicate (length (st .rest)) fontGlyph) (omega arith))
 walk-even (s ∷ ss) bare st p h =
     let x : Walked bare st s ss p = walk-ok bare st s ss p h in
     let r : length (x .others .clusters) ≤ length (x .others .glyphs) = walk-even ss bare (next bare st (x .first)) (x .others) (x .walked) in
@@ -130,9 +127,6 @@ walk-even (s ∷ ss) bare st p h =
     go : (o : Bool) (c : Cluster) (g : Glyph) (q : Parts) → length (q .clusters) ≤ length (q .glyphs) → length (before o c g q .clusters) ≤ length (before o c g q .glyphs)
     go true c g q r = omega arith
     go false c g q r = omega arith
-
-abbrev pub runWith : List ℕ → Parts → Run
-runWith us p = record { units = us; clusters = p .clusters; glyphs = p .glyphs }
 
 -- what the counts of a label say: it is accepted, and has so many
 pub record Found (t s : List ℕ) (n : Counts) : Type 0 where

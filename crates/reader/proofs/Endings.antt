@@ -1,15 +1,15 @@
 -- The tail behind the entries, and the counts of the run.
 -- Assumes nothing.
-use Prim.Native.Nat.{ℕ, zero, suc, _+_, _-_, _≤_, _<_}
+use Prim.Native.Nat.{ℕ, suc, _+_, _-_, _≤_, _<_}
 use native.Mathlib.Omega.{arith}
-use native.Mathlib.Nat.{zero-add, add-zero}
+use native.Mathlib.Nat.{zero-add}
 use native.Mathlib.Numerals.{add-one}
 use mathlib.Core.Path.{_≡_, refl, sym, _∙_, ap, subst}
-use mathlib.Core.Bool.{Bool, true, false, cond, not, _&&_}
-use mathlib.Core.List.{List, [], _∷_, _++_}
+use mathlib.Core.Bool.{Bool, true, false, _&&_}
+use mathlib.Core.List.{List, [], _∷_}
 use borrow.Author.Tests.{leb-true}
-use lib.Dec.{eqb, leb, leb·suc-zero}
-use lib.ListN.{length, drop, length-append, length-drop}
+use lib.Dec.{eqb, leb}
+use lib.ListN.{length, drop, length-append, length-drop, length-replicate}
 use Rattle.label.specs.Outcome.{Outcome, ok, no, need, _>>=_, _>>_}
 use Rattle.label.specs.Bytes.{empty}
 use Rattle.label.specs.Text.{decode}
@@ -25,29 +25,18 @@ use Rattle.label.proofs.Cursors.{joined, after, decode-end}
 use Rattle.text.specs.Chars.{charAt}
 use Rattle.text.specs.Moves.{unitsFrom, Moves}
 use Rattle.text.specs.declared.Char.the-variants.{Good, Ill, Outside}
-use Rattle.text.specs.declared.Moved.the-variants.{To, Half}
-use Rattle.text.proofs.Chars.{reached-inside}
+use Rattle.text.specs.declared.Moved.the-variants.{To}
 use Rattle.text.proofs.Moves.{left-start, left-one, left-half, left-done, left-no-ill, left-no-outside}
 use Rattle.reader.specs.declared.Tail.{Tail}
 use Rattle.reader.specs.declared.Tail.the-variants.{Plain, Pair}
-use Rattle.reader.specs.Steps.{tailClusters, tailGlyphs, tailParts, Tails, limited, countedFrom}
+use Rattle.reader.specs.Steps.{tailParts, Tails, limited, countedFrom}
 use Rattle.reader.proofs.Entries.{empty-eqb}
 use Rattle.reader.proofs.Walking.{nothing, after-none, after-after, Stands, Ready, At, units-at, units-here, ends-shut}
 
 -- ── the tail's parts ──
 
-pub length-tail : (n : ℕ) → length (tailClusters n) ≡ n
-unfolding tailClusters
-length-tail zero = refl
-length-tail (suc n) = ap suc (length-tail n)
-
-pub length-tail-g : (n : ℕ) → length (tailGlyphs n) ≡ n
-unfolding tailGlyphs
-length-tail-g zero = refl
-length-tail-g (suc n) = ap suc (length-tail-g n)
-
 pub tail-is : (us : List ℕ) (at : ℕ) (q : Parts) → tail at us ≡ ok q → tailParts (length us) ≡ q
-unfolding tail tailClusters tailGlyphs
+unfolding tail
 tail-is [] at q h = ok-path nothing q h
 tail-is (u ∷ us) at q h =
     let (t, b) = need-ok (whole 0 us) 13 (suc at) _ q h in
@@ -57,7 +46,7 @@ tail-is (u ∷ us) at q h =
 -- ── one unit of it ──
 
 tail-one : (us : List ℕ) (at : ℕ) → leb 1 (length us) ≡ true → whole 1 us ≡ true → tail at us ≡ after (tailParts 1) (tail (suc at) (drop 1 us))
-unfolding tail tailClusters tailGlyphs
+unfolding tail
 tail-one [] at h w = clash false h refl
 tail-one (u ∷ us) at h w = rw w (go (tail (suc at) us))
   where
@@ -138,7 +127,7 @@ module _ (text : List ℕ) (count : ℕ) (c : Cursor) where
   tail-plain t h e q =
       let n : count - c .unit ≡ length (unitsFrom text (c .byte)) = omega arith in
       let h′ : tail (c .unit) (unitsFrom text (c .byte)) ≡ ok (tailParts (length (unitsFrom text (c .byte)))) = subst (Tails text (c .byte) (c .unit)) e h in
-      rw (h′, n, length-tail (length (unitsFrom text (c .byte))), length-tail-g (length (unitsFrom text (c .byte))))
+      rw (h′, n, length-replicate (length (unitsFrom text (c .byte))) (cluster 1 1), length-replicate (length (unitsFrom text (c .byte))) fontGlyph)
 
   pub tail-pair : (t : Tail) (p : ℕ) (r : Reading) → Tails text (c .byte) (c .unit) t → t ≡ Pair p → r ≡ Refused (refusal 13 p)
       → readingOutcome r ≡ countedFrom count (c .clusters) (c .entry) (tail (c .unit) (unitsFrom text (c .byte)))
@@ -179,12 +168,14 @@ module _ (us s : List ℕ) where
   pub run-stop : (n p : ℕ) → (empty us && empty s) ≡ false → walk (empty us) (start us) (entries s) ≡ no n p → no n p ≡ counted (runFrom us s)
   run-stop n p h w = sym (run-counted h ∙ ap (countedFrom (length us) 0 0) w ∙ unfold countedFrom in refl)
 
-  pub run-tail : (pre : Parts) (lack : ℕ) (c : Cursor) (text : List ℕ) → Stands us s pre lack c → Ready us s c → At text us c → length s < c .place → c .lack ≡ 0 → (empty us && empty s) ≡ false
-      → countedFrom (length us) (c .clusters) (c .entry) (tail (c .unit) (unitsFrom text (c .byte))) ≡ counted (runFrom us s)
-  run-tail pre lack c text st rd at hi z h =
+  pub run-tail : (n : ℕ) → n ≡ length us → (pre : Parts) (lack : ℕ) (c : Cursor) (text : List ℕ) → Stands us s pre lack c → Ready us s c → At text us c
+      → length s < c .place → c .lack ≡ 0 → (empty us && empty s) ≡ false
+      → countedFrom n (c .clusters) (c .entry) (tail (c .unit) (unitsFrom text (c .byte))) ≡ counted (runFrom us s)
+  run-tail n en pre lack c text st rd at hi z h =
       let o = tail (c .unit) (drop (c .unit) us) in
-      ap (λ (r : List ℕ). countedFrom (length us) (c .clusters) (c .entry) (tail (c .unit) r)) (units-here text us c at)
-      ∙ ap (λ (n : ℕ). countedFrom (length us) n (c .entry) o) (sym (st .clusters-are))
-      ∙ ap (λ (n : ℕ). countedFrom (length us) (length (pre .clusters)) n o) (sym (st .glyphs-are))
+      ap (λ (m : ℕ). countedFrom m (c .clusters) (c .entry) (tail (c .unit) (unitsFrom text (c .byte)))) en
+      ∙ ap (λ (r : List ℕ). countedFrom (length us) (c .clusters) (c .entry) (tail (c .unit) r)) (units-here text us c at)
+      ∙ ap (λ (m : ℕ). countedFrom (length us) m (c .entry) o) (sym (st .clusters-are))
+      ∙ ap (λ (m : ℕ). countedFrom (length us) (length (pre .clusters)) m o) (sym (st .glyphs-are))
       ∙ counted-after (length us) pre o
       ∙ sym (run-counted h ∙ ap (countedFrom (length us) 0 0) (ends-shut us s pre lack c st rd hi z))

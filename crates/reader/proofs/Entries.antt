@@ -1,19 +1,19 @@
 -- The entries from a place of the indices on.
 -- Assumes nothing.
-use Prim.Native.Nat.{ℕ, zero, suc, _+_, _-_, _≤_, _<_, min}
+use Prim.Native.Nat.{ℕ, suc, _+_, _-_, _≤_, _<_}
 use native.Mathlib.Omega.{arith}
 use native.Mathlib.Numerals.{add-one}
 use mathlib.Core.Path.{_≡_, refl, sym, _∙_, ap}
-use mathlib.Core.Bool.{Bool, true, false, cond}
+use mathlib.Core.Bool.{true, false, cond}
 use mathlib.Core.List.{List, [], _∷_}
 use borrow.Author.Tests.{eq-eqb, ne-eqb, le-leb, lt-leb, leb-true, leb-false}
 use lib.Dec.{eqb, leb, eqb·suc-zero, leb·zero, leb·suc-suc}
 use lib.ListN.{length, getD, drop, length-drop, drop-of-length-le}
 use lib.Seq.{drop-cons, drop-drop}
-use Rattle.label.specs.Bytes.{empty, split, onFirst, Cut, more, cut}
+use Rattle.label.specs.Bytes.{empty, split, Cut, more, cut}
 use Rattle.label.specs.Entry.{entries}
 use Rattle.label.proofs.Basics.{cases}
-use Rattle.label.proofs.Splits.{split-hit, split-miss, split-nil}
+use Rattle.label.proofs.Splits.{split-hit, split-miss, split-nil, split-length}
 use Rattle.entry.specs.Items.{isSemi, here}
 use Rattle.reader.specs.Steps.{firstPlace}
 
@@ -114,21 +114,9 @@ here-inside s i h = let r : length (here (drop i s)) ≤ length s - i = rw lengt
 
 -- ── how many there are ──
 
-first-few : (b : ℕ) (l : List (List ℕ)) → length (onFirst b l) ≤ suc (length l)
-first-few b [] = omega arith
-first-few b (x ∷ l) = omega arith
-
-split-few : (l : List ℕ) → length (split 59 l) ≤ suc (length l)
-split-few [] = rw (split-nil 59) (omega arith)
-split-few (b ∷ bs) =
-    let r : length (split 59 bs) ≤ suc (length bs) = split-few bs in
-    cases (eqb b 59)
-    (λ t. rw (split-hit 59 b bs t) (omega arith))
-    (λ t. rw (split-miss 59 b bs t) (omega (arith, first-few b (split 59 bs))))
-
 pub left-few : (s : List ℕ) (i : ℕ) → length (leftFrom s i) ≤ suc (length s)
 unfolding leftFrom
 left-few s i =
     cases (leb i (length s))
-    (λ t. rw t (omega (arith, rw length-drop at (split-few (drop i s)))))
+    (λ t. rw t (omega (arith, rw length-drop at (split-length 59 (drop i s)))))
     (λ t. rw t (omega arith))

@@ -4,10 +4,10 @@ use Prim.Native.Nat.{ℕ, zero, suc, _+_, _-_, _≤_, _<_}
 use native.Mathlib.Omega.{arith}
 use native.Mathlib.Nat.{zero-add, add-zero}
 use mathlib.Core.Path.{_≡_, refl, sym, _∙_, ap, subst}
-use mathlib.Core.Bool.{Bool, true, false, cond, _&&_, _||_, and-false}
+use mathlib.Core.Bool.{Bool, true, false, cond, _&&_}
 use mathlib.Core.List.{List, [], _∷_}
 use borrow.Author.Tests.{lt-ltb, le-ltb, ltb-true, ltb-false, leb-true, leb-false}
-use lib.Dec.{ltb, leb, eqb}
+use lib.Dec.{ltb, leb}
 use lib.ListN.{length, getD, take, drop}
 use Rattle.label.specs.Entry.{entries}
 use Rattle.label.specs.Fault.{ofText, ofEntry, startOf, portion, faultPart, partBytes, partPtr}
@@ -108,7 +108,7 @@ entry-inside s k h =
     let r = from-inside s k (firstPlace s) (rw e at h) in
     rw e (omega (arith, r))
 
-pub part-inside : (t s : List ℕ) (n p : ℕ) → faultPart t s n p .start + faultPart t s n p .length ≤ length (cond (faultPart t s n p .«in_indices») s t)
+part-inside : (t s : List ℕ) (n p : ℕ) → faultPart t s n p .start + faultPart t s n p .length ≤ length (cond (faultPart t s n p .«in_indices») s t)
 unfolding faultPart
 part-inside t s n p =
     cases (ofText n && ltb p (length t))

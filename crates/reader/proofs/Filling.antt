@@ -1,53 +1,97 @@
 -- The second pass over an accepted label: what a turn stores, and what stands in the buffers at the end.
 -- Assumes nothing.
-use Prim.Native.Nat.{ℕ, zero, suc, _+_, _*_, _-_, _≤_, _<_, min}
+use Prim.Native.Nat.{ℕ, _+_, _*_, _-_, _≤_, _<_, min}
 use native.Mathlib.Omega.{arith}
 use mathlib.Core.Path.{_≡_, refl, sym, _∙_, ap, subst}
-use mathlib.Core.Bool.{Bool, true, false, cond, not, _&&_}
+use mathlib.Core.Bool.{Bool, true, cond, not, _&&_}
 use mathlib.Core.List.{List, [], _∷_, _++_}
 use borrow.Author.Tests.{eq-eqb, eqb-true, eqb-false}
 use lib.Dec.{eqb, leb}
-use lib.IntN.{ℤ, pos}
-use lib.ListN.{length, drop, length-append, length-drop}
+use lib.IntN.{ℤ}
+use lib.ListN.{length, drop, replicate, length-append, length-drop, length-replicate}
 use lib.Seq.{sets}
-use Rattle.label.specs.Outcome.{Outcome, ok, no, need, _>>=_, _>>_}
+use Rattle.label.specs.Outcome.{Outcome, ok, no}
 use Rattle.label.specs.Bytes.{empty}
-use Rattle.label.specs.Entry.{Entry, entry, entries}
-use Rattle.label.specs.Run.{Parts, State, start, opens, takes, step, next, walk, tail}
-use Rattle.label.specs.Sound.{glyphFits, indexFits, advanceFits, size, flatClusters, flatGlyphs}
+use Rattle.label.specs.Entry.{entry, entries}
+use Rattle.label.specs.Run.{Parts, State, start, opens, takes, step, next, walk, tail, cluster, fontGlyph}
+use Rattle.label.specs.Sound.{indexFits, advanceFits, size, flatClusters, flatGlyphs}
 use Rattle.label.specs.Calls.{filled}
 use Rattle.label.specs.declared.Cursor.{Cursor}
 use Rattle.label.specs.declared.Refusal.{Refusal}
 use Rattle.label.proofs.Basics.{cases, need-ok, no-ok, and-l, and-r}
 use Rattle.label.proofs.Walks.{ok-path, Walked, walk-ok, step-ok}
 use Rattle.label.proofs.Cursors.{joined, after, added}
-use Rattle.entry.specs.Items.{cap, cutItem, here, entryRead}
+use Rattle.entry.specs.Items.{cap, here, entryRead}
 use Rattle.entry.specs.declared.Item.{Item}
 use Rattle.entry.specs.declared.EntryRead.{EntryRead}
 use Rattle.entry.specs.declared.EntryRead.the-variants.{Read, Refused}
-use Rattle.reader.specs.Steps.{itemEntry, advanced, openedHere, glyphPlaces, tailClusters, tailGlyphs, tailParts}
+use Rattle.reader.specs.Steps.{itemEntry, advanced, openedHere, clusterPlaces, glyphPlaces, tailParts}
 use Rattle.reader.proofs.Entries.{empty-eqb, leftFrom, left-is, left-few}
 use Rattle.reader.proofs.Placing.{read-is, refused-is}
-use Rattle.reader.proofs.Walking.{stateOf, Stands, Ready, Turned, turned, takes-cut, handed, read-here, refusing, step-no, ends-open, ends-shut}
-use Rattle.reader.proofs.Endings.{length-tail, length-tail-g, tail-is}
-use Rattle.reader.proofs.Stores.{flat-append, flat-append-g, flat-length, flat-length-g, Stored, stored-more}
+use Rattle.reader.proofs.Walking.{walk-end, stateOf, Stands, Ready, Turned, turned, takes-cut, handed, read-here, refusing, step-no, ends-open, ends-shut}
+use Rattle.reader.proofs.Endings.{tail-is}
+use Rattle.reader.proofs.Stores.{Stored, Flattens, clusters-flatten, glyphs-flatten, room-more, flat-stored}
 
 -- ── an open cluster's glyphs are there ──
 
 walk-lack : (ss : List (List ℕ)) (bare : Bool) (st : State) (p : Parts) → walk bare st ss ≡ ok p → st .lack ≤ length ss
 walk-lack [] bare st p h =
-    let (t, b) = need-ok (opens st) 14 (st .opener) (tail (st .at) (st .rest)) p (sym (walk-nil bare st) ∙ h) in
+    let (t, b) = need-ok (opens st) 14 (st .opener) (tail (st .at) (st .rest)) p (sym (walk-end bare st) ∙ h) in
     let z : st .lack ≡ 0 = eqb-true (st .lack) 0 t in
     omega arith
-  where
-    walk-nil : (bare : Bool) (st : State) → walk bare st [] ≡ (need (opens st) 14 (st .opener) >> tail (st .at) (st .rest))
-    walk-nil bare st = unfold walk in refl
 walk-lack (s ∷ ss) bare st p h =
     let x : Walked bare st s ss p = walk-ok bare st s ss p h in
     let r : next bare st (x .first) .lack ≤ length ss = walk-lack ss bare (next bare st (x .first)) (x .others) (x .walked) in
     cases (eqb (st .lack) 0)
     (λ t. let z : st .lack ≡ 0 = eqb-true (st .lack) 0 t in omega arith)
     (λ t. let r′ : st .lack - 1 ≤ length ss = rw t at r in omega arith)
+
+-- ── clusters and glyphs alike ──
+
+-- one of a run's two lists: how its numbers are laid out, and what a tail adds to it
+record Listed {A : Type 0} (of : Parts → List A) (flat : List A → List ℤ) (one : A → List ℤ) (w : ℕ) (x : A) : Type 0 where
+  flattens : Flattens flat one w
+  joins : (p q : Parts) → of (joined p q) ≡ of p ++ of q
+  tails : (n : ℕ) → of (tailParts n) ≡ replicate n x
+
+clusters-listed : Listed (λ (p : Parts). p .clusters) flatClusters clusterPlaces 2 (cluster 1 1)
+clusters-listed = record { flattens = clusters-flatten; joins = λ p q. refl; tails = λ n. refl }
+
+glyphs-listed : Listed (λ (p : Parts). p .glyphs) flatGlyphs glyphPlaces 4 fontGlyph
+glyphs-listed = record { flattens = glyphs-flatten; joins = λ p q. refl; tails = λ n. refl }
+
+module _ {A : Type 0} (of : Parts → List A) (flat : List A → List ℤ) (one : A → List ℤ) (w : ℕ) (x : A) (l : Listed of flat one w x) (all pre : Parts) (n : ℕ) (en : length (of pre) ≡ n) where
+  -- parts in the middle, whose numbers are vs
+  module _ (more others : Parts) (is : joined (joined pre more) others ≡ all) (vs : List ℤ) (ev : flat (of more) ≡ vs) where
+    listed-inside : length (of pre ++ of more) ≤ length (of all)
+    listed-inside =
+        let e : length (of (joined pre more)) + length (of others) ≡ length (of all) =
+        sym (length-append (of (joined pre more)) (of others)) ∙ ap length (sym (l .joins (joined pre more) others)) ∙ ap (λ (y : Parts). length (of y)) is in
+        rw (← l .joins pre more) (omega arith)
+
+    listed-room : w * n + length vs ≤ w * length (of all)
+    listed-room = room-more flat one w (l .flattens) (of pre) (of more) vs n en ev (length (of all)) listed-inside
+
+    listed-stored : (old out out′ : List ℤ) → Stored old out (flat (of pre)) → out′ ≡ sets out (w * n) vs → w * length (of all) ≤ length old
+        → Stored old out′ (flat (of (joined pre more)))
+    listed-stored old out out′ s q r =
+        rw (l .joins pre more) (flat-stored flat one w (l .flattens) (of pre) (of more) vs n en ev old out out′ s q (omega (arith, listed-room)))
+
+  -- a tail at the end
+  module _ (m : ℕ) (is : joined pre (tailParts m) ≡ all) where
+    all-listed : of all ≡ of pre ++ replicate m x
+    all-listed = sym (ap of is) ∙ l .joins pre (tailParts m) ∙ ap (λ (y : List A). of pre ++ y) (l .tails m)
+
+    tail-count : n + m ≡ length (of all)
+    tail-count = sym (ap length all-listed ∙ length-append (of pre) (replicate m x) ∙ rw (en, length-replicate m x))
+
+    tail-filled : (old out out′ : List ℤ) → Stored old out (flat (of pre)) → out′ ≡ sets out (w * n) (flat (replicate m x)) → w * length (of all) ≤ length old
+        → out′ ≡ filled (flat (of all)) old
+    tail-filled old out out′ s q r =
+        let e : length (of pre ++ replicate m x) ≤ length (of all) = rw (← all-listed) (omega arith) in
+        let g : w * n + length (flat (replicate m x)) ≤ w * length (of all) =
+        room-more flat one w (l .flattens) (of pre) (replicate m x) (flat (replicate m x)) n en refl (length (of all)) e in
+        rw all-listed (flat-stored flat one w (l .flattens) (of pre) (replicate m x) (flat (replicate m x)) n en refl old out out′ s q (omega arith) .is)
 
 -- ── an accepted walk, whose parts are `all` ──
 
@@ -70,18 +114,6 @@ module _ (us s : List ℕ) (all : Parts) (good : walk (empty us) (start us) (ent
     accepted =
         let (r, a, b) = after-ok pre (walk (empty us) (stateOf us c lack) (leftFrom s (c .place))) all (sym (st .so-far) ∙ good) in
         record { others = r; rest = a; is = b }
-
-    clusters-room : length (pre .clusters) ≤ length (all .clusters)
-    clusters-room =
-        let e : length (pre .clusters) + length (accepted .others .clusters) ≡ length (all .clusters) =
-        sym (length-append (pre .clusters) (accepted .others .clusters)) ∙ ap (λ (p : Parts). length (p .clusters)) (accepted .is) in
-        omega arith
-
-    glyphs-room : length (pre .glyphs) ≤ length (all .glyphs)
-    glyphs-room =
-        let e : length (pre .glyphs) + length (accepted .others .glyphs) ≡ length (all .glyphs) =
-        sym (length-append (pre .glyphs) (accepted .others .glyphs)) ∙ ap (λ (p : Parts). length (p .glyphs)) (accepted .is) in
-        omega arith
 
     -- ── one turn ──
 
@@ -149,18 +181,6 @@ module _ (us s : List ℕ) (all : Parts) (good : walk (empty us) (start us) (ent
     unfolding flatGlyphs
     glyph-is = rw (← w .item-is) (cases (eqb lack 0) (λ h. rw h) (λ h. rw h))
 
-    pub room-clusters : 2 * c .clusters + length (flatClusters (openedHere (c .lack) t (x .glyphs))) ≤ 2 * length (all .clusters)
-    room-clusters =
-        let a : length (flatClusters (openedHere (c .lack) t (x .glyphs))) ≡ 2 * length (more .clusters) = sym (ap length opened-is) ∙ flat-length (more .clusters) in
-        let b : length (pre .clusters) + length (more .clusters) ≤ length (all .clusters) = rw length-append at (clusters-room (joined pre more) (w .lack′) d (w .stands)) in
-        omega (arith, st .clusters-are)
-
-    pub room-glyphs : 4 * c .entry + 4 ≤ 4 * length (all .glyphs)
-    room-glyphs =
-        let a : 4 ≡ 4 * length (more .glyphs) = sym (ap length glyph-is) ∙ flat-length-g (more .glyphs) in
-        let b : length (pre .glyphs) + length (more .glyphs) ≤ length (all .glyphs) = rw length-append at (glyphs-room (joined pre more) (w .lack′) d (w .stands)) in
-        omega (arith, st .glyphs-are)
-
     pub advance-small : advanceFits (x .glyph .advance) ≡ true
     advance-small =
         let g = w .e .glyph in
@@ -169,56 +189,49 @@ module _ (us s : List ℕ) (all : Parts) (good : walk (empty us) (start us) (ent
         let f : advanceFits (g .advance) ≡ true = and-r (indexFits (g .index)) (advanceFits (g .advance)) (and-l a b (and-l (a && b) (leb (size (g .v)) 1000000000) (w .small))) in
         subst (λ (y : Item). advanceFits (y .glyph .advance) ≡ true) (w .item-is) f
 
-    pub clusters-stored : (old out out′ : List ℤ) → Stored old out (flatClusters (pre .clusters)) → out′ ≡ sets out (2 * c .clusters) (flatClusters (openedHere (c .lack) t (x .glyphs)))
-        → 2 * length (all .clusters) ≤ length old → Stored old out′ (flatClusters (joined pre more .clusters))
-    clusters-stored old out out′ h q r =
-        rw (flat-append (pre .clusters) (more .clusters), opened-is)
-        (stored-more old out out′ (flatClusters (pre .clusters)) (flatClusters (openedHere (c .lack) t (x .glyphs))) (2 * c .clusters) h q
-        (flat-length (pre .clusters) ∙ rw (st .clusters-are)) (omega (arith, room-clusters)))
+    pub room-clusters : 2 * c .clusters + length (flatClusters (openedHere (c .lack) t (x .glyphs))) ≤ 2 * length (all .clusters)
+    room-clusters = listed-room _ _ _ _ _ clusters-listed all pre (c .clusters) (st .clusters-are) more (then .others) (then .is) _ opened-is
 
-    pub glyphs-stored : (old out out′ : List ℤ) → Stored old out (flatGlyphs (pre .glyphs)) → out′ ≡ sets out (4 * c .entry) (glyphPlaces (x .glyph))
-        → 4 * length (all .glyphs) ≤ length old → Stored old out′ (flatGlyphs (joined pre more .glyphs))
-    glyphs-stored old out out′ h q r =
-        rw (flat-append-g (pre .glyphs) (more .glyphs), glyph-is)
-        (stored-more old out out′ (flatGlyphs (pre .glyphs)) (glyphPlaces (x .glyph)) (4 * c .entry) h q
-        (flat-length-g (pre .glyphs) ∙ rw (st .glyphs-are)) (omega (arith, room-glyphs)))
+    pub room-glyphs : 4 * c .entry + 4 ≤ 4 * length (all .glyphs)
+    room-glyphs = listed-room _ _ _ _ _ glyphs-listed all pre (c .entry) (st .glyphs-are) more (then .others) (then .is) _ glyph-is
+
+    module _ (old out out′ : List ℤ) where
+      pub clusters-stored : Stored old out (flatClusters (pre .clusters)) → out′ ≡ sets out (2 * c .clusters) (flatClusters (openedHere (c .lack) t (x .glyphs)))
+          → 2 * length (all .clusters) ≤ length old → Stored old out′ (flatClusters (joined pre more .clusters))
+      clusters-stored = listed-stored _ _ _ _ _ clusters-listed all pre (c .clusters) (st .clusters-are) more (then .others) (then .is) _ opened-is old out out′
+
+      pub glyphs-stored : Stored old out (flatGlyphs (pre .glyphs)) → out′ ≡ sets out (4 * c .entry) (glyphPlaces (x .glyph))
+          → 4 * length (all .glyphs) ≤ length old → Stored old out′ (flatGlyphs (joined pre more .glyphs))
+      glyphs-stored = listed-stored _ _ _ _ _ glyphs-listed all pre (c .entry) (st .glyphs-are) more (then .others) (then .is) _ glyph-is old out out′
 
   -- ── the end ──
 
   module _ (pre : Parts) (lack : ℕ) (c : Cursor) (st : Stands us s pre lack c) (rd : Ready us s c) (hi : length s < c .place) where
-    abbrev tailing : ℕ
-    tailing = length us - c .unit
-
     shut : c .lack ≡ 0
     shut =
         cases (eqb (c .lack) 0)
         (λ t. eqb-true (c .lack) 0 t)
         (λ t. never 14 (c .opener) (ends-open us s pre lack c st rd hi (eqb-false (c .lack) 0 t)))
 
-    all-parts : joined pre (tailParts tailing) ≡ all
-    all-parts =
-        let (r, a, b) = after-ok pre (tail (c .unit) (drop (c .unit) us)) all (sym (ends-shut us s pre lack c st rd hi shut) ∙ good) in
-        rw (← length-drop (c .unit) us) (ap (joined pre) (tail-is (drop (c .unit) us) (c .unit) r a) ∙ b)
+    -- n is the count of the text's units
+    module _ (n : ℕ) (en : n ≡ length us) where
+      all-parts : joined pre (tailParts (n - c .unit)) ≡ all
+      all-parts =
+          let (r, a, b) = after-ok pre (tail (c .unit) (drop (c .unit) us)) all (sym (ends-shut us s pre lack c st rd hi shut) ∙ good) in
+          let e : n - c .unit ≡ length (drop (c .unit) us) = rw (en, length-drop (c .unit) us) in
+          rw e (ap (joined pre) (tail-is (drop (c .unit) us) (c .unit) r a) ∙ b)
 
-    pub end-clusters : c .clusters + tailing ≡ length (all .clusters)
-    end-clusters = rw (← all-parts, length-append (pre .clusters) (tailClusters tailing), length-tail tailing, st .clusters-are)
+      pub end-clusters : c .clusters + (n - c .unit) ≡ length (all .clusters)
+      end-clusters = tail-count _ _ _ _ _ clusters-listed all pre (c .clusters) (st .clusters-are) (n - c .unit) all-parts
 
-    pub end-glyphs : c .entry + tailing ≡ length (all .glyphs)
-    end-glyphs = rw (← all-parts, length-append (pre .glyphs) (tailGlyphs tailing), length-tail-g tailing, st .glyphs-are)
+      pub end-glyphs : c .entry + (n - c .unit) ≡ length (all .glyphs)
+      end-glyphs = tail-count _ _ _ _ _ glyphs-listed all pre (c .entry) (st .glyphs-are) (n - c .unit) all-parts
 
-    module _ (n : ℕ) (en : n ≡ length us) (old out out′ : List ℤ) where
-      pub clusters-end : Stored old out (flatClusters (pre .clusters)) → out′ ≡ sets out (2 * c .clusters) (flatClusters (tailClusters (n - c .unit)))
-          → 2 * length (all .clusters) ≤ length old → out′ ≡ filled (flatClusters (all .clusters)) old
-      clusters-end h q r =
-          rw (← all-parts, flat-append (pre .clusters) (tailClusters tailing))
-          (stored-more old out out′ (flatClusters (pre .clusters)) (flatClusters (tailClusters tailing)) (2 * c .clusters) h (rw en at q)
-          (flat-length (pre .clusters) ∙ rw (st .clusters-are))
-          (rw (flat-length (tailClusters tailing), length-tail tailing) (omega (arith, end-clusters))) .is)
+      module _ (old out out′ : List ℤ) where
+        pub clusters-end : Stored old out (flatClusters (pre .clusters)) → out′ ≡ sets out (2 * c .clusters) (flatClusters (tailParts (n - c .unit) .clusters))
+            → 2 * length (all .clusters) ≤ length old → out′ ≡ filled (flatClusters (all .clusters)) old
+        clusters-end = tail-filled _ _ _ _ _ clusters-listed all pre (c .clusters) (st .clusters-are) (n - c .unit) all-parts old out out′
 
-      pub glyphs-end : Stored old out (flatGlyphs (pre .glyphs)) → out′ ≡ sets out (4 * c .entry) (flatGlyphs (tailGlyphs (n - c .unit)))
-          → 4 * length (all .glyphs) ≤ length old → out′ ≡ filled (flatGlyphs (all .glyphs)) old
-      glyphs-end h q r =
-          rw (← all-parts, flat-append-g (pre .glyphs) (tailGlyphs tailing))
-          (stored-more old out out′ (flatGlyphs (pre .glyphs)) (flatGlyphs (tailGlyphs tailing)) (4 * c .entry) h (rw en at q)
-          (flat-length-g (pre .glyphs) ∙ rw (st .glyphs-are))
-          (rw (flat-length-g (tailGlyphs tailing), length-tail-g tailing) (omega (arith, end-glyphs))) .is)
+        pub glyphs-end : Stored old out (flatGlyphs (pre .glyphs)) → out′ ≡ sets out (4 * c .entry) (flatGlyphs (tailParts (n - c .unit) .glyphs))
+            → 4 * length (all .glyphs) ≤ length old → out′ ≡ filled (flatGlyphs (all .glyphs)) old
+        glyphs-end = tail-filled _ _ _ _ _ glyphs-listed all pre (c .entry) (st .glyphs-are) (n - c .unit) all-parts old out out′

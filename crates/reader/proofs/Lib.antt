@@ -3,6 +3,6 @@ pub mod Placing
 pub mod Walking
 pub mod Endings
 pub mod Stores
+pub mod Faults
 pub mod Filling
 pub mod Calls
-pub mod Faults

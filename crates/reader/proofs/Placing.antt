@@ -1,22 +1,21 @@
 -- One entry's checks 10 to 13 at a cursor, and with its map's counts cut.
 -- Assumes nothing.
-use Prim.Native.Nat.{ℕ, zero, suc, _+_, _-_, _≤_, _<_, min}
+use Prim.Native.Nat.{ℕ, _+_, _≤_, _<_, min}
 use native.Mathlib.Omega.{arith}
-use native.Mathlib.Nat.{add-zero}
-use mathlib.Core.Path.{_≡_, refl, sym, _∙_, ap, subst}
-use mathlib.Core.Bool.{Bool, true, false, cond, not, _&&_, _||_}
-use mathlib.Core.List.{List, [], _∷_}
+use mathlib.Core.Path.{_≡_, refl, sym, ap, subst}
+use mathlib.Core.Bool.{Bool, true, false, not, _&&_, _||_}
+use mathlib.Core.List.{List}
 use borrow.Author.Tests.{le-leb, lt-leb, leb-true, leb-false}
 use lib.Dec.{eqb, leb, leb·zero}
-use lib.ListN.{length, getD, drop}
-use Rattle.label.specs.Outcome.{Outcome, ok, no, need, _>>=_, _>>_}
+use lib.ListN.{length, drop}
+use Rattle.label.specs.Outcome.{Outcome, ok, no, need, _>>_}
 use Rattle.label.specs.Text.{decode}
 use Rattle.label.specs.Entry.{Entry, entry}
-use Rattle.label.specs.Run.{State, named, takes, placed, step, whole}
+use Rattle.label.specs.Run.{State, named, placed, whole}
 use Rattle.label.specs.Calls.{refusal}
 use Rattle.label.specs.declared.Cursor.{Cursor}
 use Rattle.label.specs.declared.Refusal.{Refusal}
-use Rattle.label.proofs.Basics.{cases, clash, need-ok}
+use Rattle.label.proofs.Basics.{cases, clash}
 use Rattle.label.proofs.Texts.{proper-first}
 use Rattle.label.proofs.Sounds.{decode-proper}
 use Rattle.text.specs.Moves.{unitsFrom, Moves}
@@ -27,7 +26,7 @@ use Rattle.entry.specs.declared.Item.{Item}
 use Rattle.entry.specs.declared.EntryRead.the-variants.{Read, Refused}
 use Rattle.reader.specs.declared.Turn.{Turn}
 use Rattle.reader.specs.declared.Turn.the-variants.{Took, Stopped}
-use Rattle.reader.specs.Steps.{stateAt, itemEntry, advanced, Opens, Turns}
+use Rattle.reader.specs.Steps.{itemEntry, advanced, Opens, Turns}
 
 -- ── 12 and 13, by a move over the text ──
 

@@ -1,32 +1,24 @@
--- Numbers stored in the lent buffers: a pair, four places, the tail's places, and what stands in a buffer after stores one behind the other.
+-- Numbers stored in the lent buffers: one thing's, a tail's, and what stands in a buffer after stores one behind the other.
 -- Assumes nothing.
 use Prim.Native.Nat.{ℕ, zero, suc, _+_, _*_, _-_, _≤_, _<_}
 use native.Mathlib.Omega.{arith}
-use native.Mathlib.Nat.{add-zero}
+use native.Mathlib.Nat.{add-zero, mul-zero, mul-suc, mul-add, mul-le-mul-left}
 use native.Mathlib.Numerals.{add-one}
-use mathlib.Core.Path.{_≡_, refl, sym, _∙_, ap, subst}
-use mathlib.Core.Bool.{Bool, true, false, cond, _&&_}
-use mathlib.Core.List.{List, [], _∷_, _++_, append-assoc, append-nil}
+use mathlib.Core.Path.{_≡_, refl, sym, _∙_, ap}
+use mathlib.Core.Bool.{true}
+use mathlib.Core.List.{List, [], _∷_, _++_, append-assoc}
 use borrow.Author.Tests.{eq-eqb, ne-eqb, leb-true}
-use lib.Dec.{eqb, leb}
-use lib.IntN.{ℤ, pos, negsuc}
-use lib.Signed.{mag}
-use lib.ListN.{length, getD, take, drop, set, length-append, length-drop, length-set}
+use lib.IntN.{ℤ, pos}
+use lib.ListN.{length, take, drop, set, replicate, length-append}
 use lib.Seq.{sets, sets-eq, length-sets, take-at, drop-append-add, drop-drop}
 use mir.Syntax.{w32}
-use mir.Val.{SFits, ofZ, toZ}
-use mir.Facts.{toZ-ofZ, toZ-pos}
-use Rattle.label.specs.Run.{cluster, fontGlyph}
+use mir.Val.{toZ}
+use mir.Facts.{toZ-pos}
 use Rattle.label.specs.Sound.{indexNumber, advanceNumber, advanceFits, flatClusters, flatGlyphs}
-use Rattle.label.specs.declared.Advance.{Advance}
-use Rattle.label.specs.declared.Advance.the-variants.{Given, Own}
-use Rattle.label.specs.declared.Glyph.{Glyph}
-use Rattle.label.specs.declared.Cluster.{Cluster}
 use Rattle.label.specs.Calls.{filled}
-use Rattle.reader.specs.Steps.{openedHere, glyphPlaces, tailClusters, tailGlyphs}
-
-pub given-fits : (n : ℕ) → advanceFits (Given n) ≡ true → n < 2147483648
-given-fits n h = omega (arith, leb-true n 1000000000 h)
+use Rattle.label.specs.declared.Advance.the-variants.{Given}
+use Rattle.label.specs.declared.Glyph.{Glyph}
+use Rattle.reader.specs.Steps.{openedHere, clusterPlaces, glyphPlaces}
 
 -- ── a cluster ──
 
@@ -50,6 +42,9 @@ pair-stored out lack n a b h ha hb =
 
 -- ── a glyph ──
 
+pub given-fits : (n : ℕ) → advanceFits (Given n) ≡ true → n < 2147483648
+given-fits n h = omega (arith, leb-true n 1000000000 h)
+
 pub four-stored : (out : List ℤ) (at : ℕ) (g : Glyph) (i a u v : ℤ) → i ≡ indexNumber (g .index) → a ≡ advanceNumber (g .advance) → u ≡ g .u → v ≡ g .v
     → set (set (set (set out at i) (at + 1) a) (at + 2) u) (at + 3) v ≡ sets out at (glyphPlaces g)
 four-stored out at g i a u v ei ea eu ev =
@@ -57,61 +52,13 @@ four-stored out at g i a u v ei ea eu ev =
     let p3 : at + 3 ≡ suc (suc (suc at)) = omega arith in
     rw (ei, ea, eu, ev, add-one at, p2, p3)
 
--- ── the tail ──
-
-module _ (out out′ : List ℤ) (c m : ℕ) (whole : List ℤ) where
-  pub tail-pair : out′ ≡ sets out (2 * c) (flatClusters (openedHere 0 1 1)) → (m ≡ 0 → ⊥) → sets out (2 * c) (flatClusters (tailClusters m)) ≡ whole
-      → sets out′ (2 * (c + 1)) (flatClusters (tailClusters (m - 1))) ≡ whole
-  tail-pair e h q = rw e (step m h ∙ q)
-    where
-      step : (m : ℕ) → (m ≡ 0 → ⊥) → sets (sets out (2 * c) (flatClusters (openedHere 0 1 1))) (2 * (c + 1)) (flatClusters (tailClusters (m - 1))) ≡ sets out (2 * c) (flatClusters (tailClusters m))
-      step zero h = absurd (h refl)
-      step (suc m) h =
-          let d : suc m - 1 ≡ m = omega arith in
-          let p : 2 * (c + 1) ≡ suc (suc (2 * c)) = omega arith in
-          rw (d, p, opened-yes 0 1 1 refl) (unfold tailClusters flatClusters in refl)
-
-  pub tail-four : out′ ≡ sets out (4 * c) (glyphPlaces fontGlyph) → (m ≡ 0 → ⊥) → sets out (4 * c) (flatGlyphs (tailGlyphs m)) ≡ whole
-      → sets out′ (4 * (c + 1)) (flatGlyphs (tailGlyphs (m - 1))) ≡ whole
-  tail-four e h q = rw e (step m h ∙ q)
-    where
-      step : (m : ℕ) → (m ≡ 0 → ⊥) → sets (sets out (4 * c) (glyphPlaces fontGlyph)) (4 * (c + 1)) (flatGlyphs (tailGlyphs (m - 1))) ≡ sets out (4 * c) (flatGlyphs (tailGlyphs m))
-      step zero h = absurd (h refl)
-      step (suc m) h =
-          let d : suc m - 1 ≡ m = omega arith in
-          let p : 4 * (c + 1) ≡ suc (suc (suc (suc (4 * c)))) = omega arith in
-          rw (d, p) (unfold tailGlyphs flatGlyphs in refl)
-
-pub tail-none : (out whole : List ℤ) (c m : ℕ) → m ≡ 0 → sets out (2 * c) (flatClusters (tailClusters m)) ≡ whole → out ≡ whole
-tail-none out whole c m h q = (rw h (unfold tailClusters flatClusters in refl)) ∙ q
-
-pub tail-none-four : (out whole : List ℤ) (c m : ℕ) → m ≡ 0 → sets out (4 * c) (flatGlyphs (tailGlyphs m)) ≡ whole → out ≡ whole
-tail-none-four out whole c m h q = (rw h (unfold tailGlyphs flatGlyphs in refl)) ∙ q
-
-pub stays-long : (out out′ : List ℤ) (i : ℕ) (vs : List ℤ) → out′ ≡ sets out i vs → length out′ ≡ length out
-stays-long out out′ i vs e = ap length e ∙ length-sets out i vs
-
 -- ── stores one behind the other ──
 
-pub flat-append : (xs ys : List Cluster) → flatClusters (xs ++ ys) ≡ flatClusters xs ++ flatClusters ys
-unfolding flatClusters
-flat-append [] ys = refl
-flat-append (x ∷ xs) ys = rw (flat-append xs ys)
-
-pub flat-append-g : (xs ys : List Glyph) → flatGlyphs (xs ++ ys) ≡ flatGlyphs xs ++ flatGlyphs ys
-unfolding flatGlyphs
-flat-append-g [] ys = refl
-flat-append-g (x ∷ xs) ys = rw (flat-append-g xs ys)
-
-pub flat-length : (xs : List Cluster) → length (flatClusters xs) ≡ 2 * length xs
-unfolding flatClusters
-flat-length [] = refl
-flat-length (x ∷ xs) = rw (flat-length xs) (omega arith)
-
-pub flat-length-g : (xs : List Glyph) → length (flatGlyphs xs) ≡ 4 * length xs
-unfolding flatGlyphs
-flat-length-g [] = refl
-flat-length-g (x ∷ xs) = rw (flat-length-g xs) (omega arith)
+sets-append : (xs ys l : List ℤ) (i : ℕ) → sets (sets l i xs) (i + length xs) ys ≡ sets l i (xs ++ ys)
+sets-append [] ys l i = rw (add-zero i)
+sets-append (a ∷ xs) ys l i =
+    let e : i + suc (length xs) ≡ suc i + length xs = omega arith in
+    rw e (sets-append xs ys (set l i a) (suc i))
 
 -- the buffer was `old`, and `pre` was stored from its start on
 pub record Stored (old out pre : List ℤ) : Type 0 where
@@ -121,11 +68,11 @@ pub record Stored (old out pre : List ℤ) : Type 0 where
 pub stored-start : (old : List ℤ) → Stored old old []
 stored-start old = record { same = refl; is = refl }
 
-pub stored-more : (old out out′ pre vs : List ℤ) (n : ℕ) → Stored old out pre → out′ ≡ sets out n vs → length pre ≡ n → n + length vs ≤ length old → Stored old out′ (pre ++ vs)
+stored-more : (old out out′ pre vs : List ℤ) (n : ℕ) → Stored old out pre → out′ ≡ sets out n vs → length pre ≡ n → n + length vs ≤ length old → Stored old out′ (pre ++ vs)
 stored-more old out out′ pre vs n s q e h =
     let l : n + length vs ≡ length (pre ++ vs) = rw (length-append, e) in
     record {
-      same = stays-long out out′ n vs q ∙ s .same;
+      same = ap length q ∙ length-sets out n vs ∙ s .same;
       is =
           q
           ∙ sets-eq vs out n (omega (arith, s .same))
@@ -137,3 +84,64 @@ stored-more old out out′ pre vs n s q e h =
           ∙ drop-drop (length vs) n old)
           ∙ ap (λ (k : ℕ). (pre ++ vs) ++ drop k old) l;
     }
+
+-- ── clusters and glyphs alike: things as numbers, w of them each ──
+
+pub record Flattens {A : Type 0} (flat : List A → List ℤ) (one : A → List ℤ) (w : ℕ) : Type 0 where
+  pub nil : flat [] ≡ []
+  pub cons : (x : A) (xs : List A) → flat (x ∷ xs) ≡ one x ++ flat xs
+  pub long : (x : A) → length (one x) ≡ w
+
+pub clusters-flatten : Flattens flatClusters clusterPlaces 2
+unfolding flatClusters
+clusters-flatten = record { nil = refl; cons = λ c cs. refl; long = λ c. refl }
+
+pub glyphs-flatten : Flattens flatGlyphs glyphPlaces 4
+unfolding flatGlyphs
+glyphs-flatten = record { nil = refl; cons = λ g gs. refl; long = λ g. refl }
+
+module _ {A : Type 0} (flat : List A → List ℤ) (one : A → List ℤ) (w : ℕ) (f : Flattens flat one w) where
+  flat-append : (xs ys : List A) → flat (xs ++ ys) ≡ flat xs ++ flat ys
+  flat-append [] ys = ap (λ (z : List ℤ). z ++ flat ys) (sym (f .nil))
+  flat-append (x ∷ xs) ys =
+      f .cons x (xs ++ ys)
+      ∙ ap (λ (z : List ℤ). one x ++ z) (flat-append xs ys)
+      ∙ sym (append-assoc (one x) (flat xs) (flat ys))
+      ∙ ap (λ (z : List ℤ). z ++ flat ys) (sym (f .cons x xs))
+
+  flat-length : (xs : List A) → length (flat xs) ≡ w * length xs
+  flat-length [] = ap length (f .nil) ∙ sym (mul-zero w)
+  flat-length (x ∷ xs) =
+      let e : length (one x ++ flat xs) ≡ length (one x) + length (flat xs) = length-append (one x) (flat xs) in
+      let l : length (one x) ≡ w = f .long x in
+      let r : length (flat xs) ≡ w * length xs = flat-length xs in
+      let s : w * suc (length xs) ≡ w * length xs + w = mul-suc w (length xs) in
+      ap length (f .cons x xs) ∙ omega arith
+
+  -- a tail of m things alike from thing number c on
+  module _ (x : A) (out out′ whole : List ℤ) (c m : ℕ) where
+    pub tail-more : out′ ≡ sets out (w * c) (one x) → (m ≡ 0 → ⊥) → sets out (w * c) (flat (replicate m x)) ≡ whole
+        → sets out′ (w * (c + 1)) (flat (replicate (m - 1) x)) ≡ whole
+    tail-more e h q = ap (λ (o : List ℤ). sets o (w * (c + 1)) (flat (replicate (m - 1) x))) e ∙ step m h ∙ q
+      where
+        step : (m : ℕ) → (m ≡ 0 → ⊥) → sets (sets out (w * c) (one x)) (w * (c + 1)) (flat (replicate (m - 1) x)) ≡ sets out (w * c) (flat (replicate m x))
+        step zero h = absurd (h refl)
+        step (suc m) h =
+            let d : suc m - 1 ≡ m = omega arith in
+            let p : w * (c + 1) ≡ w * c + length (one x) = rw (add-one c, mul-suc w c, f .long x) in
+            rw (d, p) (sets-append (one x) (flat (replicate m x)) out (w * c) ∙ ap (sets out (w * c)) (sym (f .cons x (replicate m x))))
+
+    pub tail-done : m ≡ 0 → sets out (w * c) (flat (replicate m x)) ≡ whole → out ≡ whole
+    tail-done h q = sym (ap (λ (k : ℕ). sets out (w * c) (flat (replicate k x))) h ∙ ap (sets out (w * c)) (f .nil)) ∙ q
+
+  -- more things behind those before, of which there are n
+  module _ (pre more : List A) (vs : List ℤ) (n : ℕ) (en : length pre ≡ n) (ev : flat more ≡ vs) where
+    pub room-more : (k : ℕ) → length (pre ++ more) ≤ k → w * n + length vs ≤ w * k
+    room-more k h =
+        let l : w * n + length vs ≡ w * length (pre ++ more) =
+        rw (length-append pre more, en, mul-add w n (length more)) (ap (λ (m : ℕ). w * n + m) (sym (ap length ev) ∙ flat-length more)) in
+        rw l (mul-le-mul-left w h)
+
+    pub flat-stored : (old out out′ : List ℤ) → Stored old out (flat pre) → out′ ≡ sets out (w * n) vs → w * n + length vs ≤ length old → Stored old out′ (flat (pre ++ more))
+    flat-stored old out out′ s q h =
+        rw (flat-append pre more, ev) (stored-more old out out′ (flat pre) vs (w * n) s q (flat-length pre ∙ ap (λ (m : ℕ). w * m) en) h)

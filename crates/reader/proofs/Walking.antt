@@ -1,17 +1,17 @@
 -- The walk over the entries: where it stands, one entry more, its end.
 -- Assumes nothing.
-use Prim.Native.Nat.{ℕ, zero, suc, _+_, _*_, _-_, _≤_, _<_, min}
+use Prim.Native.Nat.{ℕ, _+_, _-_, _≤_, _<_, min}
 use native.Mathlib.Omega.{arith}
-use native.Mathlib.Nat.{zero-add, min-eq-left}
+use native.Mathlib.Nat.{min-eq-left}
 use native.Mathlib.Numerals.{add-one}
 use mathlib.Core.Path.{_≡_, refl, sym, _∙_, ap, subst}
-use mathlib.Core.Bool.{Bool, true, false, cond, not, _&&_}
-use mathlib.Core.List.{List, [], _∷_, _++_, append-assoc}
+use mathlib.Core.Bool.{Bool, true, cond, not, _&&_}
+use mathlib.Core.List.{List, [], _∷_, append-assoc}
 use borrow.Author.Tests.{eq-eqb, ne-eqb, leb-true, eqb-true, eqb-false}
 use lib.Dec.{eqb, leb}
 use lib.ListN.{length, take, drop, length-append, length-drop}
 use lib.Seq.{drop-drop}
-use Rattle.label.specs.Outcome.{Outcome, ok, no, need, _>>=_, _>>_}
+use Rattle.label.specs.Outcome.{Outcome, ok, no, need, _>>_}
 use Rattle.label.specs.Bytes.{empty}
 use Rattle.label.specs.Text.{decode}
 use Rattle.label.specs.Entry.{Entry, entry, entries}
@@ -20,7 +20,7 @@ use Rattle.label.specs.Sound.{glyphFits}
 use Rattle.label.specs.declared.Cursor.{Cursor}
 use Rattle.label.specs.declared.Refusal.{Refusal}
 use Rattle.label.proofs.Basics.{cases, and-r}
-use Rattle.label.proofs.Walks.{Stepped, step-ok, ok-path}
+use Rattle.label.proofs.Walks.{Stepped, step-ok}
 use Rattle.label.proofs.Sounds.{entry-facts}
 use Rattle.label.proofs.Cursors.{joined, after, added, walk-good, walk-bad, part-rest}
 use Rattle.text.specs.Moves.{unitsFrom}
@@ -30,7 +30,7 @@ use Rattle.entry.specs.declared.EntryRead.{EntryRead}
 use Rattle.entry.specs.declared.EntryRead.the-variants.{Read, Refused}
 use Rattle.reader.specs.declared.Turn.{Turn}
 use Rattle.reader.specs.declared.Turn.the-variants.{Took, Stopped}
-use Rattle.reader.specs.Steps.{firstPlace, firstCursor, stateAt, itemEntry, advanced, Turns}
+use Rattle.reader.specs.Steps.{firstCursor, stateAt, itemEntry, advanced, Turns}
 use Rattle.reader.proofs.Entries.{empty-eqb, leftFrom, left-is, left-none, left-all, here-inside}
 use Rattle.reader.proofs.Placing.{read-is, refused-is, over, placed-cut}
 
@@ -46,6 +46,10 @@ after-none (no n p) = refl
 pub after-after : (p q : Parts) (o : Outcome Parts) → after p (after q o) ≡ after (joined p q) o
 after-after p q (ok r) = rw (append-assoc (p .clusters) (q .clusters) (r .clusters), append-assoc (p .glyphs) (q .glyphs) (r .glyphs))
 after-after p q (no n m) = refl
+
+pub walk-end : (bare : Bool) (st : State) → walk bare st [] ≡ (need (opens st) 14 (st .opener) >> tail (st .at) (st .rest))
+unfolding walk
+walk-end bare st = refl
 
 -- ── where the walk stands ──
 
@@ -121,6 +125,7 @@ pub record Turned (us s : List ℕ) (pre : Parts) (lack : ℕ) (c d : Cursor) (t
   pub stands : Stands us s (joined pre (added (empty us) (stateOf us c lack) e)) lack′ d
   pub ready : Ready us s d
   pub further : c .place < d .place
+  pub behind : c .place + x .used ≤ length s
   pub opened : opens (stateOf us c lack) ≡ eqb (c .lack) 0
   pub units-are : takes (empty us) (stateOf us c lack) e ≡ t
   pub item-is : cutItem (length (here (drop (c .place) s))) e ≡ x
@@ -222,6 +227,7 @@ module _ (us s : List ℕ) (pre : Parts) (lack : ℕ) (c : Cursor) (st : Stands 
             stands = subst (λ (y : Cursor). Stands us s (joined pre (added (empty us) (stateOf us c lack) e)) lacking y) (sym ed) next-stands;
             ready = subst (λ (y : Cursor). Ready us s y) (sym ed) next-ready;
             further = subst (λ (y : Cursor). c .place < y .place) (sym ed) (unfold advanced in omega arith);
+            behind = subst (λ (y : Item). c .place + y .used ≤ length s) ex (here-inside s (c .place) hi);
             opened = same;
             units-are = et;
             item-is = ex;
@@ -295,7 +301,7 @@ module _ (text us s : List ℕ) (pre : Parts) (lack : ℕ) (c : Cursor) (st : St
             ∙ ap (over e) q′,
       )
 
-  pub turn-took : (x : Item) (d : Cursor) → entryRead (length head) (entry (c .entry) head) ≡ Read x → Turns (empty us) text c x (Took d)
+  turn-took : (x : Item) (d : Cursor) → entryRead (length head) (entry (c .entry) head) ≡ Read x → Turns (empty us) text c x (Took d)
       → Turned us s pre lack c d (takes (empty us) (stateAt text c) (itemEntry x)) x × At text us d
   unfolding Turns
   turn-took x d h t =
@@ -311,7 +317,7 @@ module _ (text us s : List ℕ) (pre : Parts) (lack : ℕ) (c : Cursor) (st : St
       ∙ ap (λ (y : Item). advanced c (d .byte) (takes (empty us) (stateOf us c lack) e) (y .glyphs) (c .place + y .used + 1)) (sym ex) in
       (turned us s pre lack c st rd hi e q (d .byte) d x n ex u ed, further-on text us c d n (x .glyphs) (c .place + x .used + 1) at (t .1) (t .2))
 
-  pub turn-stopped : (x : Item) (r : Refusal) → entryRead (length head) (entry (c .entry) head) ≡ Read x → Turns (empty us) text c x (Stopped r)
+  turn-stopped : (x : Item) (r : Refusal) → entryRead (length head) (entry (c .entry) head) ≡ Read x → Turns (empty us) text c x (Stopped r)
       → walk (empty us) (start us) (entries s) ≡ no (r .number) (r .place)
   unfolding Turns
   turn-stopped x r h t = let (e, ex, q) = step-read x h (no (r .number) (r .place)) t in refusing us s pre lack c st hi (r .number) (r .place) q

@@ -1,14 +1,14 @@
 -- What the reader's steps come to, over label's definitions: the cursor in the place of label's state, one entry, the tail, and the places that each
 -- stores.
 -- Assumes nothing.
-use Prim.Native.Nat.{ℕ, zero, suc, _+_, _*_, _-_, _≤_, _<_}
+use Prim.Native.Nat.{ℕ, _+_, _-_}
 use mathlib.Core.Path.{_≡_}
-use mathlib.Core.Bool.{Bool, true, false, cond, not, _&&_}
+use mathlib.Core.Bool.{Bool, true, cond}
 use mathlib.Core.List.{List, [], _∷_}
 use lib.Dec.{leb, eqb}
-use lib.IntN.{ℤ}
-use lib.ListN.{length, drop}
-use Rattle.label.specs.Limits.{maxUnits, maxGlyphs, maxIndicesBytes}
+use lib.IntN.{ℤ, pos}
+use lib.ListN.{length, drop, replicate}
+use Rattle.label.specs.Limits.{maxGlyphs}
 use Rattle.label.specs.Outcome.{Outcome, ok, no, need, _>>_}
 use Rattle.label.specs.Bytes.{empty}
 use Rattle.label.specs.Text.{decode}
@@ -73,17 +73,9 @@ Turns bare text c x (Stopped r) = placed bare (stateAt text c) (itemEntry x) ≡
 
 -- ── the tail ──
 
--- the clusters and the glyphs of a tail of n units
-unfoldable pub tailClusters : ℕ → List Cluster
-tailClusters zero = []
-tailClusters (suc n) = cluster 1 1 ∷ tailClusters n
-
-unfoldable pub tailGlyphs : ℕ → List Glyph
-tailGlyphs zero = []
-tailGlyphs (suc n) = fontGlyph ∷ tailGlyphs n
-
+-- a tail of n units
 abbrev pub tailParts : ℕ → Parts
-tailParts n = record { clusters = tailClusters n; glyphs = tailGlyphs n }
+tailParts n = record { clusters = replicate n (cluster 1 1); glyphs = replicate n fontGlyph }
 
 -- what the tail from byte b and unit `at` on comes to: no pair, or the low half of the first
 unfoldable pub Tails : List ℕ → ℕ → ℕ → Tail → Type 0
@@ -105,6 +97,9 @@ countedFrom u c g (no n p) = no n p
 unfoldable pub openedHere : ℕ → ℕ → ℕ → List Cluster
 openedHere lack a b = cond (eqb lack 0) (cluster a b ∷ []) []
 
--- a glyph's four places
+-- a cluster's two places, and a glyph's four
+abbrev pub clusterPlaces : Cluster → List ℤ
+clusterPlaces c = pos (c .units) ∷ pos (c .glyphs) ∷ []
+
 abbrev pub glyphPlaces : Glyph → List ℤ
 glyphPlaces g = indexNumber (g .index) ∷ advanceNumber (g .advance) ∷ g .u ∷ g .v ∷ []

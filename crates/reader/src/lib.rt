@@ -1,29 +1,24 @@
-// The reader of a glyph label. A first pass over text and indices judges 1 to 15, counts, and stores nothing; a second one fills the buffers.
+// The reader of a glyph label. A first pass over text and indices judges 1 to 15 of document 01's checks and counts, a second one fills the buffers:
+// nothing is stored before 18 has been judged.
+ghost use Prim.Native.Nat.{_+_, _-_, _*_, _≤_, _<_};
 ghost use mathlib.Core.Path.{_≡_};
 ghost use mathlib.Core.Bool.{cond, not, true, _&&_};
-ghost use mathlib.Core.List.{List};
-ghost use Prim.Native.Nat.{ℕ, _+_, _-_, _*_, _≤_, _<_};
 ghost use lib.Dec.{eqb};
-ghost use lib.IntN.{pos};
 ghost use lib.ListN.{length, drop};
 ghost use lib.Seq.{sets};
 ghost use Rattle.label.specs.Limits.{maxUnits, maxIndicesBytes};
 ghost use Rattle.label.specs.Outcome.{ok};
-ghost use Rattle.label.specs.Bytes.{empty};
 ghost use Rattle.label.specs.Text.{decode};
-ghost use Rattle.label.specs.Run.{named, tail, runFrom};
-ghost use Rattle.label.specs.Run.{read as readLabel};
+ghost use Rattle.label.specs.Run.{named, tail, runFrom, read as readLabel};
 ghost use Rattle.label.specs.Sound.{indexNumber, advanceNumber, advanceFits, flatClusters, flatGlyphs};
 ghost use Rattle.label.specs.Calls.{refusal, readingOutcome, readInto, counted, unitsAfter, clustersAfter, glyphsAfter};
 ghost use Rattle.label.specs.Fault.{ofText, ofEntry, portion, faultPart, partBytes, partPtr};
-ghost use Rattle.text.specs.Moves.{unitsFrom};
-ghost use Rattle.entry.specs.Items.{here};
-ghost use Rattle.reader.specs.Faults.{entryPart};
-ghost use Rattle.text.specs.Texts.{unitsStart};
-ghost use Rattle.reader.specs.Steps.{firstPlace, firstCursor, advanced, Opens, Turns, Tails, limited, countedFrom, openedHere, glyphPlaces, tailClusters, tailGlyphs};
 ghost use Rattle.label.specs.declared.Reading.the-variants.{Refused as RefusedReading};
-
-// ── refusals ──
+ghost use Rattle.text.specs.Moves.{unitsFrom};
+ghost use Rattle.text.specs.Texts.{unitsStart};
+ghost use Rattle.entry.specs.Items.{here};
+ghost use Rattle.reader.specs.Steps.{firstPlace, firstCursor, advanced, Opens, Turns, Tails, limited, countedFrom, openedHere, glyphPlaces, tailParts};
+ghost use Rattle.reader.specs.Faults.{entryPart};
 
 fn refused(number: usize, place: usize) -> label::Reading
     ensures { λ r. ⌜ r ≡ RefusedReading (refusal number place) ⌝ }
@@ -102,7 +97,7 @@ fn open_cluster(text: &[u8], c: label::Cursor, units: usize, glyphs: usize, plac
     }
 }
 
-// An entry's checks 10 to 13, where the walk stands.
+// An entry's checks 10 to 13, where the walk stands; `bare`: the text has no units.
 fn take_entry(text: &[u8], bare: bool, c: label::Cursor, x: entry::Item) -> Turn
     requires { ⌜ decode 0 (c .byte) (drop (c .byte) (now text)) ≡ ok (unitsFrom (now text) (c .byte)) ⌝ }
     requires bounds { ⌜ (c .unit + length (unitsFrom (now text) (c .byte)) ≤ maxUnits) × (c .entry ≤ maxIndicesBytes) × (c .clusters ≤ c .entry) × (c .place + x .used ≤ maxIndicesBytes) ⌝ }
@@ -112,8 +107,8 @@ fn take_entry(text: &[u8], bare: bool, c: label::Cursor, x: entry::Item) -> Turn
         return stopped(10, c.entry);
     }
     let free = words::both(c.lack == 0, !bare);
-    let g = x.glyph;
-    let index = g.index;
+    let glyph = x.glyph;
+    let index = glyph.index;
     let plain = words::both(!x.mapped, is_named(index));
     if !words::either(free, plain) {
         return stopped(11, c.entry);
@@ -127,13 +122,13 @@ fn take_entry(text: &[u8], bare: bool, c: label::Cursor, x: entry::Item) -> Turn
 
 // ── the first pass ──
 
-// The tail has no pair, or the low half of its first one.
+// The tail has no pair, or this unit is the low half of its first one.
 enum Tail {
     Plain,
     Pair(usize),
 }
 
-// The tail from the character at `byte` on, which is unit `unit`: 13.
+// The tail from byte `byte` and unit `unit` on: 13.
 fn find_pair(text: &[u8], byte: usize, unit: usize) -> Tail
     requires { ⌜ decode 0 byte (drop byte (now text)) ≡ ok (unitsFrom (now text) byte) ⌝ }
     requires bounds { ⌜ unit + length (unitsFrom (now text) byte) ≤ maxUnits ⌝ }
@@ -150,6 +145,7 @@ fn find_pair(text: &[u8], byte: usize, unit: usize) -> Tail
                 }
                 b = next;
             }
+            // A text with units has no such character.
             text::Char::Ill => {
                 return Tail::Plain;
             }
@@ -190,13 +186,14 @@ fn survey_tail(text: &[u8], count: usize, c: label::Cursor) -> label::Reading
     }
 }
 
-// Past the end where there is no entry.
+// Where the first entry starts; past the end where there is none.
 fn first_place(indices: &[u8]) -> usize
     ensures { λ r. ⌜ r ≡ firstPlace (now (indices .entry)) ⌝ }
 {
     if indices.len() == 0 { 1 } else { 0 }
 }
 
+// The cursor before the first entry, for units that start at a byte of the text.
 fn first_cursor(indices: &[u8], byte: usize) -> label::Cursor
     ensures { λ r. ⌜ r ≡ firstCursor (now (indices .entry)) byte ⌝ }
 {
@@ -308,8 +305,8 @@ fn put_cluster(out: &mut [i32], lack: usize, n: usize, a: usize, b: usize)
 // A tail of m units, from cluster n and glyph k on.
 fn fill_tail(m: usize, n: usize, k: usize, clusters: &mut [i32], glyphs: &mut [i32])
     requires { ⌜ (2 * (n + m) ≤ length (now clusters)) × (4 * (k + m) ≤ length (now glyphs)) ⌝ }
-    ensures { λ _. ⌜ now (clusters .exit) ≡ sets (now (clusters .entry)) (2 * n) (flatClusters (tailClusters m)) ⌝ }
-    ensures { λ _. ⌜ now (glyphs .exit) ≡ sets (now (glyphs .entry)) (4 * k) (flatGlyphs (tailGlyphs m)) ⌝ }
+    ensures { λ _. ⌜ now (clusters .exit) ≡ sets (now (clusters .entry)) (2 * n) (flatClusters (tailParts m .clusters)) ⌝ }
+    ensures { λ _. ⌜ now (glyphs .exit) ≡ sets (now (glyphs .entry)) (4 * k) (flatGlyphs (tailParts m .glyphs)) ⌝ }
 {
     let mut rest = m;
     let mut c = n;
@@ -332,7 +329,7 @@ fn fill_tail(m: usize, n: usize, k: usize, clusters: &mut [i32], glyphs: &mut [i
     }
 }
 
-// The units that an entry takes: its own where it opens a cluster in a text of `count` units.
+// The units that an entry takes in a text of `count` units: its own where it opens a cluster and there are any.
 fn taken(count: usize, lack: usize, units: usize) -> usize
     ensures { λ r. ⌜ r ≡ cond (eqb lack 0 && not (eqb count 0)) units 0 ⌝ }
 {
@@ -373,27 +370,28 @@ pub fn fill(
 {
     let count = counts.units;
     text::fill_units(text, units_start(text), units);
-    let mut c = first_cursor(indices, 0);
-    while c.place <= indices.len() {
-        let place = c.place;
-        match entry::read_entry(&indices[place..], c.entry) {
+    let mut at = first_cursor(indices, 0);
+    while at.place <= indices.len() {
+        let place = at.place;
+        match entry::read_entry(&indices[place..], at.entry) {
             entry::EntryRead::Read(x) => {
-                let a = taken(count, c.lack, x.units);
+                let a = taken(count, at.lack, x.units);
                 let b = x.glyphs;
                 let g = x.glyph;
-                put_cluster(clusters, c.lack, c.clusters, a, b);
-                put_glyph(glyphs, c.entry, g);
-                c = advance(c, 0, a, b, place + x.used + 1);
+                put_cluster(clusters, at.lack, at.clusters, a, b);
+                put_glyph(glyphs, at.entry, g);
+                at = advance(at, 0, a, b, place + x.used + 1);
             }
+            // An accepted label has no such entry.
             entry::EntryRead::Refused(_) => {
                 return;
             }
         }
     }
-    fill_tail(count - c.unit, c.clusters, c.entry, clusters, glyphs);
+    fill_tail(count - at.unit, at.clusters, at.entry, clusters, glyphs);
 }
 
-// The reading of a label: its run is stored where none of 1 to 18 holds, and nothing else.
+// The reading of a label: 1 to 18 in order, or its run is stored.
 pub fn read(
     text: &[u8],
     indices: &[u8],

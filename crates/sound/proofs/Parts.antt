@@ -11,8 +11,7 @@ use lib.IntN.{ℤ}
 use lib.ListN.{length, drop, length-drop}
 use lib.Seq.{drop-drop, getD-drop}
 use Rattle.label.specs.Sound.{natural, choice, wholeClusters, wholeGlyphs, clustersOf, glyphsOf}
-use Rattle.sound.specs.Sounds.{glyphAt, clusterAt}
-use Rattle.words.specs.Places.{place}
+use Rattle.words.specs.Places.{clusterAt, glyphAt, place}
 
 -- ── at the front ──
 

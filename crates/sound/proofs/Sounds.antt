@@ -17,8 +17,8 @@ use Rattle.label.specs.Sound.{nat, natural, indexFits, advanceFits, numberIndex
 use Rattle.label.specs.declared.Glyph.{Glyph}
 use Rattle.label.specs.declared.Cluster.{Cluster}
 use Rattle.label.proofs.Basics.{and-l, and-r, cases}
-use Rattle.sound.specs.Sounds.{glyphAt, clusterAt, opensAt}
-use Rattle.words.specs.Places.{place}
+use Rattle.sound.specs.Sounds.{opensAt}
+use Rattle.words.specs.Places.{clusterAt, glyphAt, place}
 use Rattle.words.proofs.Signs.{named-is}
 use Rattle.text.proofs.Units.{stops, goes}
 use Rattle.sound.proofs.Parts.{glyphs-at, glyphs-end, clusters-at, clusters-end, glyph-count}

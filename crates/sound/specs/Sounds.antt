@@ -4,22 +4,9 @@ use Prim.Native.Nat.{ℕ, _+_, _-_}
 use mathlib.Core.Bool.{Bool, cond, not, _&&_, _||_}
 use mathlib.Core.List.{List, [], _∷_}
 use lib.Dec.{leb, eqb}
-use lib.IntN.{ℤ}
 use lib.ListN.{length, getD}
 use Rattle.label.specs.Text.{isLow}
-use Rattle.label.specs.Run.{cluster}
-use Rattle.label.specs.Sound.{numberIndex, numberAdvance, nat}
-use Rattle.label.specs.declared.Glyph.{Glyph}
 use Rattle.label.specs.declared.Cluster.{Cluster}
-use Rattle.words.specs.Places.{place}
-
--- the glyph whose four numbers begin at place k
-unfoldable pub glyphAt : List ℤ → ℕ → Glyph
-glyphAt s k = record { index = numberIndex (place s k); advance = numberAdvance (place s (k + 1)); u = place s (k + 2); v = place s (k + 3) }
-
--- the cluster whose two numbers begin at place i
-unfoldable pub clusterAt : List ℤ → ℕ → Cluster
-clusterAt s i = cluster (nat (place s i)) (nat (place s (i + 1)))
 
 -- a cluster of a units and b glyphs may stand from unit `at` on; `bare`: the run has no units, `n`: the cluster's first glyph names an index
 unfoldable pub opensAt : Bool → List ℕ → ℕ → ℕ → ℕ → Bool → Bool

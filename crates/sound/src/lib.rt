@@ -6,8 +6,8 @@ ghost use lib.ListN.{length};
 ghost use Rattle.label.specs.Limits.{maxThousandths};
 ghost use Rattle.label.specs.Bytes.{empty};
 ghost use Rattle.label.specs.Sound.{size, indexFits, advanceFits, glyphFits, numberIndex, numberAdvance, wholeClusters, wholeGlyphs, fits, clustersOf, glyphsOf, sound};
-ghost use Rattle.words.specs.Places.{place};
-ghost use Rattle.sound.specs.Sounds.{glyphAt, opensAt};
+ghost use Rattle.words.specs.Places.{glyphAt, place};
+ghost use Rattle.sound.specs.Sounds.{opensAt};
 
 // ── the limits of a glyph, whose four numbers begin at place k ──
 

@@ -1,5 +1,6 @@
 // Reads labels, each on two lines, till the end of the input, and prints for each what `relabel` prints.
 use libc::STDIN_FILENO;
+ghost use mathlib.Core.Path.{_≡_};
 ghost use Prim.Native.Nat.{_≤_, _<_};
 ghost use lib.ListN.{length};
 
@@ -23,8 +24,15 @@ fn print_all(s: &[u8]) {
     }
 }
 
+// Room for the labels of a run.
+fn space() -> [u8; 1048576]
+    ensures { λ r. ⌜ 1048576 ≡ length r ⌝ }
+{
+    [0; 1048576]
+}
+
 fn main() {
-    let mut input = [0u8; 1048576];
+    let mut input = space();
     let n = io::read_full(STDIN_FILENO, &mut input);
     print_all(&input[..n]);
 }

@@ -13,12 +13,10 @@ use Rattle.label.specs.Bytes.{empty, join, joinRest, trim}
 use Rattle.label.specs.Write.{entryBytes, written, indicesOf}
 use Rattle.label.specs.Sound.{nat, clustersOf, glyphsOf}
 use Rattle.label.proofs.Basics.{cases}
-use Rattle.words.specs.Places.{place}
+use Rattle.words.specs.Places.{clusterAt, glyphAt, place}
 use Rattle.words.specs.Puts.{Put}
 use Rattle.words.proofs.Puts.{Left, left-next, left-as}
-use Rattle.sound.specs.Sounds.{glyphAt, clusterAt}
 use Rattle.sound.proofs.Parts.{glyphs-at, glyphs-end, clusters-at, clusters-end}
-use Rattle.entry.specs.Fields as fields
 use Rattle.writer.specs.Entries.{semis, led, owing}
 
 -- ── the entries ──
@@ -41,11 +39,6 @@ module _ (m : ℕ) (x : List ℕ) {e : Bool} (p : e ≡ empty x) where
   pub led-some : e ≡ false → semis m ++ x ≡ led m x
   unfolding led
   led-some h = rw (← p, h)
-
--- the entry's bytes at a place of the numbers, as the crate `entry` names them
-pub entry-here : (a b : ℕ) (s : List ℤ) (k : ℕ) → entryBytes a b (fields.glyphAt s k) ≡ entryBytes a b (glyphAt s k)
-unfolding fields.glyphAt glyphAt
-entry-here a b s k = refl
 
 -- the bytes of these entries, with n separators owed before the first
 unfoldable pub owed : ℕ → List (List ℕ) → List ℕ

@@ -7,7 +7,7 @@ ghost use Rattle.label.specs.Calls.{refusal, writingOutcome, writeInto, lengths
 ghost use Rattle.label.specs.Write.{entryBytes, indicesOf};
 ghost use Rattle.label.specs.Sound.{clustersOf, glyphsOf};
 ghost use Rattle.words.specs.Puts.{Put};
-ghost use Rattle.sound.specs.Sounds.{glyphAt};
+ghost use Rattle.words.specs.Places.{glyphAt};
 ghost use Rattle.writer.specs.Entries.{semis, led};
 use label::Lengths;
 use label::Refusal;

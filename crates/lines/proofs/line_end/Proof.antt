@@ -16,31 +16,24 @@ Inv-loop s from i₀ i = (from ≤ i) × (i ≤ length s) × (lineEnd s i ≡ li
 abbrev μ-loop : tie.MeasureT-loop
 μ-loop s from i₀ i = length s - i
 
--- src/lib.rt:32:5
 loop-holds : tie.Need-loop-holds Inv-loop μ-loop
 loop-holds c = (omega arith, c .pre, refl)
 
--- src/lib.rt:33:12
 shared-slice-read-if1 : tie.Need-shared-slice-read-if1 Inv-loop μ-loop
 shared-slice-read-if1 c = search needs
 
--- src/lib.rt:34:13
 returns : tie.Need-returns Inv-loop μ-loop
 returns c = (end-here _ _ (c .before .before .loop-test .taken) (c .if1 .taken) ∙ c .before .before .before .loop .inv .2, (c .before .before .before .loop .inv .0, c .before .before .before .loop .inv .1))
 
--- src/lib.rt:36:9
 add-i : tie.Need-add-i Inv-loop μ-loop
 add-i c = search needs
 
--- src/lib.rt:32:5
 loop-less : tie.Need-loop-less Inv-loop μ-loop
 loop-less c = omega arith
 
--- src/lib.rt:32:5
 loop-again : tie.Need-loop-again Inv-loop μ-loop
 loop-again c = (omega (arith, c .before .before .before .loop .inv .0), omega (arith, c .before .before .loop-test .taken), end-next _ _ (c .before .before .loop-test .taken) (c .if1 .left) ∙ c .before .before .before .loop .inv .2)
 
--- src/lib.rt:26:1
 returns-2 : tie.Need-returns-2 Inv-loop μ-loop
 returns-2 c = (end-last _ _ (c .loop-test .left) ∙ c .before .loop .inv .2, (c .before .loop .inv .0, c .before .loop .inv .1))
 

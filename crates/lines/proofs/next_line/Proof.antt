@@ -7,16 +7,13 @@ use Rattle.lines.proofs.next_line.Tie as tie
 use Rattle.lines.proofs.next_line.Reads as reads
 use Rattle.lines.proofs.next_line.Lts as lts
 
--- src/lib.rt:47:24
 add-result : tie.Need-add-result
 add-result c = search needs
 
--- src/lib.rt:42:1
 returns : tie.Need-returns
 unfolding lineBehind
 returns c = (rw (lt-ltb _ _ (c .if1 .taken)), (omega arith, omega (arith, c .if1 .taken), omega arith))
 
--- src/lib.rt:42:1
 returns-2 : tie.Need-returns-2
 unfolding lineBehind
 returns-2 c = (rw (le-ltb _ _ (c .if1 .left)), (omega arith, c .before .pre, omega (arith, c .if1 .left)))

@@ -8,23 +8,18 @@ use Rattle.lines.proofs.two_lines.Lts as lts
 use Rattle.lines.proofs.line_end.Reads as line-end-reads
 use Rattle.lines.proofs.next_line.Reads as next-line-reads
 
--- src/lib.rt:64:9
 line-end-requires : tie.Need-line-end-requires
 line-end-requires c κs = search needs
 
--- src/lib.rt:65:9
 next-line-requires : tie.Need-next-line-requires
 next-line-requires c κs = search needs
 
--- src/lib.rt:66:9
 line-end-requires-2 : tie.Need-line-end-requires-2
 line-end-requires-2 c κs = search needs
 
--- src/lib.rt:67:9
 next-line-requires-2 : tie.Need-next-line-requires-2
 next-line-requires-2 c κs = search needs
 
--- src/lib.rt:59:1
 returns : tie.Need-returns
 unfolding twoLines
 returns c = let a = c .before .before .before .line-end in

@@ -1,46 +1,34 @@
-use Rattle.reader.specs.Steps.{advanced}
-use borrow.Author.Tests.{eq-eqb, ne-eqb}
 use borrow.Author.Needs.{needs}
+use borrow.Author.Tests.{eq-eqb, ne-eqb}
+use Rattle.reader.specs.Steps.{advanced}
 use Rattle.reader.proofs.advance.Statement.{statement}
 use Rattle.reader.proofs.advance.Tie as tie
-use Rattle.reader.proofs.advance.Reads as reads
-use Rattle.reader.proofs.advance.Lts as lts
-use Rattle.words.proofs.less_one.Reads as less-one-reads
 
--- src/lib.rt:63:20
 add-t9 : tie.Need-add-t9
 add-t9 c = search needs
 
--- src/lib.rt:65:19
 add-t10 : tie.Need-add-t10
 add-t10 c = search needs
 
--- src/lib.rt:66:19
 less-one-requires : tie.Need-less-one-requires
 less-one-requires c κs = search needs
 
--- src/lib.rt:68:23
 add-t12 : tie.Need-add-t12
 add-t12 c = search needs
 
--- src/lib.rt:61:9
 returns : tie.Need-returns
 unfolding advanced
 returns c = rw (c .before .less-one .ensures, eq-eqb _ 0 (c .before .before .before .if1 .taken))
 
--- src/lib.rt:73:16
 add-t13 : tie.Need-add-t13
 add-t13 c = search needs
 
--- src/lib.rt:75:15
 add-t14 : tie.Need-add-t14
 add-t14 c = search needs
 
--- src/lib.rt:76:15
 less-one-requires-2 : tie.Need-less-one-requires-2
 less-one-requires-2 c κs = search needs
 
--- src/lib.rt:54:1
 returns-2 : tie.Need-returns-2
 unfolding advanced
 returns-2 c = rw (c .less-one2 .ensures, ne-eqb _ 0 (c .before .before .if1 .left))

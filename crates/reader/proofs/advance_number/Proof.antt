@@ -1,33 +1,26 @@
-use Rattle.reader.proofs.Stores.{given-fits}
-use Rattle.label.specs.declared.Advance.{Advance}
-use Rattle.label.specs.Sound.{advanceNumber, advanceFits}
-use mathlib.Core.Path.{_≡_, sym, ap, subst, _∙_}
 use mathlib.Core.Bool.{true}
+use mathlib.Core.Path.{_≡_, sym, ap, subst, _∙_}
+use borrow.Author.Needs.{needs}
 use mir.Facts.{toZ-pos}
 use mir.Syntax.{w32}
-use borrow.Author.Needs.{needs}
+use Rattle.label.specs.Sound.{advanceNumber, advanceFits}
+use Rattle.label.specs.declared.Advance.{Advance}
+use Rattle.reader.proofs.Stores.{given-fits}
 use Rattle.reader.proofs.advance_number.Statement.{statement}
 use Rattle.reader.proofs.advance_number.Tie as tie
-use Rattle.reader.proofs.advance_number.Reads as reads
-use Rattle.reader.proofs.advance_number.Lts as lts
 
--- src/lib.rt:262:31
 enum-known-a : tie.Need-enum-known-a
 enum-known-a c = search needs
 
--- src/lib.rt:262:37
 cast-result : tie.Need-cast-result
 cast-result c = record { sfits = given-fits _ (subst (λ (a : Advance). advanceFits a ≡ true) (c .before .a .given .1) (c .before .before .before .pre)) }
 
--- src/lib.rt:263:32
 enum-told : tie.Need-enum-told
 enum-told c = search needs
 
--- src/lib.rt:257:1
 returns : tie.Need-returns
 returns c = toZ-pos w32 (given-fits _ (subst (λ (a : Advance). advanceFits a ≡ true) (c .before .a .given .1) (c .before .before .before .pre))) ∙ sym (ap advanceNumber (c .before .a .given .1))
 
--- src/lib.rt:257:1
 returns-2 : tie.Need-returns-2
 returns-2 c = sym (ap advanceNumber (c .enum-told .given .1))
 

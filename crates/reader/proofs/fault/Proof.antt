@@ -1,49 +1,36 @@
 use native.Mathlib.Omega.{arith}
-use Rattle.reader.proofs.Faults.{part-below, in-indices, in-text, shows-indices, shows-text}
 use borrow.Author.Needs.{needs}
+use Rattle.reader.proofs.Faults.{part-below, in-indices, in-text, shows-indices, shows-text}
 use Rattle.reader.proofs.fault.Statement.{statement}
 use Rattle.reader.proofs.fault.Tie as tie
-use Rattle.reader.proofs.fault.Reads as reads
-use Rattle.reader.proofs.fault.Lts as lts
-use Rattle.reader.proofs.find_part.Reads as find-part-reads
 
--- src/lib.rt:506:9
 find-part-requires : tie.Need-find-part-requires
 find-part-requires c κs = search needs
 
--- src/lib.rt:508:15
 add-end : tie.Need-add-end
 add-end c = record { fits = part-below _ _ _ _ _ (c .before .find-part .ensures) 18446744073709551616 (omega arith) (omega arith) }
 
--- src/lib.rt:510:16
 sub-result : tie.Need-sub-result
 sub-result c = search needs
 
--- src/lib.rt:510:16
 part-result-start : tie.Need-part-result-start
 part-result-start c = search needs
 
--- src/lib.rt:510:16
 part-result-end : tie.Need-part-result-end
 part-result-end c = in-indices _ _ _ _ _ (c .before .before .find-part .ensures) (c .if1 .taken)
 
--- src/lib.rt:510:9
 returns : tie.Need-returns
 returns c = shows-indices _ _ _ _ _ (c .before .before .before .find-part .ensures) _ _ (c .before .if1 .taken)
 
--- src/lib.rt:512:5
 sub-result-2 : tie.Need-sub-result-2
 sub-result-2 c = search needs
 
--- src/lib.rt:512:5
 part-result-start-2 : tie.Need-part-result-start-2
 part-result-start-2 c = search needs
 
--- src/lib.rt:512:5
 part-result-end-2 : tie.Need-part-result-end-2
 part-result-end-2 c = in-text _ _ _ _ _ (c .before .before .find-part .ensures) (c .if1 .left)
 
--- src/lib.rt:502:1
 returns-2 : tie.Need-returns-2
 returns-2 c = shows-text _ _ _ _ _ (c .before .before .before .find-part .ensures) _ _ (c .before .if1 .left)
 

@@ -1,17 +1,12 @@
-use Rattle.reader.proofs.Faults.{partFrom, from-start, from-next, from-here, from-none}
-use Rattle.reader.specs.Faults.{entryPart}
-use lib.ListN.{length}
-use mathlib.Core.Path.{_≡_, refl, sym, _∙_}
-use native.Mathlib.Omega.{arith}
 use Prim.Native.Nat.{_+_, _-_}
+use native.Mathlib.Omega.{arith}
+use mathlib.Core.Path.{_≡_, sym, _∙_}
 use borrow.Author.Needs.{needs}
+use lib.ListN.{length}
+use Rattle.reader.specs.Faults.{entryPart}
+use Rattle.reader.proofs.Faults.{partFrom, from-start, from-next, from-here, from-none}
 use Rattle.reader.proofs.find_entry.Statement.{statement}
 use Rattle.reader.proofs.find_entry.Tie as tie
-use Rattle.reader.proofs.find_entry.Reads as reads
-use Rattle.reader.proofs.find_entry.Lts as lts
-use Rattle.reader.proofs.entry_end.Reads as entry-end-reads
-use Rattle.reader.proofs.first_place.Reads as first-place-reads
-use Rattle.reader.proofs.part_of.Reads as part-of-reads
 
 abbrev Inv-loop : tie.InvT-loop
 Inv-loop s k place₀ rest₀ place rest = entryPart s k ≡ partFrom s place rest
@@ -19,47 +14,36 @@ Inv-loop s k place₀ rest₀ place rest = entryPart s k ≡ partFrom s place re
 abbrev μ-loop : tie.MeasureT-loop
 μ-loop s k place₀ rest₀ place rest = length s + 1 - place
 
--- src/lib.rt:461:9
 first-place-requires : tie.Need-first-place-requires Inv-loop μ-loop
 first-place-requires c κs = search needs
 
--- src/lib.rt:463:5
 loop-holds : tie.Need-loop-holds Inv-loop μ-loop
 loop-holds c = from-start _ _ _ (c .first-place .ensures)
 
--- src/lib.rt:464:13
 entry-end-requires : tie.Need-entry-end-requires Inv-loop μ-loop
 entry-end-requires c κs = search needs
 
--- src/lib.rt:466:13
 part-of-requires : tie.Need-part-of-requires Inv-loop μ-loop
 part-of-requires c κs = search needs
 
--- src/lib.rt:466:13
 returns : tie.Need-returns Inv-loop μ-loop
 returns c = c .part-of .ensures ∙ from-here _ _ _ (c .before .before .before .loop-test .taken) (c .before .before .entry-end .ensures .0) _ (c .before .if1 .taken) ∙ sym (c .before .before .before .before .loop .inv)
 
--- src/lib.rt:468:17
 add-place : tie.Need-add-place Inv-loop μ-loop
 add-place c = search needs
 
--- src/lib.rt:469:9
 sub-rest : tie.Need-sub-rest Inv-loop μ-loop
 sub-rest c = search needs
 
--- src/lib.rt:463:5
 loop-less : tie.Need-loop-less Inv-loop μ-loop
 loop-less c = omega (arith, c .before .entry-end .ensures .1, c .before .before .loop-test .taken)
 
--- src/lib.rt:463:5
 loop-again : tie.Need-loop-again Inv-loop μ-loop
 loop-again c = c .before .before .before .loop .inv ∙ from-next _ _ _ (c .before .before .loop-test .taken) (c .before .entry-end .ensures .0) _ (c .if1 .left)
 
--- src/lib.rt:471:5
 part-of-requires-2 : tie.Need-part-of-requires-2 Inv-loop μ-loop
 part-of-requires-2 c κs = search needs
 
--- src/lib.rt:458:1
 returns-2 : tie.Need-returns-2 Inv-loop μ-loop
 returns-2 c = c .part-of2 .ensures ∙ from-none _ _ _ (c .before .loop-test .left) ∙ sym (c .before .before .loop .inv)
 

@@ -1,20 +1,13 @@
 use borrow.Author.Needs.{needs}
 use Rattle.reader.proofs.first_cursor.Statement.{statement}
 use Rattle.reader.proofs.first_cursor.Tie as tie
-use Rattle.reader.proofs.first_cursor.Reads as reads
-use Rattle.reader.proofs.first_cursor.Lts as lts
-use Rattle.label.proofs.Limits.fresh_cursor.Reads as fresh-cursor-reads
-use Rattle.reader.proofs.first_place.Reads as first-place-reads
 
--- src/lib.rt:192:9
 fresh-cursor-requires : tie.Need-fresh-cursor-requires
 fresh-cursor-requires c κs = search needs
 
--- src/lib.rt:193:5
 first-place-requires : tie.Need-first-place-requires
 first-place-requires c κs = search needs
 
--- src/lib.rt:189:1
 returns : tie.Need-returns
 returns c = rw (c .first-place .ensures, c .before .fresh-cursor .ensures)
 

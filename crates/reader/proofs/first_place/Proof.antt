@@ -1,15 +1,10 @@
-use borrow.Author.Needs.{needs}
 use Rattle.reader.proofs.Entries.{empty-yes, empty-no}
 use Rattle.reader.proofs.first_place.Statement.{statement}
 use Rattle.reader.proofs.first_place.Tie as tie
-use Rattle.reader.proofs.first_place.Reads as reads
-use Rattle.reader.proofs.first_place.Lts as lts
 
--- src/lib.rt:183:1
 returns : tie.Need-returns
 returns c = rw (empty-yes (c .before .args .indices .now) (c .if1 .taken))
 
--- src/lib.rt:183:1
 returns-2 : tie.Need-returns-2
 returns-2 c = rw (empty-no (c .before .args .indices .now) (c .if1 .left))
 

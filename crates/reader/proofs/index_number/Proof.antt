@@ -1,31 +1,24 @@
-use Rattle.label.specs.Sound.{indexNumber}
-use mathlib.Core.Path.{sym, ap, _∙_}
 use native.Mathlib.Omega.{arith}
+use mathlib.Core.Path.{sym, ap, _∙_}
+use borrow.Author.Needs.{needs}
 use mir.Facts.{toZ-pos}
 use mir.Syntax.{w32}
-use borrow.Author.Needs.{needs}
+use Rattle.label.specs.Sound.{indexNumber}
 use Rattle.reader.proofs.index_number.Statement.{statement}
 use Rattle.reader.proofs.index_number.Tie as tie
-use Rattle.reader.proofs.index_number.Reads as reads
-use Rattle.reader.proofs.index_number.Lts as lts
 
--- src/lib.rt:252:29
 enum-known-i : tie.Need-enum-known-i
 enum-known-i c = search needs
 
--- src/lib.rt:252:35
 cast-result : tie.Need-cast-result
 cast-result c = search needs
 
--- src/lib.rt:253:31
 enum-told : tie.Need-enum-told
 enum-told c = search needs
 
--- src/lib.rt:248:1
 returns : tie.Need-returns
 returns c = toZ-pos w32 (omega (arith, c .known-told .given)) ∙ sym (ap indexNumber (c .before .i .given .1))
 
--- src/lib.rt:248:1
 returns-2 : tie.Need-returns-2
 returns-2 c = sym (ap indexNumber (c .enum-told .given .1))
 

@@ -1,20 +1,14 @@
-use borrow.Author.Tests.{le-leb, lt-leb}
 use borrow.Author.Needs.{needs}
+use borrow.Author.Tests.{le-leb, lt-leb}
 use Rattle.reader.proofs.limit.Statement.{statement}
 use Rattle.reader.proofs.limit.Tie as tie
-use Rattle.reader.proofs.limit.Reads as reads
-use Rattle.reader.proofs.limit.Lts as lts
-use Rattle.reader.proofs.refused.Reads as refused-reads
 
--- src/lib.rt:158:9
 refused-requires : tie.Need-refused-requires
 refused-requires c κs = search needs
 
--- src/lib.rt:158:9
 returns : tie.Need-returns
 returns c = rw (c .refused .ensures, lt-leb (c .before .before .args .glyphs) 4096 (c .before .if1 .taken))
 
--- src/lib.rt:154:1
 returns-2 : tie.Need-returns-2
 returns-2 c = rw (le-leb (c .before .args .glyphs) 4096 (c .if1 .left))
 

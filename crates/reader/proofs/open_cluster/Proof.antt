@@ -1,55 +1,43 @@
-use Rattle.reader.proofs.Placing.{moves-fit, half-fit, opens-to, opens-past, opens-half}
 use native.Mathlib.Omega.{arith}
 use borrow.Author.Needs.{needs}
+use Rattle.reader.proofs.Placing.{moves-fit, half-fit, opens-to, opens-past, opens-half}
 use Rattle.reader.proofs.open_cluster.Statement.{statement}
 use Rattle.reader.proofs.open_cluster.Tie as tie
-use Rattle.reader.proofs.open_cluster.Reads as reads
-use Rattle.reader.proofs.open_cluster.Lts as lts
-use Rattle.reader.proofs.advance.Reads as advance-reads
-use Rattle.reader.proofs.stopped.Reads as stopped-reads
-use Rattle.text.proofs.move_past.Reads as move-past-reads
 
--- src/lib.rt:88:11
 move-past-requires : tie.Need-move-past-requires
 move-past-requires c κs = search needs
 
--- src/lib.rt:89:25
 enum-known-byte : tie.Need-enum-known-byte
 enum-known-byte c = search needs
 
--- src/lib.rt:89:45
 advance-requires : tie.Need-advance-requires
-advance-requires c κs = let f = moves-fit (c .before .before .before .before .before .args .text .now) (c .before .before .before .before .before .args .c) (c .before .before .before .before .before .args .units) 0 0 _ _ (c .before .before .before .move-past .ensures) (c .before .byte .given .1) in omega (arith, f)
+advance-requires c κs =
+    let a = c .before .before .before .before .before in
+    let f = moves-fit (a .args .text .now) (a .args .c) (a .args .units) 0 0 _ _ (c .before .before .before .move-past .ensures) (c .before .byte .given .1) in omega (arith, f)
 
--- src/lib.rt:90:30
 enum-told : tie.Need-enum-told
 enum-told c = search needs
 
--- src/lib.rt:90:30
 stopped-requires : tie.Need-stopped-requires
 stopped-requires c κs = search needs
 
--- src/lib.rt:91:42
 enum-told-2 : tie.Need-enum-told-2
 enum-told-2 c = search needs
 
--- src/lib.rt:91:42
 add-stopped : tie.Need-add-stopped
-add-stopped c = let f = half-fit (c .before .before .before .before .before .args .text .now) (c .before .before .before .before .before .args .c) (c .before .before .before .before .before .args .units) 0 0 _ (c .before .before .before .move-past .ensures) (c .before .enum-told2 .given .1) in record { fits = omega (arith, f) }
+add-stopped c =
+    let a = c .before .before .before .before .before in
+    let f = half-fit (a .args .text .now) (a .args .c) (a .args .units) 0 0 _ (c .before .before .before .move-past .ensures) (c .before .enum-told2 .given .1) in record { fits = omega (arith, f) }
 
--- src/lib.rt:91:30
 stopped-requires-2 : tie.Need-stopped-requires-2
 stopped-requires-2 c κs = search needs
 
--- src/lib.rt:83:1
 returns : tie.Need-returns
 returns c = opens-to _ _ _ _ _ _ _ _ (c .before .before .before .before .move-past .ensures) (c .before .before .byte .given .1) (c .advance .ensures)
 
--- src/lib.rt:83:1
 returns-2 : tie.Need-returns-2
 returns-2 c = opens-past _ _ _ _ _ _ _ (c .before .before .before .move-past .ensures) (c .before .enum-told .given .1) (c .stopped .ensures)
 
--- src/lib.rt:83:1
 returns-3 : tie.Need-returns-3
 returns-3 c = opens-half _ _ _ _ _ _ _ (c .before .before .before .before .move-past .ensures) (c .before .before .enum-told2 .given .1) (c .stopped2 .ensures)
 

@@ -1,82 +1,63 @@
-use Rattle.reader.proofs.Stores.{four-stored}
-use Rattle.words.proofs.Signed.{back}
-use mathlib.Core.Path.{_∙_}
-use lib.ListN.{length-set}
-use native.Mathlib.Omega.{arith}
 use Prim.Native.Nat.{_*_}
+use native.Mathlib.Omega.{arith}
+use mathlib.Core.Path.{_∙_}
 use borrow.Author.Needs.{needs}
+use lib.ListN.{length-set}
+use Rattle.words.proofs.Signed.{back}
+use Rattle.reader.proofs.Stores.{four-stored}
 use Rattle.reader.proofs.put_glyph.Statement.{statement}
 use Rattle.reader.proofs.put_glyph.Tie as tie
-use Rattle.reader.proofs.put_glyph.Reads as reads
-use Rattle.reader.proofs.put_glyph.Lts as lts
-use Rattle.reader.proofs.advance_number.Reads as advance-number-reads
-use Rattle.reader.proofs.index_number.Reads as index-number-reads
 
--- src/lib.rt:274:14
 mul-at : tie.Need-mul-at
 mul-at c = search needs
 
--- src/lib.rt:275:15
 index-number-requires : tie.Need-index-number-requires
 index-number-requires c κs = search needs
 
--- src/lib.rt:275:5
 mul-out : tie.Need-mul-out
 mul-out c = search needs
 
--- src/lib.rt:275:5
 slice-set-from-out : tie.Need-slice-set-from-out
 slice-set-from-out c = search needs
 
--- src/lib.rt:276:19
 advance-number-requires : tie.Need-advance-number-requires
 advance-number-requires c κs = search needs
 
--- src/lib.rt:276:9
 add-t10 : tie.Need-add-t10
 add-t10 c = search needs
 
--- src/lib.rt:276:5
 mul-t12 : tie.Need-mul-t12
 mul-t12 c = search needs
 
--- src/lib.rt:276:5
 slice-set-from-out-2 : tie.Need-slice-set-from-out-2
 slice-set-from-out-2 c = simp length-set (omega arith)
 
--- src/lib.rt:278:9
 add-u : tie.Need-add-u
 add-u c = search needs
 
--- src/lib.rt:278:5
 mul-u : tie.Need-mul-u
 mul-u c = search needs
 
--- src/lib.rt:278:5
 slice-set-from-u : tie.Need-slice-set-from-u
 slice-set-from-u c = simp length-set (omega arith)
 
--- src/lib.rt:280:9
 add-v : tie.Need-add-v
 add-v c = search needs
 
--- src/lib.rt:280:5
 mul-v : tie.Need-mul-v
 mul-v c = search needs
 
--- src/lib.rt:280:5
 slice-set-from-v : tie.Need-slice-set-from-v
 slice-set-from-v c = search needs
 
--- src/lib.rt:268:1
 same-length : tie.Need-same-length
 same-length c = search needs
 
--- src/lib.rt:268:1
 returns : tie.Need-returns
 returns c =
-    let g = c .before .before .before .before .args .g in
-    four-stored (c .before .before .before .before .args .out .now) (4 * c .before .before .before .before .args .k) g _ _ _ _ (back (c .before .before .before .index-number .result) (c .before .before .before .index-number .ok) ∙ c .before .before .before .index-number .ensures)
+    let a = c .before .before .before .before in
+    let g = a .args .g in
+    four-stored (a .args .out .now) (4 * a .args .k) g _ _ _ _ (back (c .before .before .before .index-number .result) (c .before .before .before .index-number .ok) ∙ c .before .before .before .index-number .ensures)
     (back (c .before .before .advance-number .result) (c .before .before .advance-number .ok) ∙ c .before .before .advance-number .ensures) (back (g .u) (c .before .struct-told .given .1 .1 .0 .1)) (back (g .v) (c .before .struct-told .given .1 .1 .1 .0 .1))
 
 pub put-glyph-spec : {M : Type 1} → statement M

@@ -1,92 +1,76 @@
-use Rattle.reader.proofs.Calls.{found-by, into-refused, into-16, into-17, into-18, into-run, nothing-read, run-read}
-use Rattle.label.specs.Calls.{readingOutcome}
-use mathlib.Core.Path.{refl, sym, _∙_, ap}
 use native.Mathlib.Omega.{arith}
+use mathlib.Core.Path.{refl, sym, _∙_, ap}
 use borrow.Author.Needs.{needs}
+use Rattle.label.specs.Calls.{readingOutcome}
+use Rattle.reader.proofs.Calls.{found-by, into-refused, into-16, into-17, into-18, into-run, nothing-read, run-read}
 use Rattle.reader.proofs.read.Statement.{statement}
 use Rattle.reader.proofs.read.Tie as tie
-use Rattle.reader.proofs.read.Reads as reads
-use Rattle.reader.proofs.read.Lts as lts
-use Rattle.reader.proofs.fill.Reads as fill-reads
-use Rattle.reader.proofs.refused.Reads as refused-reads
-use Rattle.reader.proofs.survey.Reads as survey-reads
 
--- src/lib.rt:385:11
 survey-requires : tie.Need-survey-requires
 survey-requires c κs = search needs
 
--- src/lib.rt:386:30
 enum-known-n : tie.Need-enum-known-n
 enum-known-n c = search needs
 
--- src/lib.rt:388:17
 refused-requires : tie.Need-refused-requires
 refused-requires c κs = search needs
 
--- src/lib.rt:388:17
 returns : tie.Need-returns
 returns c =
+    let a = c .before .before .before .before .before .before .before .before .before .before in
     let f = found-by _ _ _ _ (c .before .before .before .before .before .before .survey .ensures) (c .before .before .before .before .n .given .1) in
-    nothing-read _ _ _ _ (c .before .before .before .before .before .before .before .before .before .before .args .units .now) (c .before .before .before .before .before .before .before .before .before .before .args .clusters .now) (c .before .before .before .before .before .before .before .before .before .before .args .glyphs .now) (into-16 _ _ _ _ _ _ f (c .before .if1 .taken)) (c .refused .ensures)
+    nothing-read _ _ _ _ (a .args .units .now) (a .args .clusters .now) (a .args .glyphs .now) (into-16 _ _ _ _ _ _ f (c .before .if1 .taken)) (c .refused .ensures)
 
--- src/lib.rt:390:33
 mul-if2 : tie.Need-mul-if2
 mul-if2 c = let f = found-by _ _ _ _ (c .before .before .before .before .before .before .survey .ensures) (c .before .before .before .before .n .given .1) in record { fits = omega (arith, f .few, f .fewer) }
 
--- src/lib.rt:391:17
 refused-requires-2 : tie.Need-refused-requires-2
 refused-requires-2 c κs = search needs
 
--- src/lib.rt:391:17
 returns-2 : tie.Need-returns-2
 returns-2 c =
+    let a = c .before .before .before .before .before .before .before .before .before .before .before .before in
     let f = found-by _ _ _ _ (c .before .before .before .before .before .before .before .before .survey .ensures) (c .before .before .before .before .before .before .n .given .1) in
-    nothing-read _ _ _ _ (c .before .before .before .before .before .before .before .before .before .before .before .before .args .units .now) (c .before .before .before .before .before .before .before .before .before .before .before .before .args .clusters .now) (c .before .before .before .before .before .before .before .before .before .before .before .before .args .glyphs .now) (into-17 _ _ _ _ _ _ f (c .before .before .before .if1 .left) (c .before .if2 .taken)) (c .refused2 .ensures)
+    nothing-read _ _ _ _ (a .args .units .now) (a .args .clusters .now) (a .args .glyphs .now) (into-17 _ _ _ _ _ _ f (c .before .before .before .if1 .left) (c .before .if2 .taken)) (c .refused2 .ensures)
 
--- src/lib.rt:393:31
 mul-if3 : tie.Need-mul-if3
 mul-if3 c = let f = found-by _ _ _ _ (c .before .before .before .before .before .before .before .before .survey .ensures) (c .before .before .before .before .before .before .n .given .1) in record { fits = omega (arith, f .few) }
 
--- src/lib.rt:394:17
 refused-requires-3 : tie.Need-refused-requires-3
 refused-requires-3 c κs = search needs
 
--- src/lib.rt:394:17
 returns-3 : tie.Need-returns-3
 returns-3 c =
+    let a = c .before .before .before .before .before .before .before .before .before .before .before .before .before .before in
     let f = found-by _ _ _ _ (c .before .before .before .before .before .before .before .before .before .before .survey .ensures) (c .before .before .before .before .before .before .before .before .n .given .1) in
-    nothing-read _ _ _ _ (c .before .before .before .before .before .before .before .before .before .before .before .before .before .before .args .units .now) (c .before .before .before .before .before .before .before .before .before .before .before .before .before .before .args .clusters .now) (c .before .before .before .before .before .before .before .before .before .before .before .before .before .before .args .glyphs .now) (into-18 _ _ _ _ _ _ f (c .before .before .before .before .before .if1 .left) (c .before .before .before .if2 .left) (c .before .if3 .taken)) (c .refused3 .ensures)
+    nothing-read _ _ _ _ (a .args .units .now) (a .args .clusters .now) (a .args .glyphs .now) (into-18 _ _ _ _ _ _ f (c .before .before .before .before .before .if1 .left) (c .before .before .before .if2 .left) (c .before .if3 .taken)) (c .refused3 .ensures)
 
--- src/lib.rt:396:13
 fill-requires : tie.Need-fill-requires
 fill-requires c κs = (sym (c .before .before .before .before .before .before .before .before .before .before .before .before .survey .ensures) ∙ ap readingOutcome (c .before .before .before .before .before .before .before .before .before .before .n .given .1), (c .before .before .before .before .before .before .before .if1 .left, c .before .before .before .before .before .if2 .left, c .before .before .before .if3 .left))
 
--- src/lib.rt:399:33
 enum-known-r : tie.Need-enum-known-r
 enum-known-r c = search needs
 
--- src/lib.rt:373:1
 same-length : tie.Need-same-length
 same-length c = search needs
 
--- src/lib.rt:373:1
 same-length-2 : tie.Need-same-length-2
 same-length-2 c = search needs
 
--- src/lib.rt:373:1
 same-length-3 : tie.Need-same-length-3
 same-length-3 c = search needs
 
--- src/lib.rt:373:1
 returns-4 : tie.Need-returns-4
 returns-4 c =
+    let a = c .before .before .before .before .before .before .before .before .before .before .before .before .before .before .before .before .before .before .before .before .before in
     let f = found-by _ _ _ _ (c .before .before .before .before .before .before .before .before .before .before .before .before .before .before .before .before .before .survey .ensures) (c .before .before .before .before .before .before .before .before .before .before .before .before .before .before .before .n .given .1) in
-    run-read _ _ _ _ _ (c .before .before .before .before .before .before .before .before .before .before .before .before .before .before .before .before .before .before .before .before .before .args .units .now) _ (c .before .before .before .before .before .before .before .before .before .before .before .before .before .before .before .before .before .before .before .before .before .args .clusters .now) _ (c .before .before .before .before .before .before .before .before .before .before .before .before .before .before .before .before .before .before .before .before .before .args .glyphs .now) _ (into-run _ _ _ _ _ _ f (c .before .before .before .before .before .before .before .before .before .before .before .before .if1 .left) (c .before .before .before .before .before .before .before .before .before .before .if2 .left) (c .before .before .before .before .before .before .before .before .if3 .left)) (c .before .before .before .before .before .before .before .before .before .before .before .before .before .before .before .before .before .survey .ensures) (c .before .before .before .before .before .before .before .before .before .before .before .before .before .before .before .n .given .1)
+    run-read _ _ _ _ _ (a .args .units .now) _ (a .args .clusters .now) _ (a .args .glyphs .now) _ (into-run _ _ _ _ _ _ f (c .before .before .before .before .before .before .before .before .before .before .before .before .if1 .left) (c .before .before .before .before .before .before .before .before .before .before .if2 .left) (c .before .before .before .before .before .before .before .before .if3 .left)) (c .before .before .before .before .before .before .before .before .before .before .before .before .before .before .before .before .before .survey .ensures) (c .before .before .before .before .before .before .before .before .before .before .before .before .before .before .before .n .given .1)
     (c .before .before .before .before .fill .ensures .0) (c .before .before .before .before .fill .ensures .1 .0) (c .before .before .before .before .fill .ensures .1 .1)
 
--- src/lib.rt:373:1
 returns-5 : tie.Need-returns-5
-returns-5 c = nothing-read _ _ _ _ (c .before .before .before .before .before .before .before .args .units .now) (c .before .before .before .before .before .before .before .args .clusters .now) (c .before .before .before .before .before .before .before .args .glyphs .now) (into-refused _ _ _ _ _ _ _ (c .before .before .before .survey .ensures) (c .before .r .given .1)) refl
+returns-5 c =
+    let a = c .before .before .before .before .before .before .before in
+    nothing-read _ _ _ _ (a .args .units .now) (a .args .clusters .now) (a .args .glyphs .now) (into-refused _ _ _ _ _ _ _ (c .before .before .before .survey .ensures) (c .before .r .given .1)) refl
 
 pub read-spec : {M : Type 1} → statement M
 read-spec =

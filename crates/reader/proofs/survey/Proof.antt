@@ -1,53 +1,38 @@
-use Rattle.reader.proofs.Calls.{text-long, indices-long, text-units, read-units, text-refused}
 use mathlib.Core.Path.{_∙_}
 use borrow.Author.Needs.{needs}
+use Rattle.reader.proofs.Calls.{text-long, indices-long, text-units, read-units, text-refused}
 use Rattle.reader.proofs.survey.Statement.{statement}
 use Rattle.reader.proofs.survey.Tie as tie
-use Rattle.reader.proofs.survey.Reads as reads
-use Rattle.reader.proofs.survey.Lts as lts
-use Rattle.reader.proofs.refused.Reads as refused-reads
-use Rattle.reader.proofs.survey_run.Reads as survey-run-reads
-use Rattle.text.proofs.survey_text.Reads as survey-text-reads
 
--- src/lib.rt:238:9
 refused-requires : tie.Need-refused-requires
 refused-requires c κs = search needs
 
--- src/lib.rt:238:9
 returns : tie.Need-returns
 returns c = text-long _ _ _ (c .refused .ensures) (c .before .if1 .taken)
 
--- src/lib.rt:241:9
 refused-requires-2 : tie.Need-refused-requires-2
 refused-requires-2 c κs = search needs
 
--- src/lib.rt:241:9
 returns-2 : tie.Need-returns-2
 returns-2 c = indices-long _ _ _ (c .refused2 .ensures) (c .before .if2 .taken)
 
--- src/lib.rt:243:11
 survey-text-requires : tie.Need-survey-text-requires
 survey-text-requires c κs = search needs
 
--- src/lib.rt:244:31
 enum-known-t : tie.Need-enum-known-t
 enum-known-t c = search needs
 
--- src/lib.rt:244:37
 survey-run-requires : tie.Need-survey-run-requires
 survey-run-requires c κs = let x = text-units _ _ _ (c .before .before .before .survey-text .ensures) (c .before .t .given .1) in (x .decodes, (x .count, x .few, c .before .before .before .before .if2 .left))
 
--- src/lib.rt:245:33
 enum-known-r : tie.Need-enum-known-r
 enum-known-r c = search needs
 
--- src/lib.rt:234:1
 returns-3 : tie.Need-returns-3
 returns-3 c =
     let x = text-units _ _ _ (c .before .before .before .before .survey-text .ensures) (c .before .before .t .given .1) in
     c .survey-run .ensures ∙ read-units _ _ (c .before .before .before .before .before .before .if1 .left) (c .before .before .before .before .before .if2 .left) _ _ x
 
--- src/lib.rt:234:1
 returns-4 : tie.Need-returns-4
 returns-4 c = text-refused _ _ (c .before .before .before .before .before .if1 .left) (c .before .before .before .before .if2 .left) _ _ (c .before .before .before .survey-text .ensures) (c .before .r .given .1)
 

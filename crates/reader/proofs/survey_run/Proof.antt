@@ -1,27 +1,16 @@
+use Prim.Native.Nat.{ℕ, _+_, _-_}
+use native.Mathlib.Omega.{arith}
+use mathlib.Core.Bool.{false, _&&_}
+use mathlib.Core.Path.{_≡_, sym, _∙_}
+use borrow.Author.Needs.{needs}
+use lib.ListN.{length}
+use Rattle.label.specs.Bytes.{empty}
+use Rattle.label.specs.Run.{Parts}
+use Rattle.text.specs.Moves.{unitsFrom}
 use Rattle.reader.proofs.Endings.{nothing-is, run-nothing, run-stop, run-tail, refused-outcome}
 use Rattle.reader.proofs.Walking.{nothing, Stands, Ready, At, stands-start, ready-start, at-start, at-decodes, at-length, read-here, read-inside, code-took, code-stopped, turn-unread, ends-open}
-use mathlib.Core.Path.{_≡_, refl, sym, _∙_, ap}
-use Rattle.reader.proofs.Walking.{nothing, Stands, Ready, At, stands-start, ready-start}
-use Rattle.text.specs.Moves.{unitsFrom}
-use Rattle.label.specs.Run.{Parts, tail}
-use Rattle.reader.specs.Steps.{countedFrom}
-use Rattle.label.specs.Bytes.{empty}
-use lib.ListN.{length}
-use mathlib.Core.Path.{_≡_, sym, _∙_, ap}
-use mathlib.Core.Bool.{Bool, false, _&&_}
-use native.Mathlib.Omega.{arith}
-use Prim.Native.Nat.{ℕ, _+_, _-_}
-use borrow.Author.Needs.{needs}
 use Rattle.reader.proofs.survey_run.Statement.{statement}
 use Rattle.reader.proofs.survey_run.Tie as tie
-use Rattle.reader.proofs.survey_run.Reads as reads
-use Rattle.reader.proofs.survey_run.Lts as lts
-use Rattle.entry.proofs.read_entry.Reads as read-entry-reads
-use Rattle.reader.proofs.first_cursor.Reads as first-cursor-reads
-use Rattle.reader.proofs.refused.Reads as refused-reads
-use Rattle.reader.proofs.survey_tail.Reads as survey-tail-reads
-use Rattle.reader.proofs.take_entry.Reads as take-entry-reads
-use Rattle.words.proofs.both.Reads as both-reads
 
 abbrev Inv-loop : tie.InvT-loop
 Inv-loop text indices count start bare c₀ c =
@@ -31,138 +20,126 @@ Inv-loop text indices count start bare c₀ c =
 abbrev μ-loop : tie.MeasureT-loop
 μ-loop text indices count start bare c₀ c = length indices + 1 - c .place
 
--- src/lib.rt:206:8
 both-requires : tie.Need-both-requires Inv-loop μ-loop
 both-requires c κs = search needs
 
--- src/lib.rt:207:9
 refused-requires : tie.Need-refused-requires Inv-loop μ-loop
 refused-requires c κs = search needs
 
--- src/lib.rt:207:9
 returns : tie.Need-returns Inv-loop μ-loop
 returns c =
-    let us = unitsFrom (c .before .before .before .before .before .args .text .now) (c .before .before .before .before .before .args .start) in
-    run-nothing us _ _ (c .refused .ensures) (sym (nothing-is us (c .before .before .before .before .before .args .indices .now) _ _ (c .before .before .both .ensures) (c .before .before .before .before .before .pre .1 .0)) ∙ c .before .if1 .taken)
+    let a = c .before .before .before .before .before in
+    let us = unitsFrom (a .args .text .now) (a .args .start) in
+    run-nothing us _ _ (c .refused .ensures) (sym (nothing-is us (a .args .indices .now) _ _ (c .before .before .both .ensures) (a .pre .1 .0)) ∙ c .before .if1 .taken)
 
--- src/lib.rt:209:9
 first-cursor-requires : tie.Need-first-cursor-requires Inv-loop μ-loop
 first-cursor-requires c κs = search needs
 
--- src/lib.rt:210:5
 loop-holds : tie.Need-loop-holds Inv-loop μ-loop
 loop-holds c =
-    let us = unitsFrom (c .before .before .before .before .before .args .text .now) (c .before .before .before .before .before .args .start) in
-    let s = c .before .before .before .before .before .args .indices .now in
+    let a = c .before .before .before .before .before in
+    let us = unitsFrom (a .args .text .now) (a .args .start) in
+    let s = a .args .indices .now in
     let e = c .first-cursor .ensures in (
       nothing,
       0,
       stands-start us s _ _ e,
-      ready-start us s _ _ e (omega (arith, c .before .before .before .before .before .pre .1 .0, c .before .before .before .before .before .pre .1 .1)) (c .before .before .before .before .before .pre .1 .2),
-      at-start us s _ _ e _ (c .before .before .before .before .before .pre .0),
-      sym (nothing-is us s _ _ (c .before .before .both .ensures) (c .before .before .before .before .before .pre .1 .0)) ∙ c .before .if1 .left,
+      ready-start us s _ _ e (omega (arith, a .pre .1 .0, a .pre .1 .1)) (a .pre .1 .2),
+      at-start us s _ _ e _ (a .pre .0),
+      sym (nothing-is us s _ _ (c .before .before .both .ensures) (a .pre .1 .0)) ∙ c .before .if1 .left,
     )
 
--- src/lib.rt:212:33
 sub-read-entry : tie.Need-sub-read-entry Inv-loop μ-loop
 sub-read-entry c = search needs
 
--- src/lib.rt:212:33
 part-read-entry-start : tie.Need-part-read-entry-start Inv-loop μ-loop
 part-read-entry-start c = search needs
 
--- src/lib.rt:212:33
 part-read-entry-end : tie.Need-part-read-entry-end Inv-loop μ-loop
 part-read-entry-end c = search needs
 
--- src/lib.rt:212:15
 read-entry-requires : tie.Need-read-entry-requires Inv-loop μ-loop
 read-entry-requires c κs = search needs
 
--- src/lib.rt:213:36
 enum-known-x : tie.Need-enum-known-x Inv-loop μ-loop
 enum-known-x c = search needs
 
--- src/lib.rt:213:48
 take-entry-requires : tie.Need-take-entry-requires Inv-loop μ-loop
 take-entry-requires c κs =
-    let us = unitsFrom (c .before .before .before .before .before .before .before .before .before .before .before .before .before .args .text .now) (c .before .before .before .before .before .before .before .before .before .before .before .before .before .args .start) in
-    let l = c .before .before .before .before .before .before .before .loop .inv in
-    let i = read-inside us (c .before .before .before .before .before .before .before .before .before .before .before .before .before .args .indices .now) (c .before .before .before .before .before .before .before .loop .c) _ (c .before .before .before .read-entry .ensures) _ (c .before .x .given .1) (c .before .before .before .before .before .if2 .taken) in
-    let n = at-length _ us (c .before .before .before .before .before .before .before .loop .c) (l .4) in
-    (at-decodes _ us (c .before .before .before .before .before .before .before .loop .c) (l .4), (omega (arith, n, l .3 .few-units, l .3 .inside), omega (arith, l .3 .number, l .3 .few-bytes, c .before .before .before .before .before .if2 .taken), l .3 .some, omega (arith, i, l .3 .few-bytes)))
+    let a = c .before .before .before .before .before .before .before .before .before .before .before .before .before in
+    let p = c .before .before .before .before .before .before .before in
+    let us = unitsFrom (a .args .text .now) (a .args .start) in
+    let l = p .loop .inv in
+    let i = read-inside us (a .args .indices .now) (p .loop .c) _ (c .before .before .before .read-entry .ensures) _ (c .before .x .given .1) (c .before .before .before .before .before .if2 .taken) in
+    let n = at-length _ us (p .loop .c) (l .4) in
+    (at-decodes _ us (p .loop .c) (l .4), (omega (arith, n, l .3 .few-units, l .3 .inside), omega (arith, l .3 .number, l .3 .few-bytes, c .before .before .before .before .before .if2 .taken), l .3 .some, omega (arith, i, l .3 .few-bytes)))
 
--- src/lib.rt:214:28
 enum-known-next : tie.Need-enum-known-next Inv-loop μ-loop
 enum-known-next c = search needs
 
--- src/lib.rt:210:5
 loop-less : tie.Need-loop-less Inv-loop μ-loop
 loop-less c =
     let l = c .before .before .before .before .before .before .before .before .before .before .before .loop .inv in
     let w = code-took _ _ _ _ (c .before .before .before .before .before .before .before .read-entry .ensures) _ _ _ (l .2) (l .3) (l .4) (c .before .before .before .before .before .before .before .before .before .if2 .taken) _ (c .before .before .before .before .before .before .before .before .before .before .before .before .before .before .before .before .before .pre .1 .0) _ (c .before .before .before .before .before .x .given .1) _ (c .before .before .before .take-entry .ensures) _ (c .before .next .given .1) .0 in
     omega (arith, w .further, w .ready .place)
 
--- src/lib.rt:210:5
 loop-again : tie.Need-loop-again Inv-loop μ-loop
 loop-again c =
     let l = c .before .before .before .before .before .before .before .before .before .before .before .loop .inv in
     let w = code-took _ _ _ _ (c .before .before .before .before .before .before .before .read-entry .ensures) _ _ _ (l .2) (l .3) (l .4) (c .before .before .before .before .before .before .before .before .before .if2 .taken) _ (c .before .before .before .before .before .before .before .before .before .before .before .before .before .before .before .before .before .pre .1 .0) _ (c .before .before .before .before .before .x .given .1) _ (c .before .before .before .take-entry .ensures) _ (c .before .next .given .1) in
     (_, w .0 .lack′, w .0 .stands, w .0 .ready, w .1, l .5)
 
--- src/lib.rt:217:31
 enum-known-r : tie.Need-enum-known-r Inv-loop μ-loop
 enum-known-r c = search needs
 
--- src/lib.rt:218:21
 returns-2 : tie.Need-returns-2 Inv-loop μ-loop
 returns-2 c =
-    let us = unitsFrom (c .before .before .before .before .before .before .before .before .before .before .before .before .before .before .before .before .before .args .text .now) (c .before .before .before .before .before .before .before .before .before .before .before .before .before .before .before .before .before .args .start) in
+    let a = c .before .before .before .before .before .before .before .before .before .before .before .before .before .before .before .before .before in
+    let us = unitsFrom (a .args .text .now) (a .args .start) in
     let l = c .before .before .before .before .before .before .before .before .before .before .before .loop .inv in
-    run-stop us (c .before .before .before .before .before .before .before .before .before .before .before .before .before .before .before .before .before .args .indices .now) _ _ (l .5)
-    (code-stopped _ _ _ _ (c .before .before .before .before .before .before .before .read-entry .ensures) _ _ _ (l .2) (l .3) (l .4) (c .before .before .before .before .before .before .before .before .before .if2 .taken) _ (c .before .before .before .before .before .before .before .before .before .before .before .before .before .before .before .before .before .pre .1 .0) _ (c .before .before .before .before .before .x .given .1) _ (c .before .before .before .take-entry .ensures) _ (c .before .r .given .1))
+    run-stop us (a .args .indices .now) _ _ (l .5)
+    (code-stopped _ _ _ _ (c .before .before .before .before .before .before .before .read-entry .ensures) _ _ _ (l .2) (l .3) (l .4) (c .before .before .before .before .before .before .before .before .before .if2 .taken) _ (a .pre .1 .0) _ (c .before .before .before .before .before .x .given .1) _ (c .before .before .before .take-entry .ensures) _ (c .before .r .given .1))
 
--- src/lib.rt:221:39
 enum-known-r-2 : tie.Need-enum-known-r-2 Inv-loop μ-loop
 enum-known-r-2 c = search needs
 
--- src/lib.rt:222:17
 returns-3 : tie.Need-returns-3 Inv-loop μ-loop
 returns-3 c =
-    let us = unitsFrom (c .before .before .before .before .before .before .before .before .before .before .before .before .before .args .text .now) (c .before .before .before .before .before .before .before .before .before .before .before .before .before .args .start) in
-    let s = c .before .before .before .before .before .before .before .before .before .before .before .before .before .args .indices .now in
-    let l = c .before .before .before .before .before .before .before .loop .inv in
+    let a = c .before .before .before .before .before .before .before .before .before .before .before .before .before in
+    let p = c .before .before .before .before .before .before .before in
+    let us = unitsFrom (a .args .text .now) (a .args .start) in
+    let s = a .args .indices .now in
+    let l = p .loop .inv in
     run-stop us s _ _ (l .5)
-    (turn-unread _ us s _ _ (c .before .before .before .before .before .before .before .loop .c) (l .2) (l .3) (l .4) (c .before .before .before .before .before .if2 .taken) _ (read-here us s (c .before .before .before .before .before .before .before .loop .c) _ (c .before .before .before .read-entry .ensures) _ (c .before .r2 .given .1)))
+    (turn-unread _ us s _ _ (p .loop .c) (l .2) (l .3) (l .4) (c .before .before .before .before .before .if2 .taken) _ (read-here us s (p .loop .c) _ (c .before .before .before .read-entry .ensures) _ (c .before .r2 .given .1)))
 
--- src/lib.rt:227:9
 refused-requires-2 : tie.Need-refused-requires-2 Inv-loop μ-loop
 refused-requires-2 c κs = search needs
 
--- src/lib.rt:227:9
 returns-4 : tie.Need-returns-4 Inv-loop μ-loop
 returns-4 c =
-    let us = unitsFrom (c .before .before .before .before .before .before .before .before .before .before .before .args .text .now) (c .before .before .before .before .before .before .before .before .before .before .before .args .start) in
+    let a = c .before .before .before .before .before .before .before .before .before .before .before in
+    let us = unitsFrom (a .args .text .now) (a .args .start) in
     let l = c .before .before .before .before .before .loop .inv in
     refused-outcome (c .refused2 .result) _ _ (c .refused2 .ensures)
-    ∙ run-stop us (c .before .before .before .before .before .before .before .before .before .before .before .args .indices .now) _ _ (l .5) (ends-open _ _ _ _ _ (l .2) (l .3) (c .before .before .before .if2 .left) (c .before .if3 .taken))
+    ∙ run-stop us (a .args .indices .now) _ _ (l .5) (ends-open _ _ _ _ _ (l .2) (l .3) (c .before .before .before .if2 .left) (c .before .if3 .taken))
 
--- src/lib.rt:229:5
 survey-tail-requires : tie.Need-survey-tail-requires Inv-loop μ-loop
 survey-tail-requires c κs =
-    let us = unitsFrom (c .before .before .before .before .before .before .before .before .before .before .args .text .now) (c .before .before .before .before .before .before .before .before .before .before .args .start) in
-    let l = c .before .before .before .before .loop .inv in
-    let n = at-length _ us (c .before .before .before .before .loop .c) (l .4) in
-    (at-decodes _ us (c .before .before .before .before .loop .c) (l .4), (omega (arith, n, l .3 .inside, c .before .before .before .before .before .before .before .before .before .before .pre .1 .0), c .before .before .before .before .before .before .before .before .before .before .pre .1 .1, omega (arith, l .3 .number, l .3 .place, l .3 .few-bytes), l .3 .some))
+    let a = c .before .before .before .before .before .before .before .before .before .before in
+    let p = c .before .before .before .before in
+    let us = unitsFrom (a .args .text .now) (a .args .start) in
+    let l = p .loop .inv in
+    let n = at-length _ us (p .loop .c) (l .4) in
+    (at-decodes _ us (p .loop .c) (l .4), (omega (arith, n, l .3 .inside, a .pre .1 .0), a .pre .1 .1, omega (arith, l .3 .number, l .3 .place, l .3 .few-bytes), l .3 .some))
 
--- src/lib.rt:200:1
 returns-5 : tie.Need-returns-5 Inv-loop μ-loop
 returns-5 c =
-    let us = unitsFrom (c .before .before .before .before .before .before .before .before .before .before .before .args .text .now) (c .before .before .before .before .before .before .before .before .before .before .before .args .start) in
-    let l = c .before .before .before .before .before .loop .inv in
-    c .survey-tail .ensures
-    ∙ ap (λ (n : ℕ). countedFrom n (c .before .before .before .before .before .loop .c .clusters) (c .before .before .before .before .before .loop .c .entry) (tail (c .before .before .before .before .before .loop .c .unit) (unitsFrom (c .before .before .before .before .before .before .before .before .before .before .before .args .text .now) (c .before .before .before .before .before .loop .c .byte)))) (c .before .before .before .before .before .before .before .before .before .before .before .pre .1 .0)
-    ∙ run-tail us (c .before .before .before .before .before .before .before .before .before .before .before .args .indices .now) _ _ (c .before .before .before .before .before .loop .c) _ (l .2) (l .3) (l .4) (c .before .before .before .if2 .left) (c .before .if3 .left) (l .5)
+    let a = c .before .before .before .before .before .before .before .before .before .before .before in
+    let p = c .before .before .before .before .before in
+    let us = unitsFrom (a .args .text .now) (a .args .start) in
+    let l = p .loop .inv in
+    c .survey-tail .ensures ∙ run-tail us (a .args .indices .now) _ (a .pre .1 .0) _ _ (p .loop .c) _ (l .2) (l .3) (l .4) (c .before .before .before .if2 .left) (c .before .if3 .left) (l .5)
 
 pub survey-run-spec : {M : Type 1} → statement M
 survey-run-spec =

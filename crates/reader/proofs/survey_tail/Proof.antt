@@ -1,53 +1,42 @@
-use Rattle.reader.proofs.Endings.{tail-plain, tail-pair}
-use mathlib.Core.Path.{sym, _∙_}
+use mathlib.Core.Path.{_∙_}
 use borrow.Author.Needs.{needs}
+use Rattle.reader.proofs.Endings.{tail-plain, tail-pair}
 use Rattle.reader.proofs.survey_tail.Statement.{statement}
 use Rattle.reader.proofs.survey_tail.Tie as tie
-use Rattle.reader.proofs.survey_tail.Reads as reads
-use Rattle.reader.proofs.survey_tail.Lts as lts
-use Rattle.reader.proofs.find_pair.Reads as find-pair-reads
-use Rattle.reader.proofs.limit.Reads as limit-reads
-use Rattle.reader.proofs.refused.Reads as refused-reads
 
--- src/lib.rt:174:11
 find-pair-requires : tie.Need-find-pair-requires
 find-pair-requires c κs = search needs
 
--- src/lib.rt:176:24
 enum-told : tie.Need-enum-told
 enum-told c = search needs
 
--- src/lib.rt:176:24
 sub-rest : tie.Need-sub-rest
 sub-rest c = search needs
 
--- src/lib.rt:177:26
 add-limit : tie.Need-add-limit
 add-limit c = search needs
 
--- src/lib.rt:177:45
 add-limit-2 : tie.Need-add-limit-2
 add-limit-2 c = search needs
 
--- src/lib.rt:177:13
 limit-requires : tie.Need-limit-requires
 limit-requires c κs = search needs
 
--- src/lib.rt:179:20
 enum-known-unit : tie.Need-enum-known-unit
 enum-known-unit c = search needs
 
--- src/lib.rt:179:29
 refused-requires : tie.Need-refused-requires
 refused-requires c κs = search needs
 
--- src/lib.rt:169:1
 returns : tie.Need-returns
-returns c = c .limit .ensures ∙ tail-plain (c .before .before .before .before .before .before .before .before .args .text .now) _ (c .before .before .before .before .before .before .before .before .args .c) _ (c .before .before .before .before .before .before .find-pair .ensures) (c .before .before .before .before .enum-told .given .1) (c .before .before .before .before .before .before .before .before .pre .1 .0)
+returns c =
+    let a = c .before .before .before .before .before .before .before .before in
+    c .limit .ensures ∙ tail-plain (a .args .text .now) _ (a .args .c) _ (c .before .before .before .before .before .before .find-pair .ensures) (c .before .before .before .before .enum-told .given .1) (a .pre .1 .0)
 
--- src/lib.rt:169:1
 returns-2 : tie.Need-returns-2
-returns-2 c = tail-pair (c .before .before .before .before .before .before .args .text .now) _ (c .before .before .before .before .before .before .args .c) _ _ _ (c .before .before .before .before .find-pair .ensures) (c .before .before .unit .given .1) (c .refused .ensures)
+returns-2 c =
+    let a = c .before .before .before .before .before .before in
+    tail-pair (a .args .text .now) _ (a .args .c) _ _ _ (c .before .before .before .before .find-pair .ensures) (c .before .before .unit .given .1) (c .refused .ensures)
 
 pub survey-tail-spec : {M : Type 1} → statement M
 survey-tail-spec =

@@ -1,85 +1,62 @@
 use mathlib.Core.Bool.{not}
-use Rattle.reader.proofs.Placing.{turn-ten, turn-eleven, turn-opens, turn-further, allowed-is}
-use mathlib.Core.Bool.{_||_, _&&_, not, Bool}
-use mathlib.Core.Path.{sym, _∙_, ap}
-use Rattle.reader.proofs.Placing.{turn-ten, turn-eleven, turn-opens, turn-further}
-use borrow.Author.Tests.{not-true, not-false}
 use mathlib.Core.Path.{sym, _∙_}
 use borrow.Author.Needs.{needs}
+use borrow.Author.Tests.{not-true, not-false}
+use Rattle.reader.proofs.Placing.{turn-ten, turn-eleven, turn-opens, turn-further, allowed-is}
 use Rattle.reader.proofs.take_entry.Statement.{statement}
 use Rattle.reader.proofs.take_entry.Tie as tie
-use Rattle.reader.proofs.take_entry.Reads as reads
-use Rattle.reader.proofs.take_entry.Lts as lts
-use Rattle.reader.proofs.advance.Reads as advance-reads
-use Rattle.reader.proofs.is_named.Reads as is-named-reads
-use Rattle.reader.proofs.open_cluster.Reads as open-cluster-reads
-use Rattle.reader.proofs.stopped.Reads as stopped-reads
-use Rattle.words.proofs.both.Reads as both-reads
-use Rattle.words.proofs.either.Reads as either-reads
 
--- src/lib.rt:101:9
 both-requires : tie.Need-both-requires
 both-requires c κs = search needs
 
--- src/lib.rt:102:9
 stopped-requires : tie.Need-stopped-requires
 stopped-requires c κs = search needs
 
--- src/lib.rt:102:9
 returns : tie.Need-returns
 returns c = turn-ten _ _ _ _ _ (c .stopped .ensures) (sym (c .before .before .both .ensures) ∙ not-true _ (c .before .if1 .taken))
 
--- src/lib.rt:104:9
 both-requires-2 : tie.Need-both-requires-2
 both-requires-2 c κs = search needs
 
--- src/lib.rt:107:40
 is-named-requires : tie.Need-is-named-requires
 is-named-requires c κs = search needs
 
--- src/lib.rt:107:9
 both-requires-3 : tie.Need-both-requires-3
 both-requires-3 c κs = search needs
 
--- src/lib.rt:108:9
 either-requires : tie.Need-either-requires
 either-requires c κs = search needs
 
--- src/lib.rt:109:9
 stopped-requires-2 : tie.Need-stopped-requires-2
 stopped-requires-2 c κs = search needs
 
--- src/lib.rt:109:9
 returns-2 : tie.Need-returns-2
 returns-2 c =
     let allowed = allowed-is _ _ _ _ _ (not (c .before .before .before .before .before .before .before .before .before .before .before .before .before .before .args .x .mapped)) _ (c .before .before .either .ensures) (c .before .before .before .before .before .before .before .both2 .ensures) (c .before .before .before .both3 .ensures) (c .before .before .before .before .is-named .ensures) in
     turn-eleven _ _ _ _ _ (c .stopped2 .ensures) (sym (c .before .before .before .before .before .before .before .before .before .before .both .ensures) ∙ not-false _ (c .before .before .before .before .before .before .before .before .before .if1 .left)) (sym allowed ∙ not-true _ (c .before .if2 .taken))
 
--- src/lib.rt:111:17
 add-place : tie.Need-add-place
 add-place c = search needs
 
--- src/lib.rt:111:17
 add-place-2 : tie.Need-add-place-2
 add-place-2 c = search needs
 
--- src/lib.rt:113:9
 open-cluster-requires : tie.Need-open-cluster-requires
-open-cluster-requires c κs = (c .before .before .before .before .before .before .before .before .before .before .before .before .before .before .before .before .pre .0, (c .before .before .before .before .before .before .before .before .before .before .before .before .before .before .before .before .pre .1 .0, c .before .before .before .before .before .before .before .before .before .before .before .before .before .before .before .before .pre .1 .1, c .before .before .before .before .before .before .before .before .before .before .before .before .before .before .before .before .pre .1 .2))
+open-cluster-requires c κs =
+    let a = c .before .before .before .before .before .before .before .before .before .before .before .before .before .before .before .before in
+    (a .pre .0, (a .pre .1 .0, a .pre .1 .1, a .pre .1 .2))
 
--- src/lib.rt:113:9
 returns-3 : tie.Need-returns-3
 returns-3 c = turn-opens _ _ _ _ _ (c .open-cluster .ensures) (sym (c .before .before .before .before .before .before .before .before .before .before .before .before .before .both .ensures) ∙ not-false _ (c .before .before .before .before .before .before .before .before .before .before .before .before .if1 .left)) (sym (c .before .before .before .before .before .before .before .before .before .before .both2 .ensures) ∙ c .before .if3 .taken)
 
--- src/lib.rt:115:16
 advance-requires : tie.Need-advance-requires
 advance-requires c κs = search needs
 
--- src/lib.rt:96:1
 returns-4 : tie.Need-returns-4
 returns-4 c =
-    let allowed = allowed-is _ _ _ _ _ (not (c .before .before .before .before .before .before .before .before .before .before .before .before .before .before .before .before .before .args .x .mapped)) _ (c .before .before .before .before .before .either .ensures) (c .before .before .before .before .before .before .before .before .before .before .both2 .ensures) (c .before .before .before .before .before .before .both3 .ensures) (c .before .before .before .before .before .before .before .is-named .ensures) in
-    turn-further _ _ _ _ _ (c .advance .ensures) (c .before .before .before .before .before .before .before .before .before .before .before .before .before .before .before .before .before .pre .0) (sym (c .before .before .before .before .before .before .before .before .before .before .before .before .before .both .ensures) ∙ not-false _ (c .before .before .before .before .before .before .before .before .before .before .before .before .if1 .left)) (sym allowed ∙ not-false _ (c .before .before .before .before .if2 .left)) (sym (c .before .before .before .before .before .before .before .before .before .before .both2 .ensures) ∙ c .before .if3 .left)
+    let a = c .before .before .before .before .before .before .before .before .before .before .before .before .before .before .before .before .before in
+    let allowed = allowed-is _ _ _ _ _ (not (a .args .x .mapped)) _ (c .before .before .before .before .before .either .ensures) (c .before .before .before .before .before .before .before .before .before .before .both2 .ensures) (c .before .before .before .before .before .before .both3 .ensures) (c .before .before .before .before .before .before .before .is-named .ensures) in
+    turn-further _ _ _ _ _ (c .advance .ensures) (a .pre .0) (sym (c .before .before .before .before .before .before .before .before .before .before .before .before .before .both .ensures) ∙ not-false _ (c .before .before .before .before .before .before .before .before .before .before .before .before .if1 .left)) (sym allowed ∙ not-false _ (c .before .before .before .before .if2 .left)) (sym (c .before .before .before .before .before .before .before .before .before .before .both2 .ensures) ∙ c .before .if3 .left)
 
 pub take-entry-spec : {M : Type 1} → statement M
 take-entry-spec =

@@ -1,19 +1,13 @@
-use borrow.Author.Needs.{needs}
 use borrow.Author.Tests.{eq-eqb, ne-eqb}
 use Rattle.reader.proofs.taken.Statement.{statement}
 use Rattle.reader.proofs.taken.Tie as tie
-use Rattle.reader.proofs.taken.Reads as reads
-use Rattle.reader.proofs.taken.Lts as lts
 
--- src/lib.rt:328:9
 returns : tie.Need-returns
 returns c = rw (ne-eqb (c .before .args .lack) 0 (c .if1 .taken))
 
--- src/lib.rt:324:1
 returns-2 : tie.Need-returns-2
 returns-2 c = rw (eq-eqb (c .before .before .args .lack) 0 (c .before .if1 .left), eq-eqb (c .before .before .args .count) 0 (c .if2 .taken))
 
--- src/lib.rt:324:1
 returns-3 : tie.Need-returns-3
 returns-3 c = rw (eq-eqb (c .before .before .args .lack) 0 (c .before .if1 .left), ne-eqb (c .before .before .args .count) 0 (c .if2 .left))
 

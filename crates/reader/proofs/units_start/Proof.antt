@@ -1,32 +1,23 @@
-use Rattle.reader.proofs.Calls.{start-short, start-marked, start-plain}
 use borrow.Author.Needs.{needs}
+use Rattle.reader.proofs.Calls.{start-short, start-marked, start-plain}
 use Rattle.reader.proofs.units_start.Statement.{statement}
 use Rattle.reader.proofs.units_start.Tie as tie
-use Rattle.reader.proofs.units_start.Reads as reads
-use Rattle.reader.proofs.units_start.Lts as lts
-use Rattle.words.proofs.both.Reads as both-reads
 
--- src/lib.rt:341:9
 returns : tie.Need-returns
 returns c = start-short _ (c .if1 .taken)
 
--- src/lib.rt:343:20
 shared-slice-read-both : tie.Need-shared-slice-read-both
 shared-slice-read-both c = search needs
 
--- src/lib.rt:343:37
 shared-slice-read-both-2 : tie.Need-shared-slice-read-both-2
 shared-slice-read-both-2 c = search needs
 
--- src/lib.rt:343:8
 both-requires : tie.Need-both-requires
 both-requires c κs = search needs
 
--- src/lib.rt:337:1
 returns-2 : tie.Need-returns-2
 returns-2 c = start-marked _ _ (c .before .both .ensures) (c .if2 .taken)
 
--- src/lib.rt:337:1
 returns-3 : tie.Need-returns-3
 returns-3 c = start-plain _ _ (c .before .both .ensures) (c .if2 .left)
 

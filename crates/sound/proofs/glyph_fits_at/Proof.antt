@@ -1,4 +1,4 @@
-use Rattle.sound.specs.Sounds.{glyphAt}
+use Rattle.words.specs.Places.{glyphAt}
 use borrow.Author.Needs.{needs}
 use Rattle.sound.proofs.glyph_fits_at.Statement.{statement}
 use Rattle.sound.proofs.glyph_fits_at.Tie as tie
