@@ -5,12 +5,12 @@ use mathlib.Core.List.{List, [], _∷_}
 use Prim.Native.Nat.{ℕ, zero, suc, _+_, _-_, _*_, _/_, _≤_}
 use native.Mathlib.Omega.{arith}
 use borrow.Author.Tests.{leb-true}
-use lib.Dec.{leb, ltb, eqb}
+use lib.Dec.{leb, ltb}
 use lib.IntN.{ℤ}
 use lib.ListN.{length, length-drop}
 use Rattle.label.specs.Limits.{maxTextBytes, maxIndicesBytes, maxUnits, maxGlyphs, maxIndex}
 use Rattle.label.specs.Outcome.{Outcome, ok, no, need, _>>=_, _>>_}
-use Rattle.label.specs.Bytes.{empty, value, onFirst, split}
+use Rattle.label.specs.Bytes.{empty, value}
 use Rattle.label.specs.Text.{lead, starts, scalar, xmlChar, decode, braced, marked, unmarked, textUnits}
 use Rattle.label.specs.Entry.{part, indexDigits, wellFormed, fieldFits, Entry, entry, entries}
 use Rattle.label.specs.Run.{Run, whole, tail, State, start, opens, takes, allowed, next, placed, step, walk, runFrom, read}
@@ -23,14 +23,13 @@ use Rattle.label.specs.declared.Cluster.{Cluster}
 use Rattle.label.specs.declared.Counts.{Counts}
 use Rattle.label.specs.declared.Stretch.{Stretch}
 use Rattle.label.proofs.Basics.{and-l, and-r, cases, no-ok}
-use Rattle.label.proofs.Splits.{split-nil, split-hit, split-miss}
-use Rattle.label.proofs.Texts.{text-back, proper-first}
-use Rattle.label.proofs.Walks.{step-ok, ok-path, indices-back}
-use Rattle.label.proofs.Sounds.{text-ok, SoundRun, sound-parts, read-sound}
+use Rattle.label.proofs.Splits.{split-length}
+use Rattle.label.proofs.Walks.{step-ok, ok-path}
+use Rattle.label.proofs.Sizes.{sound-roomy, sound-short}
+use Rattle.label.proofs.Sounds.{text-ok, read-sound}
 use Rattle.sound.specs.Sounds.{unitSum}
 use Rattle.sound.proofs.Facts.{few-units, few-glyphs, units-add-up, glyphs-add-up}
 use Rattle.glyph_label.specs.Runs.{pickBytes, ReadingFits, WritingFits, StretchFits}
-use Rattle.glyph_label.proofs.Sizes.{fits-few}
 
 -- ── the places of 1 to 15 ──
 
@@ -113,16 +112,6 @@ module _ (k : ℕ) where
       (λ _. bind-placed (walk (empty us) (start us) (entries indices)) _ (walk-placed (entries indices) (empty us) (start us) (omega arith) (omega arith) (omega arith))
       (λ p _. need-placed (leb (length (p .glyphs)) maxGlyphs) 15 0 _ (omega arith) (omega arith) (λ _. fine)))
 
-first-length : (b : ℕ) (l : List (List ℕ)) → length (onFirst b l) ≤ suc (length l)
-first-length b [] = omega arith
-first-length b (x ∷ l) = omega arith
-
-split-length : (c : ℕ) (s : List ℕ) → length (split c s) ≤ suc (length s)
-split-length c [] = rw (split-nil c) (omega arith)
-split-length c (b ∷ s) =
-    let h = split-length c s in
-    cases (eqb b c) (λ t. rw (split-hit c b s t) (omega arith)) (λ t. rw (split-miss c b s t) (omega (arith, first-length b (split c s))))
-
 entries-length : (s : List ℕ) → length (entries s) ≤ suc (length s)
 unfolding entries
 entries-length [] = omega arith
@@ -151,9 +140,8 @@ counts-few text indices n h = go (read text indices) refl h
     go : (o : Outcome Run) → read text indices ≡ o → counted o ≡ ok n → (n .units ≤ 4096) × (n .clusters ≤ 4096) × (n .glyphs ≤ 4096)
     go (no m p) e q = no-ok m p n q
     go (ok r) e q =
-        let s : SoundRun r = sound-parts r (read-sound text indices r e) in
-        let c = fits-few (empty (r .units)) 0 (r .units) (r .clusters) (r .glyphs) (s .fit) in
-        rw (← ok-path (counts r) n q) (s .few-units, omega (arith, s .few-glyphs), s .few-glyphs)
+        let s = sound-roomy r (read-sound text indices r e) in
+        rw (← ok-path (counts r) n q) (s .for-units, omega (arith, s .for-clusters), omega (arith, s .for-glyphs))
 
 pub reading-fits : (u c g : ℕ) (text indices : List ℕ) → ReadingFits (counted (readBytes u c g text indices))
 unfolding readBytes readInto
@@ -177,10 +165,8 @@ written-short : (us : List ℕ) (cs gs : List ℤ) → sound us cs gs ≡ true
     → (length (normal (runOf us cs gs) .text) ≤ 16384) × (length (normal (runOf us cs gs) .indices) ≤ 262144)
 unfolding sound
 written-short us cs gs h =
-    let s : SoundRun (runOf us cs gs) = sound-parts (runOf us cs gs) (and-r (wholeClusters cs && wholeGlyphs gs) (soundRun (runOf us cs gs)) h) in (
-      text-back us (s .proper) .short (s .few-units),
-      indices-back (empty us) us (clustersOf cs) (glyphsOf gs) (proper-first us (s .proper)) (s .few-units) (s .few-glyphs) (s .fit) .short,
-    )
+    let s = sound-short (runOf us cs gs) (and-r (wholeClusters cs && wholeGlyphs gs) (soundRun (runOf us cs gs)) h) in
+    (s .for-text, s .for-indices)
 
 pub writing-fits : (t i : ℕ) (us cs gs : List ℕ) → WritingFits (lengths (writeBytes t i us cs gs))
 unfolding writeBytes writeInto write

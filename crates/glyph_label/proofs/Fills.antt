@@ -1,6 +1,6 @@
 -- A reading into bytes: one law for each return. Assumes nothing.
 use mathlib.Core.Path.{_≡_, refl, sym, ap, _∙_}
-use mathlib.Core.List.{List, [], _∷_}
+use mathlib.Core.List.{List}
 use Prim.Native.Nat.{ℕ, _*_, _/_, _<_, _≤_}
 use native.Mathlib.Nat.{le-trans, mul-le-mul-left, min-le-left}
 use native.Mathlib.Omega.{arith}
@@ -14,12 +14,11 @@ use Rattle.label.specs.Run.{Run, read}
 use Rattle.label.specs.Sound.{flatClusters, flatGlyphs}
 use Rattle.label.specs.Calls.{refusal, readingOutcome, readInto, counts, counted, filled, unitsAfter, clustersAfter, glyphsAfter}
 use Rattle.label.specs.Wire.{fromHalves, fromWords, readBytes, unitBytesAfter, clusterBytesAfter, glyphBytesAfter}
-use Rattle.label.specs.declared.Cluster.{Cluster}
-use Rattle.label.specs.declared.Glyph.{Glyph}
 use Rattle.label.specs.declared.Counts.{Counts}
 use Rattle.label.specs.declared.Refusal.{Refusal}
 use Rattle.label.specs.declared.Reading.{Reading}
 use Rattle.label.specs.declared.Reading.the-variants.{Read, Refused}
+use Rattle.label.proofs.Parts.{length-clusters, length-glyphs}
 use Rattle.label.proofs.Basics.{no-ok}
 use Rattle.label.proofs.Walks.{ok-path}
 use Rattle.glyph_label.specs.Runs.{Accepted, ReadBytes}
@@ -32,16 +31,6 @@ part-count {n = n} l m e h = sym (length-take-le n l (omega arith))
 pub part-room : {A : Type 0} (k n : ℕ) (l : List A) {room : ℕ} → k * n ≤ room → k * length (take n l) ≤ room
 part-room k n l h = le-trans (mul-le-mul-left k (rw (length-take n l) (min-le-left n (length l)))) h
 
-clusters-length : (cs : List Cluster) → length (flatClusters cs) ≡ 2 * length cs
-unfolding flatClusters
-clusters-length [] = refl
-clusters-length (c ∷ cs) = omega (arith, clusters-length cs)
-
-glyphs-length : (gs : List Glyph) → length (flatGlyphs gs) ≡ 4 * length gs
-unfolding flatGlyphs
-glyphs-length [] = refl
-glyphs-length (g ∷ gs) = omega (arith, glyphs-length gs)
-
 units-stored : (o : Outcome Run) (n : Counts) → counted o ≡ ok n → (us u : List ℕ) → filled (fromHalves (take (n .units) (unitsAfter o us))) u ≡ unitBytesAfter o u
 units-stored (no m p) n h us u = no-ok m p n h
 units-stored (ok r) n h us u = rw (← ok-path (counts r) n h, take-at (r .units) (drop (length (r .units)) us) (length (r .units)) refl)
@@ -50,13 +39,13 @@ clusters-stored : (o : Outcome Run) (n : Counts) → counted o ≡ ok n → (cs 
 clusters-stored (no m p) n h cs c = no-ok m p n h
 clusters-stored (ok r) n h cs c =
     let w = flatClusters (r .clusters) in
-    rw (← ok-path (counts r) n h, take-at w (drop (length w) cs) (2 * length (r .clusters)) (clusters-length (r .clusters)))
+    rw (← ok-path (counts r) n h, take-at w (drop (length w) cs) (2 * length (r .clusters)) (length-clusters (r .clusters)))
 
 glyphs-stored : (o : Outcome Run) (n : Counts) → counted o ≡ ok n → (gs : List ℤ) (g : List ℕ) → filled (fromWords (take (4 * n .glyphs) (glyphsAfter o gs))) g ≡ glyphBytesAfter o g
 glyphs-stored (no m p) n h gs g = no-ok m p n h
 glyphs-stored (ok r) n h gs g =
     let w = flatGlyphs (r .glyphs) in
-    rw (← ok-path (counts r) n h, take-at w (drop (length w) gs) (4 * length (r .glyphs)) (glyphs-length (r .glyphs)))
+    rw (← ok-path (counts r) n h, take-at w (drop (length w) gs) (4 * length (r .glyphs)) (length-glyphs (r .glyphs)))
 
 pub run-stored : (o : Outcome Run) (n : Counts) (us : List ℕ) (cs gs : List ℤ) (u c g : List ℕ) {us′ : List ℕ} {cs′ gs′ : List ℤ} {u′ c′ g′ : List ℕ} → counted o ≡ ok n
     → us′ ≡ unitsAfter o us → cs′ ≡ clustersAfter o cs → gs′ ≡ glyphsAfter o gs

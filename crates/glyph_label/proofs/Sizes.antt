@@ -1,24 +1,19 @@
 -- How many numbers a run handed in as bytes has, and the arrays that hold them. Assumes nothing.
 use mathlib.Core.Path.{_≡_, refl, sym, _∙_}
-use mathlib.Core.Bool.{Bool, true, false, _&&_, false≢true}
+use mathlib.Core.Bool.{true, false, _&&_, false≢true}
 use mathlib.Core.List.{List, [], _∷_}
-use Prim.Native.Nat.{ℕ, zero, suc, _-_, _*_, _/_, _%_, _≤_}
+use Prim.Native.Nat.{ℕ, suc, _*_, _/_, _%_, _≤_}
 use native.Mathlib.Omega.{arith}
 use borrow.Author.Tests.{le-leb, leb-true}
 use lib.Dec.{leb, eqb}
 use lib.IntN.{ℤ}
-use lib.ListN.{length, drop}
-use Rattle.label.specs.Bytes.{empty}
-use Rattle.label.specs.Run.{named}
-use Rattle.label.specs.Sound.{natural, choice, glyphFits, mayOpen, wholeClusters, wholeGlyphs, clustersOf, glyphsOf, fits, soundRun, runOf, sound}
+use lib.ListN.{length}
+use Rattle.label.specs.Sound.{natural, choice, wholeClusters, wholeGlyphs, clustersOf, glyphsOf, soundRun, runOf, sound}
 use Rattle.label.specs.Wire.{halves, words, evenBytes, wordBytes, noLeftOver}
-use Rattle.label.specs.declared.Cluster.{Cluster}
-use Rattle.label.specs.declared.Glyph.{Glyph}
 use Rattle.label.specs.declared.Counts.{Counts}
+use Rattle.label.proofs.Sizes.{sound-roomy}
 use Rattle.label.proofs.Basics.{and-l, and-r, cases, clash}
-use Rattle.label.proofs.Sounds.{SoundRun, sound-parts}
 use Rattle.words.proofs.Packs.{halves-length, words-length}
-use Rattle.sound.proofs.Facts.{few-units, few-glyphs}
 use Rattle.glyph_label.specs.Runs.{within, wholeBytes, mayBeSound, Holds}
 
 -- ── arrays ──
@@ -64,16 +59,7 @@ word-is (a ∷ b ∷ c ∷ d ∷ s) = let e : suc (suc (suc (suc (length s)))) %
 pub whole-is : (us cs gs : List ℕ) → wholeBytes (length us) (length cs) (length gs) ≡ noLeftOver us cs gs
 whole-is us cs gs = rw (even-is us, word-is cs, word-is gs)
 
--- ── a sound run has no more clusters than glyphs, and no more numbers than the large arrays hold ──
-
-pub fits-few : (bare : Bool) (lack : ℕ) (us : List ℕ) (cs : List Cluster) (gs : List Glyph) → fits bare lack us cs gs ≡ true → length cs ≤ length gs
-unfolding fits
-fits-few bare lack us [] gs e = omega arith
-fits-few bare lack us (c ∷ cs) [] e = clash false (and-r (eqb lack 0) false (and-l (eqb lack 0 && false) (empty us) e)) refl
-fits-few bare (suc n) us (c ∷ cs) (g ∷ gs) e =
-    let h = fits-few bare n us (c ∷ cs) gs (and-r (glyphFits g && named (g .index)) _ e) in omega arith
-fits-few bare zero us (c ∷ cs) (g ∷ gs) e =
-    let h = fits-few bare (c .glyphs - 1) (drop (c .units) us) cs gs (and-r (glyphFits g && mayOpen bare us c g) _ e) in omega arith
+-- ── a sound run has no more numbers than the large arrays hold ──
 
 cluster-numbers : (zs : List ℤ) → wholeClusters zs ≡ true → length zs ≡ 2 * length (clustersOf zs)
 unfolding wholeClusters clustersOf
@@ -93,11 +79,10 @@ sound-within : (us : List ℕ) (cs gs : List ℤ) → sound us cs gs ≡ true �
 unfolding sound
 sound-within us cs gs h =
     let w : (wholeClusters cs && wholeGlyphs gs) ≡ true = and-l (wholeClusters cs && wholeGlyphs gs) (soundRun (runOf us cs gs)) h in
-    let s : SoundRun (runOf us cs gs) = sound-parts (runOf us cs gs) (and-r (wholeClusters cs && wholeGlyphs gs) (soundRun (runOf us cs gs)) h) in
+    let s = sound-roomy (runOf us cs gs) (and-r (wholeClusters cs && wholeGlyphs gs) (soundRun (runOf us cs gs)) h) in
     let c = cluster-numbers cs (and-l (wholeClusters cs) (wholeGlyphs gs) w) in
     let g = glyph-numbers gs (and-r (wholeClusters cs) (wholeGlyphs gs) w) in
-    let f = fits-few (empty us) 0 us (clustersOf cs) (glyphsOf gs) (s .fit) in
-    held 4096 (length us) (length cs) (length gs) (s .few-units) (omega (arith, s .few-glyphs)) (omega (arith, s .few-glyphs))
+    held 4096 (length us) (length cs) (length gs) (s .for-units) (omega (arith, s .for-clusters)) (omega (arith, s .for-glyphs))
 
 -- bytes beyond the large arrays, or left over: no sound run
 pub beyond : (us cs gs : List ℕ)
