@@ -9,12 +9,10 @@ use Rattle.entry.specs.declared.Thousandths.{Thousandths}
 use Rattle.entry.proofs.advance_of.Statement.{statement}
 use Rattle.entry.proofs.advance_of.Tie as tie
 
--- (ours)
 own : (z : Thousandths) → Own ≡ advanceChoice false z
 own (Of v) = refl
 own Over = refl
 
--- (end)
 
 enum-known-z : tie.Need-enum-known-z
 enum-known-z c = search needs
