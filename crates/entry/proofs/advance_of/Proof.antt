@@ -13,7 +13,6 @@ own : (z : Thousandths) → Own ≡ advanceChoice false z
 own (Of v) = refl
 own Over = refl
 
-
 enum-known-z : tie.Need-enum-known-z
 enum-known-z c = search needs
 
