@@ -195,6 +195,60 @@ pub within-chain : (x y z : Thousandths) {a b c q r : Bool} → a ≡ within x �
 unfolding Fit
 within-chain x y z e1 e2 e3 e4 e5 = rw (← e1, ← e2, ← e3, ← e4) e5
 
+-- ── an entry with one field ──
+
+-- what the code then tests for 7
+unfoldable pub OneWell : List ℕ → Front → Field → Bool
+OneWell s f x = (f .ok && (x .ok && not (x .negative))) && ends isSemi (drop (f .used + x .used) s)
+
+pub one-chain : (s : List ℕ) (f : Front) (x : Field) {a g e r : Bool} → a ≡ (x .ok && not (x .negative)) → g ≡ (f .ok && a)
+    → e ≡ ends isSemi (drop (f .used + x .used) s) → r ≡ (g && e) → r ≡ OneWell s f x
+unfolding OneWell
+one-chain s f x e1 e2 e3 e4 = rw (← e1, ← e2, ← e3) e4
+
+module _ (k : ℕ) (s : List ℕ) (f : Front) (ef : f ≡ frontOf s) (x : Field) (ex : x ≡ fieldOf (drop (f .used) s))
+    (h : headOf (drop (f .used + x .used) s) ≡ 44 → ⊥) (bound : f .used + x .used ≤ length s) where
+  one-y : notGiven 0 ≡ fieldOf (drop (f .used + x .used) s)
+  one-y = code-absent s (f .used + x .used) h
+
+  one-z : notGiven 0 ≡ fieldOf (drop (f .used + x .used + 0) s)
+  one-z = rw (add-zero (f .used + x .used)) one-y
+
+  one-sum : f .used + x .used + 0 + 0 ≡ f .used + x .used
+  one-sum = omega arith
+
+  one-bound : f .used + x .used + 0 + 0 ≤ length s
+  one-bound = rw one-sum bound
+
+  one-well : Well s f x (notGiven 0) (notGiven 0) ≡ OneWell s f x
+  unfolding Well OneWell
+  one-well = rw (one-sum, and-true)
+
+  pub one-wrong : OneWell s f x ≡ false → Refused (refusal 7 k) ≡ entryRead (length (here s)) (entry k (here s))
+  one-wrong w = code-wrong k s f ef x ex (notGiven 0) one-y (notGiven 0) one-z one-bound (one-well ∙ w)
+
+  module _ (w : OneWell s f x ≡ true) where
+    pub one-index : maxIndex < f .index → Refused (refusal 8 k) ≡ entryRead (length (here s)) (entry k (here s))
+    one-index l = code-index k s f ef x ex (notGiven 0) one-y (notGiven 0) one-z one-bound (one-well ∙ w) l
+
+    module _ (l : f .index ≤ maxIndex) where
+      pub one-limit : within (x .size) ≡ false → Refused (refusal 9 k) ≡ entryRead (length (here s)) (entry k (here s))
+      unfolding Fit
+      one-limit n = code-limits k s f ef x ex (notGiven 0) one-y (notGiven 0) one-z one-bound (one-well ∙ w) l (rw n)
+
+      pub one-read : within (x .size) ≡ true → (i : Index) → i ≡ indexChoice (f .named) (f .index) → (a : Advance) → a ≡ advanceChoice (x .given) (x .size)
+          → Read (record {
+            mapped = f .mapped;
+            units = f .units;
+            glyphs = f .glyphs;
+            glyph = record { index = i; advance = a; u = pos 0; v = pos 0 };
+            used = f .used + x .used;
+          }) ≡ entryRead (length (here s)) (entry k (here s))
+      unfolding Fit
+      one-read n i ei a ea =
+          rw (← one-sum)
+          (code-read k s f ef x ex (notGiven 0) one-y (notGiven 0) one-z one-bound (one-well ∙ w) l (rw n) i ei a ea (pos 0) (pos 0) refl refl)
+
 -- ── an entry without fields ──
 
 module _ (k : ℕ) (s : List ℕ) (f : Front) (ef : f ≡ frontOf s) (h : headOf (drop (f .used) s) ≡ 44 → ⊥) (bound : f .used ≤ length s) where

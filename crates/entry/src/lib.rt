@@ -566,6 +566,40 @@ fn offset_of(negative: bool, z: Thousandths) -> i32
 
 // ── an entry ──
 
+// An entry with the field x behind its front and no field more.
+fn read_advance(s: &[u8], k: usize, f: Front, x: Field) -> EntryRead
+    requires { ⌜ (f ≡ frontOf (now s)) × (x ≡ fieldOf (drop (f .used) (now s))) × (f .used + x .used ≤ length (now s)) ⌝ }
+    requires no_more { ⌜ (headOf (drop (f .used + x .used) (now s)) ≡ 44 → ⊥) ⌝ }
+    ensures { λ r. ⌜ r ≡ entryRead (length (here (now (s .entry)))) (entry k (here (now (s .entry)))) ⌝ }
+{
+    let end = f.used + x.used;
+    let field = words::both(x.ok, !x.negative);
+    let ok = words::both(words::both(f.ok, field), ends_at(s, end));
+    if !ok {
+        return refuse(7, k);
+    }
+    if Limits::INDEX < f.index {
+        return refuse(8, k);
+    }
+    let advance = x.size;
+    if !is_within(advance) {
+        return refuse(9, k);
+    }
+    let glyph = Glyph {
+        index: index_of(f.named, f.index),
+        advance: advance_of(x.given, advance),
+        u: 0,
+        v: 0,
+    };
+    EntryRead::Read(Item {
+        mapped: f.mapped,
+        units: f.units,
+        glyphs: f.glyphs,
+        glyph,
+        used: end,
+    })
+}
+
 // An entry with fields behind its front.
 fn read_fields(s: &[u8], k: usize, f: Front) -> EntryRead
     requires { ⌜ (f ≡ frontOf (now s)) × (f .used ≤ length (now s)) ⌝ }
@@ -573,6 +607,9 @@ fn read_fields(s: &[u8], k: usize, f: Front) -> EntryRead
 {
     let x = field_at(s, f.used);
     let i = f.used + x.used;
+    if byte_at(s, i) != 44 {
+        return read_advance(s, k, f, x);
+    }
     let y = field_at(s, i);
     let j = i + y.used;
     let z = field_at(s, j);

@@ -161,6 +161,19 @@ pub char-one : (s : List ℕ) (i : ℕ) {x : Char} → x ≡ cond (xmlChar (getD
 unfolding charAt starts trail scalar
 char-one s i e h = rw (row-1 (getD s i 0) (omega arith) (omega arith), add-zero (i + 1)) e
 
+-- a byte from space to 127 is a character
+pub char-plain : (s : List ℕ) (i : ℕ) → within 32 127 (getD s i 0) ≡ true → charAt s i ≡ Good (getD s i 0) (i + 1)
+char-plain s i h =
+    let l : 32 ≤ getD s i 0 = within-lo 32 127 (getD s i 0) h in
+    let k : getD s i 0 ≤ 127 = within-hi 32 127 (getD s i 0) h in
+    sym (char-one s i (rw (xml-mid (getD s i 0) l (omega arith))) (omega arith))
+
+pub plain-small : (s : List ℕ) (i : ℕ) → within 32 127 (getD s i 0) ≡ true → getD s i 0 ≤ 65535
+plain-small s i h = let k : getD s i 0 ≤ 127 = within-hi 32 127 (getD s i 0) h in omega arith
+
+pub char-plain-as : (s : List ℕ) (i c : ℕ) → c ≡ getD s i 0 → within 32 127 (getD s i 0) ≡ true → charAt s i ≡ Good c (i + 1)
+char-plain-as s i c e h = rw e (char-plain s i h)
+
 module _ (s : List ℕ) (i : ℕ) (r : Row) (e : r ≡ lead (getD s i 0)) where
   pub char-unfit : r .fits ≡ false → Ill ≡ charAt s i
   unfolding charAt starts

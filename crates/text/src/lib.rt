@@ -248,20 +248,25 @@ fn count_units(s: &[u8]) -> Counted
     let mut i = 0;
     let mut n = 0;
     while i < s.len() {
-        match char_at(s, i) {
-            Char::Good { code, next } => {
-                if code <= 65535 {
-                    n += 1;
-                } else {
-                    n += 2;
+        if is_within(0x20, 0x7f, s[i]) {
+            n += 1;
+            i += 1;
+        } else {
+            match char_at(s, i) {
+                Char::Good { code, next } => {
+                    if code <= 65535 {
+                        n += 1;
+                    } else {
+                        n += 2;
+                    }
+                    i = next;
                 }
-                i = next;
-            }
-            Char::Ill => {
-                return Counted::Refused(2, i);
-            }
-            Char::Outside => {
-                return Counted::Refused(3, i);
+                Char::Ill => {
+                    return Counted::Refused(2, i);
+                }
+                Char::Outside => {
+                    return Counted::Refused(3, i);
+                }
             }
         }
     }
@@ -358,16 +363,21 @@ pub fn fill_units(text: &[u8], from: usize, out: &mut [u16])
     let mut i = from;
     let mut n = 0;
     while i < text.len() {
-        match char_at(text, i) {
-            Char::Good { code, next } => {
-                n = put_char(out, n, code);
-                i = next;
-            }
-            Char::Ill => {
-                return;
-            }
-            Char::Outside => {
-                return;
+        if is_within(0x20, 0x7f, text[i]) {
+            n = put_char(out, n, words::wide(text[i]));
+            i += 1;
+        } else {
+            match char_at(text, i) {
+                Char::Good { code, next } => {
+                    n = put_char(out, n, code);
+                    i = next;
+                }
+                Char::Ill => {
+                    return;
+                }
+                Char::Outside => {
+                    return;
+                }
             }
         }
     }
@@ -393,23 +403,28 @@ pub fn move_past(s: &[u8], at: usize, count: usize) -> Moved
         if s.len() <= b {
             return Moved::Past;
         }
-        match char_at(s, b) {
-            Char::Good { code, next } => {
-                if code <= 65535 {
-                    a -= 1;
-                } else {
-                    if a == 1 {
-                        return Moved::Half;
+        if is_within(0x20, 0x7f, s[b]) {
+            a -= 1;
+            b += 1;
+        } else {
+            match char_at(s, b) {
+                Char::Good { code, next } => {
+                    if code <= 65535 {
+                        a -= 1;
+                    } else {
+                        if a == 1 {
+                            return Moved::Half;
+                        }
+                        a -= 2;
                     }
-                    a -= 2;
+                    b = next;
                 }
-                b = next;
-            }
-            Char::Ill => {
-                return Moved::Past;
-            }
-            Char::Outside => {
-                return Moved::Past;
+                Char::Ill => {
+                    return Moved::Past;
+                }
+                Char::Outside => {
+                    return Moved::Past;
+                }
             }
         }
     }

@@ -14,6 +14,15 @@ field-at-requires c κs = search needs
 add-i : tie.Need-add-i
 add-i c = search needs
 
+byte-at-requires : tie.Need-byte-at-requires
+byte-at-requires c κs = search needs
+
+read-advance-requires : tie.Need-read-advance-requires
+read-advance-requires c κs = search needs
+
+returns : tie.Need-returns
+returns c = search needs
+
 field-at-requires-2 : tie.Need-field-at-requires-2
 field-at-requires-2 c κs = search needs
 
@@ -47,14 +56,14 @@ both-requires-5 c κs = search needs
 refuse-requires : tie.Need-refuse-requires
 refuse-requires c κs = search needs
 
-returns : tie.Need-returns
-returns c = c .refuse .ensures ∙ code-wrong _ _ _ (c .before .before .before .before .before .before .before .before .before .before .before .before .before .before .before .before .before .pre .0) _ (c .before .before .before .before .before .before .before .before .before .before .before .before .before .before .before .field-at .ensures .0) _ (c .before .before .before .before .before .before .before .before .before .before .before .before .field-at2 .ensures .0) _ (c .before .before .before .before .before .before .before .before .before .before .field-at3 .ensures .0) (c .before .before .before .before .before .before .before .before .before .before .field-at3 .ensures .1) (sym (well-chain _ _ _ _ _ (c .before .before .before .before .before .before .before .both .ensures) (c .before .before .before .before .before .before .both2 .ensures) (c .before .before .before .before .before .both3 .ensures) (c .before .before .before .before .both4 .ensures) (c .before .before .before .ends-at .ensures) (c .before .before .both5 .ensures)) ∙ not-true _ (c .before .if1 .taken))
+returns-2 : tie.Need-returns-2
+returns-2 c = c .refuse .ensures ∙ code-wrong _ _ _ (c .before .before .before .before .before .before .before .before .before .before .before .before .before .before .before .before .before .before .before .pre .0) _ (c .before .before .before .before .before .before .before .before .before .before .before .before .before .before .before .before .before .field-at .ensures .0) _ (c .before .before .before .before .before .before .before .before .before .before .before .before .field-at2 .ensures .0) _ (c .before .before .before .before .before .before .before .before .before .before .field-at3 .ensures .0) (c .before .before .before .before .before .before .before .before .before .before .field-at3 .ensures .1) (sym (well-chain _ _ _ _ _ (c .before .before .before .before .before .before .before .both .ensures) (c .before .before .before .before .before .before .both2 .ensures) (c .before .before .before .before .before .both3 .ensures) (c .before .before .before .before .both4 .ensures) (c .before .before .before .ends-at .ensures) (c .before .before .both5 .ensures)) ∙ not-true _ (c .before .if2 .taken))
 
 refuse-requires-2 : tie.Need-refuse-requires-2
 refuse-requires-2 c κs = search needs
 
-returns-2 : tie.Need-returns-2
-returns-2 c = c .refuse2 .ensures ∙ code-index _ _ _ (c .before .before .before .before .before .before .before .before .before .before .before .before .before .before .before .before .before .before .before .pre .0) _ (c .before .before .before .before .before .before .before .before .before .before .before .before .before .before .before .before .before .field-at .ensures .0) _ (c .before .before .before .before .before .before .before .before .before .before .before .before .before .before .field-at2 .ensures .0) _ (c .before .before .before .before .before .before .before .before .before .before .before .before .field-at3 .ensures .0) (c .before .before .before .before .before .before .before .before .before .before .before .before .field-at3 .ensures .1) (sym (well-chain _ _ _ _ _ (c .before .before .before .before .before .before .before .before .before .both .ensures) (c .before .before .before .before .before .before .before .before .both2 .ensures) (c .before .before .before .before .before .before .before .both3 .ensures) (c .before .before .before .before .before .before .both4 .ensures) (c .before .before .before .before .before .ends-at .ensures) (c .before .before .before .before .both5 .ensures)) ∙ not-false _ (c .before .before .before .if1 .left)) (c .before .if2 .taken)
+returns-3 : tie.Need-returns-3
+returns-3 c = c .refuse2 .ensures ∙ code-index _ _ _ (c .before .before .before .before .before .before .before .before .before .before .before .before .before .before .before .before .before .before .before .before .before .pre .0) _ (c .before .before .before .before .before .before .before .before .before .before .before .before .before .before .before .before .before .before .before .field-at .ensures .0) _ (c .before .before .before .before .before .before .before .before .before .before .before .before .before .before .field-at2 .ensures .0) _ (c .before .before .before .before .before .before .before .before .before .before .before .before .field-at3 .ensures .0) (c .before .before .before .before .before .before .before .before .before .before .before .before .field-at3 .ensures .1) (sym (well-chain _ _ _ _ _ (c .before .before .before .before .before .before .before .before .before .both .ensures) (c .before .before .before .before .before .before .before .before .both2 .ensures) (c .before .before .before .before .before .before .before .both3 .ensures) (c .before .before .before .before .before .before .both4 .ensures) (c .before .before .before .before .before .ends-at .ensures) (c .before .before .before .before .both5 .ensures)) ∙ not-false _ (c .before .before .before .if2 .left)) (c .before .if3 .taken)
 
 is-within-requires : tie.Need-is-within-requires
 is-within-requires c κs = search needs
@@ -74,8 +83,8 @@ both-requires-7 c κs = search needs
 refuse-requires-3 : tie.Need-refuse-requires-3
 refuse-requires-3 c κs = search needs
 
-returns-3 : tie.Need-returns-3
-returns-3 c = c .refuse3 .ensures ∙ code-limits _ _ _ (c .before .before .before .before .before .before .before .before .before .before .before .before .before .before .before .before .before .before .before .before .before .before .before .before .before .pre .0) _ (c .before .before .before .before .before .before .before .before .before .before .before .before .before .before .before .before .before .before .before .before .before .before .before .field-at .ensures .0) _ (c .before .before .before .before .before .before .before .before .before .before .before .before .before .before .before .before .before .before .before .before .field-at2 .ensures .0) _ (c .before .before .before .before .before .before .before .before .before .before .before .before .before .before .before .before .before .before .field-at3 .ensures .0) (c .before .before .before .before .before .before .before .before .before .before .before .before .before .before .before .before .before .before .field-at3 .ensures .1) (sym (well-chain _ _ _ _ _ (c .before .before .before .before .before .before .before .before .before .before .before .before .before .before .before .both .ensures) (c .before .before .before .before .before .before .before .before .before .before .before .before .before .before .both2 .ensures) (c .before .before .before .before .before .before .before .before .before .before .before .before .before .both3 .ensures) (c .before .before .before .before .before .before .before .before .before .before .before .before .both4 .ensures) (c .before .before .before .before .before .before .before .before .before .before .before .ends-at .ensures) (c .before .before .before .before .before .before .before .before .before .before .both5 .ensures)) ∙ not-false _ (c .before .before .before .before .before .before .before .before .before .if1 .left)) (c .before .before .before .before .before .before .before .if2 .left) (sym (within-chain _ _ _ (c .before .before .before .before .before .before .is-within .ensures) (c .before .before .before .before .before .is-within2 .ensures) (c .before .before .before .is-within3 .ensures) (c .before .before .before .before .both6 .ensures) (c .before .before .both7 .ensures)) ∙ not-true _ (c .before .if3 .taken))
+returns-4 : tie.Need-returns-4
+returns-4 c = c .refuse3 .ensures ∙ code-limits _ _ _ (c .before .before .before .before .before .before .before .before .before .before .before .before .before .before .before .before .before .before .before .before .before .before .before .before .before .before .before .pre .0) _ (c .before .before .before .before .before .before .before .before .before .before .before .before .before .before .before .before .before .before .before .before .before .before .before .before .before .field-at .ensures .0) _ (c .before .before .before .before .before .before .before .before .before .before .before .before .before .before .before .before .before .before .before .before .field-at2 .ensures .0) _ (c .before .before .before .before .before .before .before .before .before .before .before .before .before .before .before .before .before .before .field-at3 .ensures .0) (c .before .before .before .before .before .before .before .before .before .before .before .before .before .before .before .before .before .before .field-at3 .ensures .1) (sym (well-chain _ _ _ _ _ (c .before .before .before .before .before .before .before .before .before .before .before .before .before .before .before .both .ensures) (c .before .before .before .before .before .before .before .before .before .before .before .before .before .before .both2 .ensures) (c .before .before .before .before .before .before .before .before .before .before .before .before .before .both3 .ensures) (c .before .before .before .before .before .before .before .before .before .before .before .before .both4 .ensures) (c .before .before .before .before .before .before .before .before .before .before .before .ends-at .ensures) (c .before .before .before .before .before .before .before .before .before .before .both5 .ensures)) ∙ not-false _ (c .before .before .before .before .before .before .before .before .before .if2 .left)) (c .before .before .before .before .before .before .before .if3 .left) (sym (within-chain _ _ _ (c .before .before .before .before .before .before .is-within .ensures) (c .before .before .before .before .before .is-within2 .ensures) (c .before .before .before .is-within3 .ensures) (c .before .before .before .before .both6 .ensures) (c .before .before .both7 .ensures)) ∙ not-true _ (c .before .if4 .taken))
 
 index-of-requires : tie.Need-index-of-requires
 index-of-requires c κs = search needs
@@ -89,8 +98,8 @@ offset-of-requires c κs = rw (c .before .before .before .before .before .before
 offset-of-requires-2 : tie.Need-offset-of-requires-2
 offset-of-requires-2 c κs = rw (c .before .before .before .before .before .before .before .before .before .before .before .before .before .before .before .before .before .before .before .before .field-at3 .ensures .0) (field-small _)
 
-returns-4 : tie.Need-returns-4
-returns-4 c = code-read _ _ _ (c .before .before .before .before .before .before .before .before .before .before .before .before .before .before .before .before .before .before .before .before .before .before .before .before .before .before .before .before .pre .0) _ (c .before .before .before .before .before .before .before .before .before .before .before .before .before .before .before .before .before .before .before .before .before .before .before .before .before .before .field-at .ensures .0) _ (c .before .before .before .before .before .before .before .before .before .before .before .before .before .before .before .before .before .before .before .before .before .before .before .field-at2 .ensures .0) _ (c .before .before .before .before .before .before .before .before .before .before .before .before .before .before .before .before .before .before .before .before .before .field-at3 .ensures .0) (c .before .before .before .before .before .before .before .before .before .before .before .before .before .before .before .before .before .before .before .before .before .field-at3 .ensures .1) (sym (well-chain _ _ _ _ _ (c .before .before .before .before .before .before .before .before .before .before .before .before .before .before .before .before .before .before .both .ensures) (c .before .before .before .before .before .before .before .before .before .before .before .before .before .before .before .before .before .both2 .ensures) (c .before .before .before .before .before .before .before .before .before .before .before .before .before .before .before .before .both3 .ensures) (c .before .before .before .before .before .before .before .before .before .before .before .before .before .before .before .both4 .ensures) (c .before .before .before .before .before .before .before .before .before .before .before .before .before .before .ends-at .ensures) (c .before .before .before .before .before .before .before .before .before .before .before .before .before .both5 .ensures)) ∙ not-false _ (c .before .before .before .before .before .before .before .before .before .before .before .before .if1 .left)) (c .before .before .before .before .before .before .before .before .before .before .if2 .left) (sym (within-chain _ _ _ (c .before .before .before .before .before .before .before .before .before .is-within .ensures) (c .before .before .before .before .before .before .before .before .is-within2 .ensures) (c .before .before .before .before .before .before .is-within3 .ensures) (c .before .before .before .before .before .before .before .both6 .ensures) (c .before .before .before .before .before .both7 .ensures)) ∙ not-false _ (c .before .before .before .before .if3 .left)) _ (c .before .before .before .index-of .ensures) _ (c .before .before .advance-of .ensures) _ _ (toZ-ofZ {w = w32} (sfits-of (c .before .offset-of .ok)) ∙ c .before .offset-of .ensures) (toZ-ofZ {w = w32} (sfits-of (c .offset-of2 .ok)) ∙ c .offset-of2 .ensures)
+returns-5 : tie.Need-returns-5
+returns-5 c = code-read _ _ _ (c .before .before .before .before .before .before .before .before .before .before .before .before .before .before .before .before .before .before .before .before .before .before .before .before .before .before .before .before .before .before .pre .0) _ (c .before .before .before .before .before .before .before .before .before .before .before .before .before .before .before .before .before .before .before .before .before .before .before .before .before .before .before .before .field-at .ensures .0) _ (c .before .before .before .before .before .before .before .before .before .before .before .before .before .before .before .before .before .before .before .before .before .before .before .field-at2 .ensures .0) _ (c .before .before .before .before .before .before .before .before .before .before .before .before .before .before .before .before .before .before .before .before .before .field-at3 .ensures .0) (c .before .before .before .before .before .before .before .before .before .before .before .before .before .before .before .before .before .before .before .before .before .field-at3 .ensures .1) (sym (well-chain _ _ _ _ _ (c .before .before .before .before .before .before .before .before .before .before .before .before .before .before .before .before .before .before .both .ensures) (c .before .before .before .before .before .before .before .before .before .before .before .before .before .before .before .before .before .both2 .ensures) (c .before .before .before .before .before .before .before .before .before .before .before .before .before .before .before .before .both3 .ensures) (c .before .before .before .before .before .before .before .before .before .before .before .before .before .before .before .both4 .ensures) (c .before .before .before .before .before .before .before .before .before .before .before .before .before .before .ends-at .ensures) (c .before .before .before .before .before .before .before .before .before .before .before .before .before .both5 .ensures)) ∙ not-false _ (c .before .before .before .before .before .before .before .before .before .before .before .before .if2 .left)) (c .before .before .before .before .before .before .before .before .before .before .if3 .left) (sym (within-chain _ _ _ (c .before .before .before .before .before .before .before .before .before .is-within .ensures) (c .before .before .before .before .before .before .before .before .is-within2 .ensures) (c .before .before .before .before .before .before .is-within3 .ensures) (c .before .before .before .before .before .before .before .both6 .ensures) (c .before .before .before .before .before .both7 .ensures)) ∙ not-false _ (c .before .before .before .before .if4 .left)) _ (c .before .before .before .index-of .ensures) _ (c .before .before .advance-of .ensures) _ _ (toZ-ofZ {w = w32} (sfits-of (c .before .offset-of .ok)) ∙ c .before .offset-of .ensures) (toZ-ofZ {w = w32} (sfits-of (c .offset-of2 .ok)) ∙ c .offset-of2 .ensures)
 
 pub read-fields-spec : {M : Type 1} → statement M
 read-fields-spec =
@@ -98,6 +107,9 @@ read-fields-spec =
     (tie.spec
     field-at-requires
     add-i
+    byte-at-requires
+    read-advance-requires
+    returns
     field-at-requires-2
     add-j
     field-at-requires-3
@@ -109,18 +121,18 @@ read-fields-spec =
     ends-at-requires
     both-requires-5
     refuse-requires
-    returns
-    refuse-requires-2
     returns-2
+    refuse-requires-2
+    returns-3
     is-within-requires
     is-within-requires-2
     both-requires-6
     is-within-requires-3
     both-requires-7
     refuse-requires-3
-    returns-3
+    returns-4
     index-of-requires
     advance-of-requires
     offset-of-requires
     offset-of-requires-2
-    returns-4)
+    returns-5)

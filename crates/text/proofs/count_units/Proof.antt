@@ -5,7 +5,7 @@ use native.Mathlib.Omega.{arith}
 use mathlib.Core.Path.{_≡_, sym, _∙_}
 use borrow.Author.Needs.{needs}
 use lib.ListN.{length}
-use Rattle.text.proofs.Chars.{Reached, reached-start, reached-inside, reached-one, reached-two, reached-ill, reached-outside, reached-end}
+use Rattle.text.proofs.Chars.{Reached, char-plain, plain-small, reached-start, reached-inside, reached-one, reached-two, reached-ill, reached-outside, reached-end}
 use Rattle.text.proofs.count_units.Statement.{statement}
 use Rattle.text.proofs.count_units.Tie as tie
 use Rattle.text.proofs.count_units.Reads as reads
@@ -21,57 +21,79 @@ abbrev μ-loop : tie.MeasureT-loop
 loop-holds : tie.Need-loop-holds Inv-loop μ-loop
 loop-holds c = (search needs, search needs, reached-start (c .before .args .s .now))
 
+shared-slice-read-is-within : tie.Need-shared-slice-read-is-within Inv-loop μ-loop
+shared-slice-read-is-within c = search needs
+
+is-within-requires : tie.Need-is-within-requires Inv-loop μ-loop
+is-within-requires c κs = search needs
+
+add-n : tie.Need-add-n Inv-loop μ-loop
+add-n c = search needs
+
+add-i : tie.Need-add-i Inv-loop μ-loop
+add-i c = search needs
+
+loop-less : tie.Need-loop-less Inv-loop μ-loop
+loop-less c = search needs
+
+loop-again : tie.Need-loop-again Inv-loop μ-loop
+loop-again c =
+    let l = c .before .before .before .before .loop in
+    let s = c .before .before .before .before .before .before .args .s .now in
+    let g = char-plain s (l .i) (sym (c .before .is-within .ensures) ∙ c .if1 .taken) in
+    (search needs, search needs, reached-one s (l .i) (l .n) _ _ (c .before .before .before .loop-test .taken) (l .inv .2) g (plain-small s (l .i) (sym (c .before .is-within .ensures) ∙ c .if1 .taken)))
+
 char-at-requires : tie.Need-char-at-requires Inv-loop μ-loop
 char-at-requires c κs = search needs
 
 enum-known-code : tie.Need-enum-known-code Inv-loop μ-loop
 enum-known-code c = search needs
 
-add-n : tie.Need-add-n Inv-loop μ-loop
-add-n c = search needs
-
 add-n-2 : tie.Need-add-n-2 Inv-loop μ-loop
 add-n-2 c = search needs
 
-loop-less : tie.Need-loop-less Inv-loop μ-loop
-loop-less c =
-    let l = c .before .before .before .before .before .before .loop in
-    let s = c .before .before .before .before .before .before .before .before .args .s .now in
-    let g : charAt s (l .i) ≡ Good (c .before .before .code .given .0 .0) (c .before .before .code .given .0 .1 .0) = sym (c .before .before .before .before .char-at .ensures) ∙ c .before .before .code .given .1 in
-    let d = reached-inside s (l .i) (c .before .before .code .given .0 .0) (c .before .before .code .given .0 .1 .0) (search needs) g in
-    omega (arith, d)
-
-loop-again : tie.Need-loop-again Inv-loop μ-loop
-loop-again c =
-    let l = c .before .before .before .before .before .before .loop in
-    let s = c .before .before .before .before .before .before .before .before .args .s .now in
-    let g : charAt s (l .i) ≡ Good (c .before .before .code .given .0 .0) (c .before .before .code .given .0 .1 .0) = sym (c .before .before .before .before .char-at .ensures) ∙ c .before .before .code .given .1 in
-    let d = reached-inside s (l .i) (c .before .before .code .given .0 .0) (c .before .before .code .given .0 .1 .0) (search needs) g in
-    (d .1, omega (arith, d), reached-one s (l .i) (l .n) (c .before .before .code .given .0 .0) (c .before .before .code .given .0 .1 .0) (search needs) (l .inv .2) g (c .if1 .taken))
+add-n-3 : tie.Need-add-n-3 Inv-loop μ-loop
+add-n-3 c = search needs
 
 loop-less-2 : tie.Need-loop-less-2 Inv-loop μ-loop
 loop-less-2 c =
-    let l = c .before .before .before .before .before .before .loop in
-    let s = c .before .before .before .before .before .before .before .before .args .s .now in
+    let l = c .before .before .before .before .before .before .before .before .before .loop in
+    let s = c .before .before .before .before .before .before .before .before .before .before .before .args .s .now in
     let g : charAt s (l .i) ≡ Good (c .before .before .code .given .0 .0) (c .before .before .code .given .0 .1 .0) = sym (c .before .before .before .before .char-at .ensures) ∙ c .before .before .code .given .1 in
     let d = reached-inside s (l .i) (c .before .before .code .given .0 .0) (c .before .before .code .given .0 .1 .0) (search needs) g in
     omega (arith, d)
 
 loop-again-2 : tie.Need-loop-again-2 Inv-loop μ-loop
 loop-again-2 c =
-    let l = c .before .before .before .before .before .before .loop in
-    let s = c .before .before .before .before .before .before .before .before .args .s .now in
+    let l = c .before .before .before .before .before .before .before .before .before .loop in
+    let s = c .before .before .before .before .before .before .before .before .before .before .before .args .s .now in
     let g : charAt s (l .i) ≡ Good (c .before .before .code .given .0 .0) (c .before .before .code .given .0 .1 .0) = sym (c .before .before .before .before .char-at .ensures) ∙ c .before .before .code .given .1 in
     let d = reached-inside s (l .i) (c .before .before .code .given .0 .0) (c .before .before .code .given .0 .1 .0) (search needs) g in
-    (d .1, omega (arith, d), reached-two s (l .i) (l .n) (c .before .before .code .given .0 .0) (c .before .before .code .given .0 .1 .0) (search needs) (l .inv .2) g (c .if1 .left))
+    (d .1, omega (arith, d), reached-one s (l .i) (l .n) (c .before .before .code .given .0 .0) (c .before .before .code .given .0 .1 .0) (search needs) (l .inv .2) g (c .if2 .taken))
+
+loop-less-3 : tie.Need-loop-less-3 Inv-loop μ-loop
+loop-less-3 c =
+    let l = c .before .before .before .before .before .before .before .before .before .loop in
+    let s = c .before .before .before .before .before .before .before .before .before .before .before .args .s .now in
+    let g : charAt s (l .i) ≡ Good (c .before .before .code .given .0 .0) (c .before .before .code .given .0 .1 .0) = sym (c .before .before .before .before .char-at .ensures) ∙ c .before .before .code .given .1 in
+    let d = reached-inside s (l .i) (c .before .before .code .given .0 .0) (c .before .before .code .given .0 .1 .0) (search needs) g in
+    omega (arith, d)
+
+loop-again-3 : tie.Need-loop-again-3 Inv-loop μ-loop
+loop-again-3 c =
+    let l = c .before .before .before .before .before .before .before .before .before .loop in
+    let s = c .before .before .before .before .before .before .before .before .before .before .before .args .s .now in
+    let g : charAt s (l .i) ≡ Good (c .before .before .code .given .0 .0) (c .before .before .code .given .0 .1 .0) = sym (c .before .before .before .before .char-at .ensures) ∙ c .before .before .code .given .1 in
+    let d = reached-inside s (l .i) (c .before .before .code .given .0 .0) (c .before .before .code .given .0 .1 .0) (search needs) g in
+    (d .1, omega (arith, d), reached-two s (l .i) (l .n) (c .before .before .code .given .0 .0) (c .before .before .code .given .0 .1 .0) (search needs) (l .inv .2) g (c .if2 .left))
 
 enum-told : tie.Need-enum-told Inv-loop μ-loop
 enum-told c = search needs
 
 returns : tie.Need-returns Inv-loop μ-loop
 returns c =
-    let l = c .before .before .before .before .loop in
-    let s = c .before .before .before .before .before .before .args .s .now in
+    let l = c .before .before .before .before .before .before .before .loop in
+    let s = c .before .before .before .before .before .before .before .before .before .args .s .now in
     let g : charAt s (l .i) ≡ Ill = sym (c .before .before .char-at .ensures) ∙ c .enum-told .given .1 in
     reached-ill s (l .i) (l .n) (search needs) (l .inv .2) g
 
@@ -80,8 +102,8 @@ enum-told-2 c = search needs
 
 returns-2 : tie.Need-returns-2 Inv-loop μ-loop
 returns-2 c =
-    let l = c .before .before .before .before .loop in
-    let s = c .before .before .before .before .before .before .args .s .now in
+    let l = c .before .before .before .before .before .before .before .loop in
+    let s = c .before .before .before .before .before .before .before .before .before .args .s .now in
     let g : charAt s (l .i) ≡ Outside = sym (c .before .before .char-at .ensures) ∙ c .enum-told2 .given .1 in
     reached-outside s (l .i) (l .n) (search needs) (l .inv .2) g
 
@@ -95,14 +117,20 @@ count-units-spec =
     Inv-loop
     μ-loop
     loop-holds
-    char-at-requires
-    enum-known-code
+    shared-slice-read-is-within
+    is-within-requires
     add-n
-    add-n-2
+    add-i
     loop-less
     loop-again
+    char-at-requires
+    enum-known-code
+    add-n-2
+    add-n-3
     loop-less-2
     loop-again-2
+    loop-less-3
+    loop-again-3
     enum-told
     returns
     enum-told-2

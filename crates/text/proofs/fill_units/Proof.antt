@@ -1,6 +1,6 @@
 use Rattle.text.proofs.Fills.{Fill, fill-start, fill-room, fill-next, fill-end, good-small}
 use Rattle.text.proofs.Moves.{no-ill, no-outside}
-use Rattle.text.proofs.Chars.{reached-inside}
+use Rattle.text.proofs.Chars.{char-plain-as, reached-inside}
 use borrow.Author.Needs.{needs}
 use lib.ListN.{length}
 use mathlib.Core.Path.{sym, _∙_}
@@ -22,42 +22,69 @@ abbrev μ-loop : tie.MeasureT-loop
 loop-holds : tie.Need-loop-holds Inv-loop μ-loop
 loop-holds c = fill-start _ _ _ (c .before .before .pre .0)
 
+shared-slice-read-is-within : tie.Need-shared-slice-read-is-within Inv-loop μ-loop
+shared-slice-read-is-within c = search needs
+
+is-within-requires : tie.Need-is-within-requires Inv-loop μ-loop
+is-within-requires c κs = search needs
+
+shared-slice-read-wide : tie.Need-shared-slice-read-wide Inv-loop μ-loop
+shared-slice-read-wide c = search needs
+
+wide-requires : tie.Need-wide-requires Inv-loop μ-loop
+wide-requires c κs = search needs
+
+put-char-requires : tie.Need-put-char-requires Inv-loop μ-loop
+put-char-requires c κs =
+    let g = char-plain-as _ _ _ (c .wide .ensures .0) (sym (c .before .before .before .before .is-within .ensures) ∙ c .before .before .before .if1 .taken) in
+    (good-small _ _ _ _ g, fill-room (c .before .before .before .before .before .before .before .loop .inv) (c .before .before .before .before .before .before .loop-test .taken) g (c .before .before .before .before .before .before .before .before .before .before .pre .1))
+
+add-i : tie.Need-add-i Inv-loop μ-loop
+add-i c = search needs
+
+loop-less : tie.Need-loop-less Inv-loop μ-loop
+loop-less c = search needs
+
+loop-again : tie.Need-loop-again Inv-loop μ-loop
+loop-again c =
+    fill-next (c .before .before .before .before .before .before .before .before .before .before .loop .inv) (c .before .before .before .before .before .before .before .before .before .loop-test .taken) (char-plain-as _ _ _ (c .before .before .before .wide .ensures .0) (sym (c .before .before .before .before .before .before .before .is-within .ensures) ∙ c .before .before .before .before .before .before .if1 .taken)) (c .before .before .put-char .ensures)
+
 char-at-requires : tie.Need-char-at-requires Inv-loop μ-loop
 char-at-requires c κs = search needs
 
 enum-known-code : tie.Need-enum-known-code Inv-loop μ-loop
 enum-known-code c = search needs
 
-put-char-requires : tie.Need-put-char-requires Inv-loop μ-loop
-put-char-requires c κs =
+put-char-requires-2 : tie.Need-put-char-requires-2 Inv-loop μ-loop
+put-char-requires-2 c κs =
     let g = sym (c .before .before .before .before .char-at .ensures) ∙ c .before .before .code .given .1 in
-    (good-small _ _ _ _ g, fill-room (c .before .before .before .before .before .before .loop .inv) (c .before .before .before .before .before .loop-test .taken) g (c .before .before .before .before .before .before .before .before .before .pre .1))
+    (good-small _ _ _ _ g, fill-room (c .before .before .before .before .before .before .before .before .before .loop .inv) (c .before .before .before .before .before .before .before .before .loop-test .taken) g (c .before .before .before .before .before .before .before .before .before .before .before .before .pre .1))
 
-loop-less : tie.Need-loop-less Inv-loop μ-loop
-loop-less c =
-    let d = reached-inside _ _ _ _ (c .before .before .before .before .before .before .before .before .loop-test .taken) (sym (c .before .before .before .before .before .before .before .char-at .ensures) ∙ c .before .before .before .before .before .code .given .1) in
+loop-less-2 : tie.Need-loop-less-2 Inv-loop μ-loop
+loop-less-2 c =
+    let d = reached-inside _ _ _ _ (c .before .before .before .before .before .before .before .before .before .before .before .loop-test .taken) (sym (c .before .before .before .before .before .before .before .char-at .ensures) ∙ c .before .before .before .before .before .code .given .1) in
     omega (arith, d)
 
-loop-again : tie.Need-loop-again Inv-loop μ-loop
-loop-again c = fill-next (c .before .before .before .before .before .before .before .before .before .loop .inv) (c .before .before .before .before .before .before .before .before .loop-test .taken) (sym (c .before .before .before .before .before .before .before .char-at .ensures) ∙ c .before .before .before .before .before .code .given .1) (c .before .before .put-char .ensures)
+loop-again-2 : tie.Need-loop-again-2 Inv-loop μ-loop
+loop-again-2 c = fill-next (c .before .before .before .before .before .before .before .before .before .before .before .before .loop .inv) (c .before .before .before .before .before .before .before .before .before .before .before .loop-test .taken) (sym (c .before .before .before .before .before .before .before .char-at .ensures) ∙ c .before .before .before .before .before .code .given .1) (c .before .before .put-char2 .ensures)
 
 enum-told : tie.Need-enum-told Inv-loop μ-loop
 enum-told c = search needs
 
 same-length : tie.Need-same-length Inv-loop μ-loop
-same-length c = c .before .before .before .before .loop .inv .same
+same-length c = c .before .before .before .before .before .before .before .loop .inv .same
 
 returns : tie.Need-returns Inv-loop μ-loop
-returns c = no-ill _ _ _ (c .before .before .before .before .loop .inv .here) (c .before .before .before .loop-test .taken) (sym (c .before .before .char-at .ensures) ∙ c .enum-told .given .1)
+returns c = no-ill _ _ _ (c .before .before .before .before .before .before .before .loop .inv .here) (c .before .before .before .before .before .before .loop-test .taken) (sym (c .before .before .char-at .ensures) ∙ c .enum-told .given .1)
 
 enum-told-2 : tie.Need-enum-told-2 Inv-loop μ-loop
 enum-told-2 c = search needs
 
 same-length-2 : tie.Need-same-length-2 Inv-loop μ-loop
-same-length-2 c = c .before .before .before .before .loop .inv .same
+same-length-2 c = c .before .before .before .before .before .before .before .loop .inv .same
 
 returns-2 : tie.Need-returns-2 Inv-loop μ-loop
-returns-2 c = no-outside _ _ _ (c .before .before .before .before .loop .inv .here) (c .before .before .before .loop-test .taken) (sym (c .before .before .char-at .ensures) ∙ c .enum-told2 .given .1)
+returns-2 c = no-outside _ _ _ (c .before .before .before .before .before .before .before .loop .inv .here) (c .before .before .before .before .before .before .loop-test .taken) (sym (c .before .before .char-at .ensures) ∙ c .enum-told2 .given .1)
 
 same-length-3 : tie.Need-same-length-3 Inv-loop μ-loop
 same-length-3 c = c .before .loop .inv .same
@@ -72,11 +99,19 @@ fill-units-spec =
     Inv-loop
     μ-loop
     loop-holds
-    char-at-requires
-    enum-known-code
+    shared-slice-read-is-within
+    is-within-requires
+    shared-slice-read-wide
+    wide-requires
     put-char-requires
+    add-i
     loop-less
     loop-again
+    char-at-requires
+    enum-known-code
+    put-char-requires-2
+    loop-less-2
+    loop-again-2
     enum-told
     same-length
     returns

@@ -1,0 +1,72 @@
+-- `entry::read_advance` meets its contract. Assumes nothing.
+use mathlib.Core.Path.{sym, _∙_}
+use borrow.Author.Tests.{not-true, not-false}
+use borrow.Author.Needs.{needs}
+use Rattle.entry.proofs.EntryLaws.{one-chain, one-wrong, one-index, one-limit, one-read}
+use Rattle.entry.proofs.read_advance.Statement.{statement}
+use Rattle.entry.proofs.read_advance.Tie as tie
+
+add-end : tie.Need-add-end
+add-end c = search needs
+
+both-requires : tie.Need-both-requires
+both-requires c κs = search needs
+
+both-requires-2 : tie.Need-both-requires-2
+both-requires-2 c κs = search needs
+
+ends-at-requires : tie.Need-ends-at-requires
+ends-at-requires c κs = search needs
+
+both-requires-3 : tie.Need-both-requires-3
+both-requires-3 c κs = search needs
+
+refuse-requires : tie.Need-refuse-requires
+refuse-requires c κs = search needs
+
+returns : tie.Need-returns
+returns c = c .refuse .ensures ∙ one-wrong _ _ _ (c .before .before .before .before .before .before .before .before .before .before .pre .0 .0) _ (c .before .before .before .before .before .before .before .before .before .before .pre .0 .1) (c .before .before .before .before .before .before .before .before .before .before .pre .1) (c .before .before .before .before .before .before .before .before .before .before .pre .0 .2) (sym (one-chain _ _ _ (c .before .before .before .before .before .both .ensures) (c .before .before .before .before .both2 .ensures) (c .before .before .before .ends-at .ensures) (c .before .before .both3 .ensures)) ∙ not-true _ (c .before .if1 .taken))
+
+refuse-requires-2 : tie.Need-refuse-requires-2
+refuse-requires-2 c κs = search needs
+
+returns-2 : tie.Need-returns-2
+returns-2 c = c .refuse2 .ensures ∙ one-index _ _ _ (c .before .before .before .before .before .before .before .before .before .before .before .before .pre .0 .0) _ (c .before .before .before .before .before .before .before .before .before .before .before .before .pre .0 .1) (c .before .before .before .before .before .before .before .before .before .before .before .before .pre .1) (c .before .before .before .before .before .before .before .before .before .before .before .before .pre .0 .2) (sym (one-chain _ _ _ (c .before .before .before .before .before .before .before .both .ensures) (c .before .before .before .before .before .before .both2 .ensures) (c .before .before .before .before .before .ends-at .ensures) (c .before .before .before .before .both3 .ensures)) ∙ not-false _ (c .before .before .before .if1 .left)) (c .before .if2 .taken)
+
+is-within-requires : tie.Need-is-within-requires
+is-within-requires c κs = search needs
+
+refuse-requires-3 : tie.Need-refuse-requires-3
+refuse-requires-3 c κs = search needs
+
+returns-3 : tie.Need-returns-3
+returns-3 c = c .refuse3 .ensures ∙ one-limit _ _ _ (c .before .before .before .before .before .before .before .before .before .before .before .before .before .before .pre .0 .0) _ (c .before .before .before .before .before .before .before .before .before .before .before .before .before .before .pre .0 .1) (c .before .before .before .before .before .before .before .before .before .before .before .before .before .before .pre .1) (c .before .before .before .before .before .before .before .before .before .before .before .before .before .before .pre .0 .2) (sym (one-chain _ _ _ (c .before .before .before .before .before .before .before .before .before .both .ensures) (c .before .before .before .before .before .before .before .before .both2 .ensures) (c .before .before .before .before .before .before .before .ends-at .ensures) (c .before .before .before .before .before .before .both3 .ensures)) ∙ not-false _ (c .before .before .before .before .before .if1 .left)) (c .before .before .before .if2 .left) (sym (c .before .before .is-within .ensures) ∙ not-true _ (c .before .if3 .taken))
+
+index-of-requires : tie.Need-index-of-requires
+index-of-requires c κs = search needs
+
+advance-of-requires : tie.Need-advance-of-requires
+advance-of-requires c κs = search needs
+
+returns-4 : tie.Need-returns-4
+returns-4 c = one-read _ _ _ (c .before .before .before .before .before .before .before .before .before .before .before .before .before .before .before .pre .0 .0) _ (c .before .before .before .before .before .before .before .before .before .before .before .before .before .before .before .pre .0 .1) (c .before .before .before .before .before .before .before .before .before .before .before .before .before .before .before .pre .1) (c .before .before .before .before .before .before .before .before .before .before .before .before .before .before .before .pre .0 .2) (sym (one-chain _ _ _ (c .before .before .before .before .before .before .before .before .before .before .both .ensures) (c .before .before .before .before .before .before .before .before .before .both2 .ensures) (c .before .before .before .before .before .before .before .before .ends-at .ensures) (c .before .before .before .before .before .before .before .both3 .ensures)) ∙ not-false _ (c .before .before .before .before .before .before .if1 .left)) (c .before .before .before .before .if2 .left) (sym (c .before .before .before .is-within .ensures) ∙ not-false _ (c .before .before .if3 .left)) _ (c .before .index-of .ensures) _ (c .advance-of .ensures)
+
+pub read-advance-spec : {M : Type 1} → statement M
+read-advance-spec =
+    tie.close
+    (tie.spec
+    add-end
+    both-requires
+    both-requires-2
+    ends-at-requires
+    both-requires-3
+    refuse-requires
+    returns
+    refuse-requires-2
+    returns-2
+    is-within-requires
+    refuse-requires-3
+    returns-3
+    index-of-requires
+    advance-of-requires
+    returns-4)
