@@ -2,7 +2,7 @@
 
     trials.py FOLDER    writes FOLDER/stdin and FOLDER/stdout
 
-The labels: those of document 01, the slips listed at its end, the limits from both sides, pairs of different labels with equal runs, accepted labels in
+The labels: those of document 01, the examples of ECMA-388, the slips listed at its end, the limits from both sides, pairs of different labels with equal runs, accepted labels in
 Latin and Thai, and some generated ones.
 """
 
@@ -20,6 +20,10 @@ PAPER = [
     (b'{}', b''), (b'{a', b''), (b'{}{a', b''), (b'A', b'5,-1'), (b'A', b'5,.0005'), (b'A', b'5,.0004'), (b'A', b'5,1e6'), (b'A', b'5,1000000.0004'),
     (b'A', b'5,1000000.0005'), (b'A', b'065535'), (b'A', b'65536'), (b'AB', b'(2:2)5'), (b'AB', b'(2:2)5;'), (b'AB', b'(0)5'), (GRIN, b''), (GRIN, b'(2)9'),
     (b'', b'5;6'), (b'{}flow', b'(2:1)192;07,+55.50,,0'),
+]
+STANDARD = [
+    ('\u0e20\u0e31\u0e33!'.encode(), b'153;106,,,16;(1:2)124;198;4'), ('\u0baa\u0bcb\u0ba4\u0bc1'.encode(), b'(2:3)94;76;88;(2:1)162'),
+    (b'fathoms', b';;;;;;,40'), (b'fathoms', b';;;;;(2:1)191'),
 ]
 LIMITS = [
     (b'A' * 16385, b''), (b'{}' + b'A' * 16382, b''), (b'A', b'5' * 32769), (b'A', b'0' * 32767 + b'5'), (b'A' * 4096, b''), (b'A' * 4097, b''),
@@ -39,7 +43,7 @@ def on_lines(label):
 
 def all_labels():
     rng = Random(20)
-    found = PAPER + LIMITS + [label for pair in EQUAL for label in pair] + [case[:2] for case in edges.slips()]
+    found = PAPER + STANDARD + LIMITS + [label for pair in EQUAL for label in pair] + [case[:2] for case in edges.slips()]
     found += rng.sample([case[:2] for case in edges.label_edges() if len(case[0]) + len(case[1]) < 300], 300)
     for make in (generate.valid_label, generate.damaged_label, generate.mixed_label, generate.number_label, generate.utf8_label):
         found += [make(rng)[:2] for _ in range(40)]
