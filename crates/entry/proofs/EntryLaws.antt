@@ -1,23 +1,24 @@
 -- What the code makes of an entry's parts is what the definitions say of the entry. Assumes nothing.
 use mathlib.Core.Path.{_≡_, refl, ap, sym, _∙_}
-use mathlib.Core.Bool.{Bool, true, false, not, _&&_, _||_, and-true}
-use mathlib.Core.List.{List}
+use mathlib.Core.Bool.{Bool, true, false, not, _&&_, _||_, and-true, or-true}
+use mathlib.Core.List.{List, [], _∷_}
 use Prim.Native.Nat.{ℕ, _+_, _≤_, _<_, min}
 use native.Mathlib.Omega.{arith}
-use native.Mathlib.Nat.{add-zero}
+use native.Mathlib.Nat.{add-zero, zero-add}
 use lib.Dec.{leb, ltb, eqb}
 use lib.IntN.{ℤ, pos}
-use lib.ListN.{length, drop}
+use lib.ListN.{length, drop, length-drop}
 use lib.Seq.{drop-drop}
-use borrow.Author.Tests.{eq-eqb, ne-eqb, le-leb, lt-leb, leb-true}
+use borrow.Author.Tests.{eq-eqb, ne-eqb, eqb-true, eqb-false, le-leb, lt-leb, lt-ltb, leb-true, ltb-true}
 use Rattle.label.specs.Limits.{maxIndex, maxThousandths}
 use Rattle.label.specs.Bytes.{value}
 use Rattle.label.specs.Entry.{entry, scaled}
 use Rattle.label.specs.Calls.{refusal}
 use Rattle.label.specs.declared.Index.{Index}
+use Rattle.label.specs.declared.Index.the-variants.{Named}
 use Rattle.label.specs.declared.Advance.{Advance}
 use Rattle.label.specs.declared.Advance.the-variants.{Own}
-use Rattle.label.proofs.Basics.{cases}
+use Rattle.label.proofs.Basics.{and-l, and-r, cases, clash}
 use Rattle.entry.specs.declared.Thousandths.{Thousandths}
 use Rattle.entry.specs.declared.Digits.{Digits}
 use Rattle.entry.specs.declared.Number.{Number}
@@ -25,10 +26,10 @@ use Rattle.entry.specs.declared.MapPart.{MapPart}
 use Rattle.entry.specs.declared.Front.{Front}
 use Rattle.entry.specs.declared.Field.{Field}
 use Rattle.entry.specs.declared.EntryRead.the-variants.{Read, Refused}
-use Rattle.entry.specs.Items.{cap, isSemi, here, entryRead}
+use Rattle.entry.specs.Items.{cap, isSemi, here, entryRead, indexItem, IsIndex}
 use Rattle.entry.specs.Digits.{headOf, ends, isBreak, lead, digitsFrom}
 use Rattle.entry.specs.Numbers.{sized, within, signLength, numberOf, Mant, Expo, mantissaOf, exponentOf, sizeOf}
-use Rattle.entry.specs.Parts.{mapOf, mapWith, noMap, badMap, leadAt, cutMap, indexAt, frontWith, frontOf, fieldOf, fieldWith, headAt, notGiven, givenBy, Small, Parts, partsOf, wellParted, indexChoice, advanceChoice, offsetBy, judged, scanned}
+use Rattle.entry.specs.Parts.{Map, mapOf, mapBy, mapWith, noMap, badMap, leadAt, cutMap, indexAt, frontWith, frontOf, fieldOf, fieldWith, headAt, notGiven, givenBy, Small, Parts, partsOf, wellParted, indexChoice, advanceChoice, offsetBy, judged, scanned}
 use Rattle.entry.proofs.EntryBridge.{bridge}
 
 -- ── the map ──
@@ -56,6 +57,22 @@ module _ (s : List ℕ) (p : headOf s ≡ 40) (r : Digits) (e : r ≡ digitsFrom
 
     pub code-open : (headOf (drop (1 + (r .count + 1) + q .count) s) ≡ 41 → ⊥) → cutMap badMap ≡ cutMap (mapOf s)
     code-open l = rw (map-some s p, ne-eqb _ _ (rw e at h), eq-eqb _ _ (rw e at k), ne-eqb _ _ (rw (f, e) at l))
+
+-- where there is no map, no byte is a map's
+by-mapped : (h k : ℕ) (ds es : List ℕ) → mapBy h k ds es .mapped ≡ true
+by-mapped h k ds es =
+    cases (eqb h 41) (λ e. rw e) (λ e. cases (eqb h 58) (λ f. cases (eqb k 41) (λ g. rw (e, f, g)) (λ g. rw (e, f, g))) (λ f. rw (e, f)))
+
+pub map-unused : (s : List ℕ) (m : MapPart) → m ≡ cutMap (mapOf s) → m .mapped ≡ false → m .used ≡ 0
+map-unused s m em h =
+    let none : mapOf s .mapped ≡ false = sym (ap (λ (x : MapPart). x .mapped) em) ∙ h in
+    let ds : List ℕ = leadAt 1 s in
+    let es : List ℕ = leadAt (1 + (length ds + 1)) s in
+    ap (λ (x : MapPart). x .used) em
+    ∙ cases (eqb (headOf s) 40)
+    (λ e. clash (mapOf s .mapped)
+    (ap (λ (x : Map). x .mapped) (map-some s (eqb-true (headOf s) 40 e)) ∙ by-mapped (headAt (1 + length ds) s) (headAt (1 + (length ds + 1) + length es) s) ds es) none)
+    (λ e. ap (λ (x : Map). x .used) (map-none s (eqb-false (headOf s) 40 e)))
 
 -- ── map and index ──
 
@@ -290,3 +307,32 @@ module _ (k : ℕ) (s : List ℕ) (f : Front) (ef : f ≡ frontOf s) (h : headOf
     bare-read l i ei =
         rw (← sum)
         (code-read k s f ef (notGiven 0) x0 (notGiven 0) y0 (notGiven 0) z0 bare-bound (bare-well ∙ w) l refl i ei Own refl (pos 0) (pos 0) refl refl)
+
+-- ── an index alone ──
+
+-- a map's `(` is no digit
+no-digit : (t : List ℕ) → headOf t ≡ 40 → length (lead t) ≡ 0
+no-digit [] h = refl
+no-digit (b ∷ t) h = rw h
+
+no-comma : (t : List ℕ) → ends isSemi t ≡ true → headOf t ≡ 44 → ⊥
+no-comma [] w h = omega (arith, h)
+no-comma (b ∷ t) w h = omega (arith, h, eqb-true b 59 w)
+
+pub index-alone : (t : List ℕ) (d : Digits) → d ≡ digitsFrom 0 t → d .count ≤ length t → 0 < d .count → d .value ≤ maxIndex → ends isSemi (drop (d .count) t) ≡ true → IsIndex t d
+index-alone t d ed bound some l w =
+    let n : ℕ = d .count in
+    let plain : mapOf t ≡ noMap = map-none t (λ h. omega (arith, some, ap (λ (r : Digits). r .count) ed, no-digit t h)) in
+    let f : Front = record { ok = true; used = n; mapped = false; units = 1; glyphs = 1; named = ltb 0 n; index = d .value } in
+    let ef : f ≡ frontOf t = rw (zero-add n) at (code-front t (cutMap noMap) (ap cutMap (sym plain)) d ed true true (sym (or-true (ltb 0 n))) refl) in
+    (l, λ k. sym (bare-read k t f ef (no-comma (drop n t) w) bound w l (Named (d .value)) (ap (λ (b : Bool). indexChoice b (d .value)) (sym (lt-ltb 0 n some)))))
+
+-- the same of the entry at a place, by the code's flags
+pub index-told : (s : List ℕ) (at : ℕ) (d : Digits) → d ≡ digitsFrom 0 (drop at s) → at + d .count ≤ length s → {i e r : Bool} → i ≡ (ltb 0 (d .count) && leb (d .value) maxIndex)
+    → e ≡ ends isSemi (drop (at + d .count) s) → r ≡ (i && e) → r ≡ true → IsIndex (drop at s) d
+index-told s at d ed b ei ee er h =
+    let t = rw (er, ei) at h in
+    let i = and-l (ltb 0 (d .count) && leb (d .value) maxIndex) _ t in
+    index-alone (drop at s) d ed (omega (arith, b, length-drop at s)) (ltb-true 0 (d .count) (and-l (ltb 0 (d .count)) (leb (d .value) maxIndex) i))
+    (leb-true (d .value) maxIndex (and-r (ltb 0 (d .count)) (leb (d .value) maxIndex) i))
+    (ap (λ (y : List ℕ). ends isSemi y) (drop-drop (d .count) at s) ∙ sym ee ∙ and-r (ltb 0 (d .count) && leb (d .value) maxIndex) _ t)

@@ -1,13 +1,20 @@
 -- What reading one entry answers.
 -- Assumes nothing.
-use Prim.Native.Nat.{ℕ, min}
-use mathlib.Core.Bool.{Bool}
+use Prim.Native.Nat.{ℕ, _≤_, min}
+use mathlib.Core.Path.{_≡_}
+use mathlib.Core.Bool.{Bool, false}
 use mathlib.Core.List.{List}
 use lib.Dec.{eqb}
+use lib.IntN.{pos}
+use lib.ListN.{length}
+use Rattle.label.specs.Limits.{maxIndex}
 use Rattle.label.specs.Outcome.{Outcome, ok, no}
 use Rattle.label.specs.Bytes.{cut}
-use Rattle.label.specs.Entry.{Entry}
+use Rattle.label.specs.Entry.{Entry, entry}
 use Rattle.label.specs.Calls.{refusal}
+use Rattle.label.specs.declared.Index.the-variants.{Named}
+use Rattle.label.specs.declared.Advance.the-variants.{Own}
+use Rattle.entry.specs.declared.Digits.{Digits}
 use Rattle.entry.specs.declared.Item.{Item}
 use Rattle.entry.specs.declared.EntryRead.{EntryRead}
 use Rattle.entry.specs.declared.EntryRead.the-variants.{Read, Refused}
@@ -32,6 +39,15 @@ here t = cut isSemi t .before
 abbrev pub entryRead : ℕ → Outcome Entry → EntryRead
 entryRead n (ok e) = Read (cutItem n e)
 entryRead n (no i p) = Refused (refusal i p)
+
+-- what the digits d alone say
+abbrev pub indexItem : Digits → Item
+indexItem d =
+    record { mapped = false; units = 1; glyphs = 1; glyph = record { index = Named (d .value); advance = Own; u = pos 0; v = pos 0 }; used = d .count }
+
+-- the entry in front, whatever its number, is read as the digits d alone
+abbrev pub IsIndex : List ℕ → Digits → Type 0
+IsIndex t d = (d .value ≤ maxIndex) × ((k : ℕ) → entryRead (length (here t)) (entry k (here t)) ≡ Read (indexItem d))
 
 -- the paper's number and values for each case of the answer
 abbrev pub entryOutcome : EntryRead → Outcome Entry

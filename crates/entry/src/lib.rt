@@ -14,7 +14,7 @@ ghost use Rattle.label.specs.Write.{fraction, valueBytes, offsetBytes, advanceB
 ghost use Rattle.words.specs.Places.{glyphAt, place};
 ghost use Rattle.words.specs.Puts.{Put};
 ghost use Rattle.entry.specs.declared.EntryRead.the-variants.{Refused};
-ghost use Rattle.entry.specs.Items.{cap, isSemi, here, entryRead};
+ghost use Rattle.entry.specs.Items.{cap, isSemi, here, entryRead, indexItem, IsIndex};
 ghost use Rattle.entry.specs.Digits.{headOf, ends, isBreak, pushed, digitsFrom};
 ghost use Rattle.entry.specs.Numbers.{sized, within, mantissaOf, cutMantissa, signLength, exponentOf, cutExponent, numberOf};
 ghost use Rattle.entry.specs.Parts.{mapOf, noMap, badMap, cutMap, frontOf, notGiven, fieldOf, indexChoice, advanceChoice, signedBy, offsetBy, Small};
@@ -75,9 +75,9 @@ fn breaks_at(s: &[u8], at: usize) -> bool
 // ── digits ──
 
 // The digits that stand at a place: how many, and their value, cut at 10^18.
-struct Digits {
-    count: usize,
-    value: u64,
+pub struct Digits {
+    pub count: usize,
+    pub value: u64,
 }
 
 const CAP: u64 = 1_000_000_000_000_000_000;
@@ -98,7 +98,7 @@ fn push_digit(v: u64, b: u8) -> u64
 }
 
 // The digits at a place, read behind `start`.
-fn digits_at(s: &[u8], at: usize, start: u64) -> Digits
+pub fn digits_at(s: &[u8], at: usize, start: u64) -> Digits
     requires { ⌜ (at ≤ length (now s)) × (start ≤ cap) ⌝ }
     ensures { λ r. ⌜ r ≡ digitsFrom start (drop at (now (s .entry))) ⌝ }
     ensures bounds { λ r. ⌜ (at + r .count ≤ length (now (s .entry))) × (r .value ≤ cap) ⌝ }
@@ -445,12 +445,26 @@ struct Front {
     index: u64,
 }
 
-fn front_of(s: &[u8]) -> Front
+// The digits behind the map; `first` are those in front of the entry.
+fn index_digits(s: &[u8], m: MapPart, first: Digits) -> Digits
+    requires { ⌜ (m ≡ cutMap (mapOf (now s))) × (m .used ≤ length (now s)) ⌝ }
+    requires first { ⌜ (first ≡ digitsFrom 0 (now s)) × (first .count ≤ length (now s)) ⌝ }
+    ensures { λ r. ⌜ r ≡ digitsFrom 0 (drop (m .used) (now (s .entry))) ⌝ }
+    ensures bounds { λ r. ⌜ m .used + r .count ≤ length (now (s .entry)) ⌝ }
+{
+    if m.mapped {
+        return digits_at(s, m.used, 0);
+    }
+    first
+}
+
+fn front_of(s: &[u8], first: Digits) -> Front
+    requires { ⌜ (first ≡ digitsFrom 0 (now s)) × (first .count ≤ length (now s)) ⌝ }
     ensures { λ r. ⌜ r ≡ frontOf (now (s .entry)) ⌝ }
     ensures bounds { λ r. ⌜ r .used ≤ length (now (s .entry)) ⌝ }
 {
     let m = map_of(s);
-    let d = digits_at(s, m.used, 0);
+    let d = index_digits(s, m, first);
     let named = 0 < d.count;
     Front {
         ok: words::both(m.ok, words::either(named, !m.mapped)),
@@ -643,11 +657,12 @@ fn read_fields(s: &[u8], k: usize, f: Front) -> EntryRead
     })
 }
 
-// Entry number k, where s is the indices from its start on: 7, 8 and 9 in order, or what it says.
-pub fn read_entry(s: &[u8], k: usize) -> EntryRead
+// Entry number k, where s is the indices from its start on, and `first` the digits there: 7, 8 and 9 in order, or what it says.
+pub fn read_entry(s: &[u8], first: Digits, k: usize) -> EntryRead
+    requires { ⌜ (first ≡ digitsFrom 0 (now s)) × (first .count ≤ length (now s)) ⌝ }
     ensures { λ r. ⌜ r ≡ entryRead (length (here (now (s .entry)))) (entry k (here (now (s .entry)))) ⌝ }
 {
-    let front = front_of(s);
+    let front = front_of(s, first);
     let end = front.used;
     if byte_at(s, end) == 44 {
         return read_fields(s, k, front);
@@ -671,6 +686,36 @@ pub fn read_entry(s: &[u8], k: usize) -> EntryRead
         glyph,
         used: end,
     })
+}
+
+// ── an index alone ──
+
+// Whether the entry at a place is the digits d there and nothing else, within the limit: such an entry needs no more reading.
+pub fn is_index(s: &[u8], at: usize, d: Digits) -> bool
+    requires { ⌜ (d ≡ digitsFrom 0 (drop at (now s))) × (at + d .count ≤ length (now s)) ⌝ }
+    ensures { λ r. ⌜ (r ≡ true → IsIndex (drop at (now (s .entry))) d) ⌝ }
+{
+    let index = words::both(0 < d.count, d.value <= Limits::INDEX);
+    words::both(index, ends_at(s, at + d.count))
+}
+
+// What it says.
+pub fn index_item(d: Digits) -> Item
+    requires { ⌜ d .value ≤ maxIndex ⌝ }
+    ensures { λ r. ⌜ r ≡ indexItem d ⌝ }
+{
+    Item {
+        mapped: false,
+        units: 1,
+        glyphs: 1,
+        glyph: Glyph {
+            index: Index::Named(d.value as u16),
+            advance: Advance::Own,
+            u: 0,
+            v: 0,
+        },
+        used: d.count,
+    }
 }
 
 // ── writing ──

@@ -25,10 +25,10 @@ use Rattle.entry.specs.Items.{cap, here, entryRead}
 use Rattle.entry.specs.declared.Item.{Item}
 use Rattle.entry.specs.declared.EntryRead.{EntryRead}
 use Rattle.entry.specs.declared.EntryRead.the-variants.{Read, Refused}
-use Rattle.reader.specs.Steps.{itemEntry, advanced, openedHere, clusterPlaces, glyphPlaces, tailParts}
+use Rattle.reader.specs.Steps.{itemEntry, advanced, entryAt, takenBy, openedHere, clusterPlaces, glyphPlaces, Storable, tailParts}
 use Rattle.reader.proofs.Entries.{empty-eqb, leftFrom, left-is, left-few}
 use Rattle.reader.proofs.Placing.{read-is, refused-is}
-use Rattle.reader.proofs.Walking.{walk-end, stateOf, Stands, Ready, Turned, turned, takes-cut, handed, read-here, refusing, step-no, ends-open, ends-shut}
+use Rattle.reader.proofs.Walking.{walk-end, stateOf, Stands, Ready, Turned, turned, takes-cut, refusing, step-no, ends-open, ends-shut}
 use Rattle.reader.proofs.Endings.{tail-is}
 use Rattle.reader.proofs.Stores.{Stored, Flattens, clusters-flatten, glyphs-flatten, room-more, flat-stored}
 
@@ -117,20 +117,20 @@ module _ (us s : List ℕ) (all : Parts) (good : walk (empty us) (start us) (ent
 
     -- ── one turn ──
 
-    module _ (rd : Ready us s c) (hi : c .place ≤ length s) (o : EntryRead) (eo : o ≡ entryRead (length (here (handed s (c .place)))) (entry (c .entry) (here (handed s (c .place))))) where
+    module _ (rd : Ready us s c) (hi : c .place ≤ length s) where
       abbrev head : List ℕ
       head = here (drop (c .place) s)
 
-      pub fill-never : {A : Type 0} (r : Refusal) → o ≡ Refused r → A
+      pub fill-never : {A : Type 0} (r : Refusal) → entryAt s c ≡ Refused r → A
       fill-never r e =
           never (r .number) (r .place)
           (refusing us s pre lack c st hi (r .number) (r .place)
-          (step-no (empty us) (stateOf us c lack) head (r .number) (r .place) (refused-is (length head) (entry (c .entry) head) r (read-here us s c o eo (Refused r) e))))
+          (step-no (empty us) (stateOf us c lack) head (r .number) (r .place) (refused-is (length head) (entry (c .entry) head) r e)))
 
-      pub fill-turn : (x : Item) (n a : ℕ) → o ≡ Read x → n ≡ length us → a ≡ cond (eqb (c .lack) 0 && not (eqb n 0)) (x .units) 0
+      pub fill-turn : (x : Item) (n a : ℕ) → entryAt s c ≡ Read x → n ≡ length us → a ≡ takenBy n (c .lack) (x .units)
           → (d : Cursor) → d ≡ advanced c 0 a (x .glyphs) (c .place + x .used + 1) → Turned us s pre lack c d a x
       fill-turn x n a e en ea d ed =
-          let (e₁, is, ex) = read-is (length head) (entry (c .entry) head) x (read-here us s c o eo (Read x) e) in
+          let (e₁, is, ex) = read-is (length head) (entry (c .entry) head) x e in
           let w : Walked (empty us) (stateOf us c lack) head (leftFrom s (c .place + length head + 1)) (accepted .others) =
           walk-ok (empty us) (stateOf us c lack) head (leftFrom s (c .place + length head + 1)) (accepted .others)
           (ap (λ (ss : List (List ℕ)). walk (empty us) (stateOf us c lack) ss) (sym (left-is s (c .place) hi)) ∙ accepted .rest) in
@@ -163,7 +163,7 @@ module _ (us s : List ℕ) (all : Parts) (good : walk (empty us) (start us) (ent
         let m : w .lack′ ≡ w .e .glyphs - 1 = w .lacks ∙ rw (w .opened, h) in
         omega (arith, left-few s (d .place), w .ready .few-bytes)
 
-    pub small-counts : c .lack ≡ 0 → (t < 2147483648) × (x .glyphs < 2147483648)
+    small-counts : c .lack ≡ 0 → (t < 2147483648) × (x .glyphs < 2147483648)
     small-counts h =
         let f = few-glyphs (eq-eqb (c .lack) 0 h) in
         (omega (arith, w .units-few, w .ready .few-units), omega (arith, f, glyphs-cut))
@@ -181,7 +181,7 @@ module _ (us s : List ℕ) (all : Parts) (good : walk (empty us) (start us) (ent
     unfolding flatGlyphs
     glyph-is = rw (← w .item-is) (cases (eqb lack 0) (λ h. rw h) (λ h. rw h))
 
-    pub advance-small : advanceFits (x .glyph .advance) ≡ true
+    advance-small : advanceFits (x .glyph .advance) ≡ true
     advance-small =
         let g = w .e .glyph in
         let a = indexFits (g .index) && advanceFits (g .advance) in
@@ -189,10 +189,10 @@ module _ (us s : List ℕ) (all : Parts) (good : walk (empty us) (start us) (ent
         let f : advanceFits (g .advance) ≡ true = and-r (indexFits (g .index)) (advanceFits (g .advance)) (and-l a b (and-l (a && b) (leb (size (g .v)) 1000000000) (w .small))) in
         subst (λ (y : Item). advanceFits (y .glyph .advance) ≡ true) (w .item-is) f
 
-    pub room-clusters : 2 * c .clusters + length (flatClusters (openedHere (c .lack) t (x .glyphs))) ≤ 2 * length (all .clusters)
+    room-clusters : 2 * c .clusters + length (flatClusters (openedHere (c .lack) t (x .glyphs))) ≤ 2 * length (all .clusters)
     room-clusters = listed-room _ _ _ _ _ clusters-listed all pre (c .clusters) (st .clusters-are) more (then .others) (then .is) _ opened-is
 
-    pub room-glyphs : 4 * c .entry + 4 ≤ 4 * length (all .glyphs)
+    room-glyphs : 4 * c .entry + 4 ≤ 4 * length (all .glyphs)
     room-glyphs = listed-room _ _ _ _ _ glyphs-listed all pre (c .entry) (st .glyphs-are) more (then .others) (then .is) _ glyph-is
 
     module _ (old out out′ : List ℤ) where
@@ -203,6 +203,23 @@ module _ (us s : List ℕ) (all : Parts) (good : walk (empty us) (start us) (ent
       pub glyphs-stored : Stored old out (flatGlyphs (pre .glyphs)) → out′ ≡ sets out (4 * c .entry) (glyphPlaces (x .glyph))
           → 4 * length (all .glyphs) ≤ length old → Stored old out′ (flatGlyphs (joined pre more .glyphs))
       glyphs-stored = listed-stored _ _ _ _ _ glyphs-listed all pre (c .entry) (st .glyphs-are) more (then .others) (then .is) _ glyph-is old out out′
+
+  -- an entry that was read can be stored, in m places of clusters and k of glyphs
+  pub storable : (pre : Parts) (lack : ℕ) (c : Cursor) (st : Stands us s pre lack c) → Ready us s c → c .place ≤ length s → (x : Item) (n : ℕ) → entryAt s c ≡ Read x → n ≡ length us
+      → (m k : ℕ) → 2 * length (all .clusters) ≤ m → 4 * length (all .glyphs) ≤ k → Storable n c x m k
+  storable pre lack c st rd hi x n h en m k hm hk =
+      let a : ℕ = takenBy n (c .lack) (x .units) in
+      let d : Cursor = advanced c 0 a (x .glyphs) (c .place + x .used + 1) in
+      let w : Turned us s pre lack c d a x = fill-turn pre lack c st rd hi x n a h en refl d refl in (
+        small-counts pre lack c d a x w st,
+        omega (arith, hm, room-clusters pre lack c d a x w st),
+        omega (arith, hk, room-glyphs pre lack c d a x w st),
+        advance-small pre lack c d a x w st,
+        omega (arith, rd .number, hi, rd .few-bytes),
+        omega (arith, w .units-few, rd .few-units),
+        rd .some,
+        omega (arith, w .behind, rd .few-bytes),
+      )
 
   -- ── the end ──
 

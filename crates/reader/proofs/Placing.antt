@@ -15,13 +15,14 @@ use Rattle.label.specs.Run.{State, named, placed, whole}
 use Rattle.label.specs.Calls.{refusal}
 use Rattle.label.specs.declared.Cursor.{Cursor}
 use Rattle.label.specs.declared.Refusal.{Refusal}
-use Rattle.label.proofs.Basics.{cases, clash}
+use Rattle.label.proofs.Basics.{and-l, and-r, cases, clash}
 use Rattle.label.proofs.Texts.{proper-first}
 use Rattle.label.proofs.Sounds.{decode-proper}
 use Rattle.text.specs.Moves.{unitsFrom, Moves}
 use Rattle.text.specs.declared.Moved.{Moved}
 use Rattle.text.specs.declared.Moved.the-variants.{To, Past, Half}
-use Rattle.entry.specs.Items.{cap, cutItem, entryRead}
+use Rattle.entry.specs.Items.{cap, cutItem, entryRead, indexItem}
+use Rattle.entry.specs.declared.Digits.{Digits}
 use Rattle.entry.specs.declared.Item.{Item}
 use Rattle.entry.specs.declared.EntryRead.the-variants.{Read, Refused}
 use Rattle.reader.specs.declared.Turn.{Turn}
@@ -95,6 +96,19 @@ module _ (bare : Bool) (text : List ℕ) (c : Cursor) (x : Item) where
       let w : whole 0 (unitsFrom text (c .byte)) ≡ true = proper-first (unitsFrom text (c .byte)) (decode-proper (drop (c .byte) text) 0 (c .byte) (unitsFrom text (c .byte)) k) in
       let p : plain ≡ true = rw f at o in
       rw (h, f, p) (rw (leb·zero (length (unitsFrom text (c .byte))), w), subst (λ (k : ℕ). d ≡ advanced c k 0 (x .glyphs) (c .place + x .used + 1)) (sym y) q, rw y k)
+
+-- an index alone at a character of one byte, by the code's flags
+pub turn-plain : (bare : Bool) (text : List ℕ) (c : Cursor) (n : Digits) (d : Cursor) → (eqb (c .lack) 0 && not bare) ≡ true → Moves text (c .byte) 1 (To (c .byte + 1))
+    → d ≡ advanced c (c .byte + 1) 1 1 (c .place + n .count + 1) → Turns bare text c (indexItem n) (Took d)
+turn-plain bare text c n d f m e =
+    turn-opens bare text c (indexItem n) (Took d) (opens-to text c 1 1 (c .place + n .count + 1) (To (c .byte + 1)) (c .byte + 1) d m refl e) refl f
+
+-- the flags of that put together
+pub plain-is : (free plain index : Bool) {both quick : Bool} → both ≡ (free && plain) → quick ≡ (both && index) → quick ≡ true → (free ≡ true) × (plain ≡ true) × (index ≡ true)
+plain-is free plain index e f h =
+    let t : (free && plain && index) ≡ true = rw (f, e) at h in
+    let u = and-l (free && plain) index t in
+    (and-l free plain u, and-r free plain u, and-r (free && plain) index t)
 
 -- the flags of 11 put together
 pub allowed-is : (o f p n a m d : Bool) → o ≡ (f || p) → f ≡ a → p ≡ (m && n) → n ≡ d → o ≡ (a || (m && d))

@@ -25,12 +25,14 @@ use Rattle.label.proofs.Sounds.{entry-facts}
 use Rattle.label.proofs.Cursors.{joined, after, added, walk-good, walk-bad, part-rest}
 use Rattle.text.specs.Moves.{unitsFrom}
 use Rattle.entry.specs.Items.{cap, cutItem, here, entryRead}
+use Rattle.entry.specs.Digits.{digitsFrom}
+use Rattle.entry.specs.declared.Digits.{Digits}
 use Rattle.entry.specs.declared.Item.{Item}
 use Rattle.entry.specs.declared.EntryRead.{EntryRead}
 use Rattle.entry.specs.declared.EntryRead.the-variants.{Read, Refused}
 use Rattle.reader.specs.declared.Turn.{Turn}
 use Rattle.reader.specs.declared.Turn.the-variants.{Took, Stopped}
-use Rattle.reader.specs.Steps.{firstCursor, stateAt, itemEntry, advanced, Turns}
+use Rattle.reader.specs.Steps.{firstCursor, stateAt, itemEntry, advanced, Turns, entryAt, Stops, Steps}
 use Rattle.reader.proofs.Entries.{empty-eqb, leftFrom, left-is, left-none, left-all, here-inside}
 use Rattle.reader.proofs.Placing.{read-is, refused-is, over, placed-cut}
 
@@ -322,35 +324,56 @@ module _ (text us s : List ℕ) (pre : Parts) (lack : ℕ) (c : Cursor) (st : St
   unfolding Turns
   turn-stopped x r h t = let (e, ex, q) = step-read x h (no (r .number) (r .place)) t in refusing us s pre lack c st hi (r .number) (r .place) q
 
-  pub turn-unread : (r : Refusal) → entryRead (length head) (entry (c .entry) head) ≡ Refused r → walk (empty us) (start us) (entries s) ≡ no (r .number) (r .place)
+  turn-unread : (r : Refusal) → entryRead (length head) (entry (c .entry) head) ≡ Refused r → walk (empty us) (start us) (entries s) ≡ no (r .number) (r .place)
   turn-unread r h =
       refusing us s pre lack c st hi (r .number) (r .place)
       (step-no (empty us) (stateOf us c lack) head (r .number) (r .place) (refused-is (length head) (entry (c .entry) head) r h))
 
--- ── the same, as the code has it: the indices from the cursor's place on were handed to the reading of an entry ──
+  -- the code's step, in a text of n units
+  module _ (n : ℕ) (en : n ≡ length us) (r : Turn) (h : Steps (eqb n 0) text s c r) where
+    steps-here : Steps (empty us) text s c r
+    steps-here = subst (λ (b : Bool). Steps b text s c r) (ap (λ (m : ℕ). eqb m 0) en ∙ empty-eqb us) h
+
+    pub code-took : (d : Cursor) → r ≡ Took d → (x : Item) × Turned us s pre lack c d (takes (empty us) (stateAt text c) (itemEntry x)) x × At text us d
+    unfolding Steps
+    code-took d e = let (x, i, t) = subst (Steps (empty us) text s c) e steps-here in let w = turn-took x d i t in (x, w .0, w .1)
+
+    pub code-stopped : (q : Refusal) → r ≡ Stopped q → walk (empty us) (start us) (entries s) ≡ no (q .number) (q .place)
+    unfolding Steps
+    code-stopped q e = let (o, i, t) = subst (Steps (empty us) text s c) e steps-here in go o i t
+      where
+        go : (o : EntryRead) → entryAt s c ≡ o → Stops (empty us) text c q o → walk (empty us) (start us) (entries s) ≡ no (q .number) (q .place)
+        go (Read x) i t = turn-stopped x q i t
+        go (Refused p) i t = turn-unread q (i ∙ ap Refused t)
+
+-- ── the reading of an entry, as the code has it: the indices from the cursor's place on were handed to it ──
 
 abbrev pub handed : List ℕ → ℕ → List ℕ
 handed s i = take (length s - i) (drop i s)
 
-module _ (us s : List ℕ) (c : Cursor) (o : EntryRead) (eo : o ≡ entryRead (length (here (handed s (c .place)))) (entry (c .entry) (here (handed s (c .place))))) where
-  pub read-here : (q : EntryRead) → o ≡ q → entryRead (length (here (drop (c .place) s))) (entry (c .entry) (here (drop (c .place) s))) ≡ q
+module _ (s : List ℕ) (c : Cursor) (o : EntryRead) (eo : o ≡ entryRead (length (here (handed s (c .place)))) (entry (c .entry) (here (handed s (c .place))))) where
+  pub read-here : (q : EntryRead) → o ≡ q → entryAt s c ≡ q
   read-here q e = sym (eo ∙ ap (λ (l : List ℕ). entryRead (length (here l)) (entry (c .entry) (here l))) (part-rest s (c .place))) ∙ e
 
-  pub read-inside : (x : Item) → o ≡ Read x → c .place ≤ length s → c .place + x .used ≤ length s
-  read-inside x e hi =
-      let (y, is, ex) = read-is (length (here (drop (c .place) s))) (entry (c .entry) (here (drop (c .place) s))) x (read-here (Read x) e) in
-      let u : length (here (drop (c .place) s)) ≡ x .used = ap (λ (z : Item). z .used) ex in
-      omega (arith, here-inside s (c .place) hi)
+pub digits-here : (s : List ℕ) (i : ℕ) (d : Digits) → d ≡ digitsFrom 0 (drop i s) → i + d .count ≤ length s → (d ≡ digitsFrom 0 (handed s i)) × (d .count ≤ length (handed s i))
+digits-here s i d e b = rw (part-rest s i) (e, rw (length-drop i s) (omega (arith, b)))
 
-  module _ (text : List ℕ) (pre : Parts) (lack : ℕ) (st : Stands us s pre lack c) (rd : Ready us s c) (at : At text us c) (hi : c .place ≤ length s) (n : ℕ) (en : n ≡ length us) (x : Item) (ex : o ≡ Read x) (r : Turn) (t : Turns (eqb n 0) text c x r) where
-    turns-here : Turns (empty us) text c x r
-    turns-here = subst (λ (b : Bool). Turns b text c x r) (ap (λ (m : ℕ). eqb m 0) en ∙ empty-eqb us) t
+-- what was read, and what 10 to 13 say of it, is a step
+pub steps-read : (bare : Bool) (text s : List ℕ) (c : Cursor) (x : Item) (r : Turn) → entryAt s c ≡ Read x → Turns bare text c x r → Steps bare text s c r
+unfolding Steps
+steps-read bare text s c x (Took d) h t = (x, h, t)
+steps-read bare text s c x (Stopped r) h t = (Read x, h, t)
 
-    pub code-took : (d : Cursor) → r ≡ Took d → Turned us s pre lack c d (takes (empty us) (stateAt text c) (itemEntry x)) x × At text us d
-    code-took d e = turn-took text us s pre lack c st rd at hi x d (read-here (Read x) ex) (subst (Turns (empty us) text c x) e turns-here)
+pub steps-refused : (bare : Bool) (text s : List ℕ) (c : Cursor) (r : Refusal) → entryAt s c ≡ Refused r → Steps bare text s c (Stopped r)
+unfolding Steps
+steps-refused bare text s c r h = (Refused r, h, refl)
 
-    pub code-stopped : (q : Refusal) → r ≡ Stopped q → walk (empty us) (start us) (entries s) ≡ no (q .number) (q .place)
-    code-stopped q e = turn-stopped text us s pre lack c st rd at hi x q (read-here (Read x) ex) (subst (Turns (empty us) text c x) e turns-here)
+-- where an entry was read, its bytes are inside
+pub read-inside : (s : List ℕ) (c : Cursor) (x : Item) → entryAt s c ≡ Read x → c .place ≤ length s → c .place + x .used ≤ length s
+read-inside s c x h hi =
+    let (y, is, ex) = read-is (length (here (drop (c .place) s))) (entry (c .entry) (here (drop (c .place) s))) x h in
+    let u : length (here (drop (c .place) s)) ≡ x .used = ap (λ (z : Item). z .used) ex in
+    omega (arith, here-inside s (c .place) hi)
 
 -- ── the end of the entries ──
 

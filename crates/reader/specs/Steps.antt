@@ -1,26 +1,30 @@
 -- What the reader's steps come to, over label's definitions: the cursor in the place of label's state, one entry, the tail, and the places that each
 -- stores.
 -- Assumes nothing.
-use Prim.Native.Nat.{ℕ, _+_, _-_}
+use Prim.Native.Nat.{ℕ, _+_, _-_, _*_, _≤_, _<_}
 use mathlib.Core.Path.{_≡_}
-use mathlib.Core.Bool.{Bool, true, cond}
+use mathlib.Core.Bool.{Bool, true, cond, not, _&&_}
 use mathlib.Core.List.{List, [], _∷_}
 use lib.Dec.{leb, eqb}
 use lib.IntN.{ℤ, pos}
 use lib.ListN.{length, drop, replicate}
-use Rattle.label.specs.Limits.{maxGlyphs}
+use Rattle.label.specs.Limits.{maxUnits, maxGlyphs, maxIndicesBytes}
 use Rattle.label.specs.Outcome.{Outcome, ok, no, need, _>>_}
 use Rattle.label.specs.Bytes.{empty}
 use Rattle.label.specs.Text.{decode}
-use Rattle.label.specs.Entry.{Entry}
+use Rattle.label.specs.Entry.{Entry, entry}
 use Rattle.label.specs.Run.{Parts, State, takes, placed, tail, whole, cluster, fontGlyph}
-use Rattle.label.specs.Sound.{indexNumber, advanceNumber}
+use Rattle.label.specs.Sound.{indexNumber, advanceNumber, advanceFits, flatClusters}
 use Rattle.label.specs.declared.Cursor.{Cursor}
 use Rattle.label.specs.declared.Cluster.{Cluster}
 use Rattle.label.specs.declared.Glyph.{Glyph}
 use Rattle.label.specs.declared.Counts.{Counts}
+use Rattle.label.specs.declared.Refusal.{Refusal}
 use Rattle.text.specs.Moves.{unitsFrom}
+use Rattle.entry.specs.Items.{here, entryRead}
 use Rattle.entry.specs.declared.Item.{Item}
+use Rattle.entry.specs.declared.EntryRead.{EntryRead}
+use Rattle.entry.specs.declared.EntryRead.the-variants.{Read, Refused}
 use Rattle.reader.specs.declared.Turn.{Turn}
 use Rattle.reader.specs.declared.Turn.the-variants.{Took, Stopped}
 use Rattle.reader.specs.declared.Tail.{Tail}
@@ -71,6 +75,20 @@ Turns bare text c x (Took d) =
     × (decode 0 (d .byte) (drop (d .byte) text) ≡ ok (drop (takes bare (stateAt text c) (itemEntry x)) (unitsFrom text (c .byte))))
 Turns bare text c x (Stopped r) = placed bare (stateAt text c) (itemEntry x) ≡ no (r .number) (r .place)
 
+-- the reading of the entry at a cursor's place: 7 to 9
+abbrev pub entryAt : List ℕ → Cursor → EntryRead
+entryAt s c = entryRead (length (here (drop (c .place) s))) (entry (c .entry) (here (drop (c .place) s)))
+
+-- why an entry, read as o, stops the walk: it is refused itself, or by 10 to 13
+abbrev pub Stops : Bool → List ℕ → Cursor → Refusal → EntryRead → Type 0
+Stops bare text c r (Read x) = Turns bare text c x (Stopped r)
+Stops bare text c r (Refused q) = q ≡ r
+
+-- what 7 to 13 come to for the entry at a cursor's place
+unfoldable pub Steps : Bool → List ℕ → List ℕ → Cursor → Turn → Type 0
+Steps bare text s c (Took d) = (x : Item) × (entryAt s c ≡ Read x) × Turns bare text c x (Took d)
+Steps bare text s c (Stopped r) = (o : EntryRead) × (entryAt s c ≡ o) × Stops bare text c r o
+
 -- ── the tail ──
 
 -- a tail of n units
@@ -93,6 +111,10 @@ countedFrom u c g (no n p) = no n p
 
 -- ── stored places ──
 
+-- the units that an entry takes in a text of `count` units: its own where it opens a cluster and there are any
+abbrev pub takenBy : ℕ → ℕ → ℕ → ℕ
+takenBy count lack units = cond (eqb lack 0 && not (eqb count 0)) units 0
+
 -- the cluster that an entry opens, where none is open
 unfoldable pub openedHere : ℕ → ℕ → ℕ → List Cluster
 openedHere lack a b = cond (eqb lack 0) (cluster a b ∷ []) []
@@ -103,3 +125,11 @@ clusterPlaces c = pos (c .units) ∷ pos (c .glyphs) ∷ []
 
 abbrev pub glyphPlaces : Glyph → List ℤ
 glyphPlaces g = indexNumber (g .index) ∷ advanceNumber (g .advance) ∷ g .u ∷ g .v ∷ []
+
+-- entry x at cursor c can be stored in m places of clusters and n of glyphs, and the walk can go on
+abbrev pub Storable : ℕ → Cursor → Item → ℕ → ℕ → Type 0
+Storable count c x m n =
+    (c .lack ≡ 0 → (takenBy count (c .lack) (x .units) < 2147483648) × (x .glyphs < 2147483648))
+    × (2 * c .clusters + length (flatClusters (openedHere (c .lack) (takenBy count (c .lack) (x .units)) (x .glyphs))) ≤ m) × (4 * c .entry + 3 < n)
+    × (advanceFits (x .glyph .advance) ≡ true) × (c .entry ≤ maxIndicesBytes) × (c .unit + takenBy count (c .lack) (x .units) ≤ maxUnits)
+    × (c .clusters ≤ c .entry) × (c .place + x .used ≤ maxIndicesBytes)

@@ -17,7 +17,7 @@ ghost use Rattle.label.specs.declared.Reading.the-variants.{Refused as RefusedR
 ghost use Rattle.text.specs.Moves.{unitsFrom};
 ghost use Rattle.text.specs.Texts.{unitsStart};
 ghost use Rattle.entry.specs.Items.{here};
-ghost use Rattle.reader.specs.Steps.{firstPlace, firstCursor, advanced, Opens, Turns, Tails, limited, countedFrom, openedHere, glyphPlaces, tailParts};
+ghost use Rattle.reader.specs.Steps.{firstPlace, firstCursor, advanced, Opens, Turns, Steps, Tails, limited, countedFrom, takenBy, openedHere, glyphPlaces, Storable, tailParts};
 ghost use Rattle.reader.specs.Faults.{entryPart};
 
 fn refused(number: usize, place: usize) -> label::Reading
@@ -120,6 +120,26 @@ fn take_entry(text: &[u8], bare: bool, c: label::Cursor, x: entry::Item) -> Turn
     Turn::Took(advance(c, c.byte, 0, x.glyphs, place))
 }
 
+// The entry where the walk stands: 7 to 13. An index alone at a character of one byte, where no cluster is open, is taken without more reading.
+fn survey_entry(text: &[u8], indices: &[u8], bare: bool, c: label::Cursor) -> Turn
+    requires { ⌜ decode 0 (c .byte) (drop (c .byte) (now text)) ≡ ok (unitsFrom (now text) (c .byte)) ⌝ }
+    requires bounds { ⌜ (c .unit + length (unitsFrom (now text) (c .byte)) ≤ maxUnits) × (c .entry ≤ c .place) × (c .clusters ≤ c .entry) × (c .place ≤ length (now indices)) × (length (now indices) ≤ maxIndicesBytes) ⌝ }
+    ensures { λ r. ⌜ Steps bare (now (text .entry)) (now (indices .entry)) c r ⌝ }
+{
+    let place = c.place;
+    let byte = c.byte;
+    let digits = entry::digits_at(indices, place, 0);
+    let shut = words::both(c.lack == 0, !bare);
+    let plain = words::both(shut, text::is_plain(text, byte));
+    if words::both(plain, entry::is_index(indices, place, digits)) {
+        return Turn::Took(advance(c, byte + 1, 1, 1, place + digits.count + 1));
+    }
+    match entry::read_entry(&indices[place..], digits, c.entry) {
+        entry::EntryRead::Read(x) => take_entry(text, bare, c, x),
+        entry::EntryRead::Refused(r) => Turn::Stopped(r),
+    }
+}
+
 // ── the first pass ──
 
 // The tail has no pair, or this unit is the low half of its first one.
@@ -215,17 +235,11 @@ fn survey_run(text: &[u8], indices: &[u8], count: usize, start: usize) -> label:
     }
     let mut c = first_cursor(indices, start);
     while c.place <= indices.len() {
-        let place = c.place;
-        match entry::read_entry(&indices[place..], c.entry) {
-            entry::EntryRead::Read(x) => match take_entry(text, bare, c, x) {
-                Turn::Took(next) => {
-                    c = next;
-                }
-                Turn::Stopped(r) => {
-                    return label::Reading::Refused(r);
-                }
-            },
-            entry::EntryRead::Refused(r) => {
+        match survey_entry(text, indices, bare, c) {
+            Turn::Took(next) => {
+                c = next;
+            }
+            Turn::Stopped(r) => {
                 return label::Reading::Refused(r);
             }
         }
@@ -331,12 +345,33 @@ fn fill_tail(m: usize, n: usize, k: usize, clusters: &mut [i32], glyphs: &mut [i
 
 // The units that an entry takes in a text of `count` units: its own where it opens a cluster and there are any.
 fn taken(count: usize, lack: usize, units: usize) -> usize
-    ensures { λ r. ⌜ r ≡ cond (eqb lack 0 && not (eqb count 0)) units 0 ⌝ }
+    ensures { λ r. ⌜ r ≡ takenBy count lack units ⌝ }
 {
     if lack != 0 {
         return 0;
     }
     if count == 0 { 0 } else { units }
+}
+
+// The cluster that entry x opens, if any, and its glyph; returns the cursor behind it.
+fn put_entry(
+    count: usize,
+    at: label::Cursor,
+    x: entry::Item,
+    clusters: &mut [i32],
+    glyphs: &mut [i32],
+) -> label::Cursor
+    requires { ⌜ Storable count at x (length (now clusters)) (length (now glyphs)) ⌝ }
+    ensures { λ r. ⌜ r ≡ advanced at 0 (takenBy count (at .lack) (x .units)) (x .glyphs) (at .place + x .used + 1) ⌝ }
+    ensures clusters { λ _. ⌜ now (clusters .exit) ≡ sets (now (clusters .entry)) (2 * at .clusters) (flatClusters (openedHere (at .lack) (takenBy count (at .lack) (x .units)) (x .glyphs))) ⌝ }
+    ensures glyphs { λ _. ⌜ now (glyphs .exit) ≡ sets (now (glyphs .entry)) (4 * at .entry) (glyphPlaces (x .glyph)) ⌝ }
+{
+    let a = taken(count, at.lack, x.units);
+    let b = x.glyphs;
+    let g = x.glyph;
+    put_cluster(clusters, at.lack, at.clusters, a, b);
+    put_glyph(glyphs, at.entry, g);
+    advance(at, 0, a, b, at.place + x.used + 1)
 }
 
 // Where the text's units start: behind `{}`.
@@ -373,18 +408,18 @@ pub fn fill(
     let mut at = first_cursor(indices, 0);
     while at.place <= indices.len() {
         let place = at.place;
-        match entry::read_entry(&indices[place..], at.entry) {
-            entry::EntryRead::Read(x) => {
-                let a = taken(count, at.lack, x.units);
-                let b = x.glyphs;
-                let g = x.glyph;
-                put_cluster(clusters, at.lack, at.clusters, a, b);
-                put_glyph(glyphs, at.entry, g);
-                at = advance(at, 0, a, b, place + x.used + 1);
-            }
-            // An accepted label has no such entry.
-            entry::EntryRead::Refused(_) => {
-                return;
+        let digits = entry::digits_at(indices, place, 0);
+        if entry::is_index(indices, place, digits) {
+            at = put_entry(count, at, entry::index_item(digits), clusters, glyphs);
+        } else {
+            match entry::read_entry(&indices[place..], digits, at.entry) {
+                entry::EntryRead::Read(x) => {
+                    at = put_entry(count, at, x, clusters, glyphs);
+                }
+                // An accepted label has no such entry.
+                entry::EntryRead::Refused(_) => {
+                    return;
+                }
             }
         }
     }

@@ -7,9 +7,9 @@ use mathlib.Core.Bool.{true}
 use mathlib.Core.List.{List, [], _∷_, _++_}
 use borrow.Author.Tests.{le-leb}
 use lib.Dec.{leb, leb·zero, leb·suc-suc, leb·suc-zero}
-use lib.ListN.{length, drop}
+use lib.ListN.{length, getD, drop}
 use Rattle.label.specs.Outcome.{ok}
-use Rattle.label.specs.Text.{xmlChar, isLow, unitsOf, decode}
+use Rattle.label.specs.Text.{within, xmlChar, isLow, unitsOf, decode}
 use Rattle.text.specs.Chars.{charAt}
 use Rattle.label.specs.Run.{whole}
 use Rattle.text.specs.Moves.{unitsFrom, Moves}
@@ -20,7 +20,7 @@ use Rattle.label.proofs.Walks.{ok-path}
 use Rattle.label.proofs.Texts.{proper-first, within-is}
 use Rattle.label.proofs.Sounds.{decode-proper}
 use Rattle.label.proofs.Cursors.{onto, decode-good, decode-ill, decode-outside, decode-end}
-use Rattle.text.proofs.Chars.{GoodAt, one-is, two-are, char-is-good, char-is-ill, char-is-outside}
+use Rattle.text.proofs.Chars.{char-plain, plain-small, GoodAt, one-is, two-are, char-is-good, char-is-ill, char-is-outside}
 
 -- what is left: at byte b the units r, of which a are still to pass
 pub record Left (s : List ℕ) (at count b a : ℕ) : Type 0 where
@@ -107,6 +107,11 @@ left-done s at count b a x n = (
   x .same-whole ∙ rw n (proper-first (x .r) (decode-proper (drop b s) 0 b (x .r) (x .here))),
   x .here ∙ ap ok (sym (x .same-rest ∙ rw n)),
 )
+
+-- past a character of one byte
+pub left-plain : (s : List ℕ) (at : ℕ) → decode 0 at (drop at s) ≡ ok (unitsFrom s at) → at < length s → within 32 127 (getD s at 0) ≡ true → Moves s at 1 (To (at + 1))
+left-plain s at h l w =
+    left-done s at 1 (at + 1) 0 (left-one s at 1 at 1 (getD s at 0) (at + 1) (left-start s at 1 h) (λ z. omega (arith, z)) l (char-plain s at w) (plain-small s at w)) refl
 
 -- in a text without a fault there is a character at each place that is reached
 pub no-ill : {A : Type 0} (s : List ℕ) (b : ℕ) (r : List ℕ) → decode 0 b (drop b s) ≡ ok r → b < length s → charAt s b ≡ Ill → A

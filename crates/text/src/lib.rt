@@ -14,6 +14,7 @@ ghost use Rattle.words.specs.Puts.{Put};
 ghost use Rattle.text.specs.Chars.{charAt, counted};
 ghost use Rattle.text.specs.Texts.{unitsWithin, textRead};
 ghost use Rattle.text.specs.Moves.{unitsFrom, Moves};
+ghost use Rattle.text.specs.declared.Moved.the-variants.{To};
 ghost use Rattle.text.specs.Units.{unitOk, nextHalf, unitLength, markLength};
 use label::Row;
 
@@ -429,6 +430,17 @@ pub fn move_past(s: &[u8], at: usize, count: usize) -> Moved
         }
     }
     Moved::To(b)
+}
+
+// Whether a character of one byte stands at byte place `at`: a move past one unit then ends behind that byte.
+pub fn is_plain(s: &[u8], at: usize) -> bool
+    requires { ⌜ decode 0 at (drop at (now s)) ≡ ok (unitsFrom (now s) at) ⌝ }
+    ensures { λ r. ⌜ (r ≡ true → (at < length (now (s .entry))) × Moves (now (s .entry)) at 1 (To (at + 1))) ⌝ }
+{
+    if s.len() <= at {
+        return false;
+    }
+    is_within(0x20, 0x7f, s[at])
 }
 
 // ── the units of a run ──

@@ -8,8 +8,8 @@ use Rattle.entry.proofs.front_of.Tie as tie
 map-of-requires : tie.Need-map-of-requires
 map-of-requires c κs = search needs
 
-digits-at-requires : tie.Need-digits-at-requires
-digits-at-requires c κs = search needs
+index-digits-requires : tie.Need-index-digits-requires
+index-digits-requires c κs = search needs
 
 either-requires : tie.Need-either-requires
 either-requires c κs = search needs
@@ -17,13 +17,13 @@ either-requires c κs = search needs
 both-requires : tie.Need-both-requires
 both-requires c κs = search needs
 
-add-t8 : tie.Need-add-t8
-add-t8 c = search needs
+add-t9 : tie.Need-add-t9
+add-t9 c = search needs
 
 returns : tie.Need-returns
-returns c = (code-front _ _ (c .before .before .before .before .before .before .before .map-of .ensures .0) _ (c .before .before .before .before .before .before .digits-at .ensures .0) _ _ (c .before .before .before .either .ensures) (c .before .before .both .ensures), omega arith)
+returns c = (code-front _ _ (c .before .before .before .before .before .before .before .map-of .ensures .0) _ (c .before .before .before .before .before .before .index-digits .ensures .0) _ _ (c .before .before .before .either .ensures) (c .before .before .both .ensures), omega arith)
 
 pub front-of-spec : {M : Type 1} → statement M
 front-of-spec =
     tie.close
-    (tie.spec map-of-requires digits-at-requires either-requires both-requires add-t8 returns)
+    (tie.spec map-of-requires index-digits-requires either-requires both-requires add-t9 returns)

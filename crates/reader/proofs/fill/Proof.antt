@@ -8,14 +8,13 @@ use Rattle.label.specs.Outcome.{ok}
 use Rattle.label.specs.Run.{Parts}
 use Rattle.label.specs.Sound.{flatClusters, flatGlyphs}
 use Rattle.label.specs.Text.{decode}
-use Rattle.label.specs.declared.Cursor.{Cursor}
 use Rattle.text.specs.Moves.{unitsFrom}
 use Rattle.text.specs.Texts.{unitsStart}
-use Rattle.reader.specs.Steps.{advanced}
+use Rattle.entry.specs.declared.EntryRead.the-variants.{Read}
 use Rattle.reader.proofs.Calls.{Found, found, units-filled, clusters-filled, glyphs-filled}
-use Rattle.reader.proofs.Filling.{fill-never, fill-turn, small-counts, room-clusters, room-glyphs, advance-small, clusters-stored, glyphs-stored, end-clusters, end-glyphs, clusters-end, glyphs-end}
+use Rattle.reader.proofs.Filling.{fill-never, fill-turn, storable, clusters-stored, glyphs-stored, end-clusters, end-glyphs, clusters-end, glyphs-end}
 use Rattle.reader.proofs.Stores.{Stored, stored-start}
-use Rattle.reader.proofs.Walking.{nothing, Stands, Ready, stands-start, ready-start, Turned}
+use Rattle.reader.proofs.Walking.{nothing, Stands, Ready, stands-start, ready-start, read-here, digits-here}
 use Rattle.reader.proofs.fill.Statement.{statement}
 use Rattle.reader.proofs.fill.Tie as tie
 
@@ -30,18 +29,6 @@ abbrev μ-loop : tie.MeasureT-loop
 -- the label is accepted, with these counts
 label : (c : tie.Start Inv-loop μ-loop) → Found (c .args .text .now) (c .args .indices .now) (c .args .counts)
 label c = found (c .args .text .now) (c .args .indices .now) (c .args .counts) (c .pre .0)
-
--- the turn over an entry, to the cursor behind it
-turn : (c : tie.After-taken Inv-loop μ-loop) →
-    let a = c .before .before .before .before .before .before .before .before .before .before .before .before .before .before .before .before .before .before .args in
-    let at = c .before .before .before .before .before .before .before .before .loop .at in
-    let x = c .before .before .x .given .0 .0 in
-    (d : Cursor) → d ≡ advanced at 0 (c .taken .result) (x .glyphs) (at .place + x .used + 1)
-    → Turned (unitsFrom (a .text .now) (unitsStart (a .text .now))) (a .indices .now) (c .before .before .before .before .before .before .before .before .loop .inv .0) (c .before .before .before .before .before .before .before .before .loop .inv .1) at d (c .taken .result) x
-turn c =
-    let f = label (c .before .before .before .before .before .before .before .before .before .before .before .before .before .before .before .before .before .before) in
-    let l = c .before .before .before .before .before .before .before .before .loop .inv in
-    fill-turn _ _ (f .all) (f .walked) _ _ _ (l .2) (l .3) (c .before .before .before .before .before .before .if1 .taken) _ (c .before .before .before .before .read-entry .ensures) _ _ _ (c .before .before .x .given .1) (f .text .count) (c .taken .ensures)
 
 units-start-requires : tie.Need-units-start-requires Inv-loop μ-loop
 units-start-requires c κs = search needs
@@ -66,6 +53,42 @@ loop-holds c =
     let e = c .first-cursor .ensures in
     (nothing, 0, stands-start _ _ _ _ e, ready-start _ _ _ _ e (omega (arith, f .text .count, f .text .few)) (f .few-bytes), stored-start _, stored-start _)
 
+digits-at-requires : tie.Need-digits-at-requires Inv-loop μ-loop
+digits-at-requires c κs = search needs
+
+is-index-requires : tie.Need-is-index-requires Inv-loop μ-loop
+is-index-requires c κs = search needs
+
+index-item-requires : tie.Need-index-item-requires Inv-loop μ-loop
+index-item-requires c κs = c .before .is-index .ensures (c .if2 .taken) .0
+
+put-entry-requires : tie.Need-put-entry-requires Inv-loop μ-loop
+put-entry-requires c κs =
+    let a = c .before .before .before .before .before .before .before .before .before .before .before .before .before .before .before .before .before .before in
+    let f = label a in
+    let l = c .before .before .before .before .before .before .before .before .loop .inv in
+    storable _ _ (f .all) (f .walked) _ _ _ (l .2) (l .3) (c .before .before .before .before .before .before .if1 .taken) (c .before .before .index-item .result) _ (c .before .before .before .before .is-index .ensures (c .before .before .before .if2 .taken) .1 (c .before .before .before .before .before .before .before .before .loop .at .entry) ∙ ap Read (sym (c .before .before .index-item .ensures))) (f .text .count) _ _ (omega (arith, l .4 .same, f .clusters-are, a .pre .1 .1)) (omega (arith, l .5 .same, f .glyphs-are, a .pre .1 .2))
+
+loop-less : tie.Need-loop-less Inv-loop μ-loop
+loop-less c =
+    let f = label (c .before .before .before .before .before .before .before .before .before .before .before .before .before .before .before .before .before .before .before .before .before) in
+    let l = c .before .before .before .before .before .before .before .before .before .before .before .loop .inv in
+    let w = fill-turn _ _ (f .all) (f .walked) _ _ _ (l .2) (l .3) (c .before .before .before .before .before .before .before .before .before .if1 .taken) (c .before .before .before .before .before .index-item .result) _ _ (c .before .before .before .before .before .before .before .is-index .ensures (c .before .before .before .before .before .before .if2 .taken) .1 (c .before .before .before .before .before .before .before .before .before .before .before .loop .at .entry) ∙ ap Read (sym (c .before .before .before .before .before .index-item .ensures))) (f .text .count) refl _ (c .before .before .put-entry .ensures .0) in omega (arith, w .further, w .ready .place)
+
+loop-again : tie.Need-loop-again Inv-loop μ-loop
+loop-again c =
+    let a = c .before .before .before .before .before .before .before .before .before .before .before .before .before .before .before .before .before .before .before .before .before in
+    let f = label a in
+    let l = c .before .before .before .before .before .before .before .before .before .before .before .loop .inv in
+    let w = fill-turn _ _ (f .all) (f .walked) _ _ _ (l .2) (l .3) (c .before .before .before .before .before .before .before .before .before .if1 .taken) (c .before .before .before .before .before .index-item .result) _ _ (c .before .before .before .before .before .before .before .is-index .ensures (c .before .before .before .before .before .before .if2 .taken) .1 (c .before .before .before .before .before .before .before .before .before .before .before .loop .at .entry) ∙ ap Read (sym (c .before .before .before .before .before .index-item .ensures))) (f .text .count) refl _ (c .before .before .put-entry .ensures .0) in (
+      _,
+      w .lack′,
+      w .stands,
+      w .ready,
+      clusters-stored _ _ (f .all) (f .walked) _ _ _ _ _ _ w (l .2) _ _ _ (l .4) (c .before .before .put-entry .ensures .1 .0) (omega (arith, f .clusters-are, a .pre .1 .1)),
+      glyphs-stored _ _ (f .all) (f .walked) _ _ _ _ _ _ w (l .2) _ _ _ (l .5) (c .before .before .put-entry .ensures .1 .1) (omega (arith, f .glyphs-are, a .pre .1 .2)),
+    )
+
 sub-read-entry : tie.Need-sub-read-entry Inv-loop μ-loop
 sub-read-entry c = search needs
 
@@ -76,55 +99,37 @@ part-read-entry-end : tie.Need-part-read-entry-end Inv-loop μ-loop
 part-read-entry-end c = search needs
 
 read-entry-requires : tie.Need-read-entry-requires Inv-loop μ-loop
-read-entry-requires c κs = search needs
+read-entry-requires c κs =
+    let d = c .before .before .before .digits-at in digits-here (c .before .before .before .before .before .before .before .before .before .before .before .before .before .before .before .before .args .indices .now) (c .before .before .before .before .before .before .loop .at .place) (d .result) (d .ensures .0) (d .ensures .1 .0)
 
 enum-known-x : tie.Need-enum-known-x Inv-loop μ-loop
 enum-known-x c = search needs
 
-taken-requires : tie.Need-taken-requires Inv-loop μ-loop
-taken-requires c κs = search needs
+put-entry-requires-2 : tie.Need-put-entry-requires-2 Inv-loop μ-loop
+put-entry-requires-2 c κs =
+    let a = c .before .before .before .before .before .before .before .before .before .before .before .before .before .before .before .before .before .before .before .before .before .before in
+    let f = label a in
+    let l = c .before .before .before .before .before .before .before .before .before .before .before .before .loop .inv in
+    storable _ _ (f .all) (f .walked) _ _ _ (l .2) (l .3) (c .before .before .before .before .before .before .before .before .before .before .if1 .taken) (c .before .before .before .x .given .0 .0) _ (read-here _ (c .before .before .before .before .before .before .before .before .before .before .before .before .loop .at) _ (c .before .before .before .before .before .read-entry .ensures) _ (c .before .before .before .x .given .1)) (f .text .count) _ _ (omega (arith, l .4 .same, f .clusters-are, a .pre .1 .1)) (omega (arith, l .5 .same, f .glyphs-are, a .pre .1 .2))
 
-put-cluster-requires : tie.Need-put-cluster-requires Inv-loop μ-loop
-put-cluster-requires c κs =
-    let f = label (c .before .before .before .before .before .before .before .before .before .before .before .before .before .before .before .before .before .before .before .before) in
-    let l = c .before .before .before .before .before .before .before .before .before .before .loop .inv in
-    let w = turn (c .before .before) _ refl in
-    (small-counts _ _ (f .all) (f .walked) _ _ _ _ _ _ w (l .2), omega (arith, room-clusters _ _ (f .all) (f .walked) _ _ _ _ _ _ w (l .2), l .4 .same, f .clusters-are, c .before .before .before .before .before .before .before .before .before .before .before .before .before .before .before .before .before .before .before .before .pre .1 .1))
+loop-less-2 : tie.Need-loop-less-2 Inv-loop μ-loop
+loop-less-2 c =
+    let f = label (c .before .before .before .before .before .before .before .before .before .before .before .before .before .before .before .before .before .before .before .before .before .before .before .before .before) in
+    let l = c .before .before .before .before .before .before .before .before .before .before .before .before .before .before .before .loop .inv in
+    let w = fill-turn _ _ (f .all) (f .walked) _ _ _ (l .2) (l .3) (c .before .before .before .before .before .before .before .before .before .before .before .before .before .if1 .taken) (c .before .before .before .before .before .before .x .given .0 .0) _ _ (read-here _ (c .before .before .before .before .before .before .before .before .before .before .before .before .before .before .before .loop .at) _ (c .before .before .before .before .before .before .before .before .read-entry .ensures) _ (c .before .before .before .before .before .before .x .given .1)) (f .text .count) refl _ (c .before .before .put-entry2 .ensures .0) in omega (arith, w .further, w .ready .place)
 
-put-glyph-requires : tie.Need-put-glyph-requires Inv-loop μ-loop
-put-glyph-requires c κs =
-    let f = label (c .before .before .before .before .before .before .before .before .before .before .before .before .before .before .before .before .before .before .before .before .before .before .before) in
-    let l = c .before .before .before .before .before .before .before .before .before .before .before .before .before .loop .inv in
-    let w = turn (c .before .before .before .before .before) _ refl in
-    (omega (arith, room-glyphs _ _ (f .all) (f .walked) _ _ _ _ _ _ w (l .2), l .5 .same, f .glyphs-are, c .before .before .before .before .before .before .before .before .before .before .before .before .before .before .before .before .before .before .before .before .before .before .before .pre .1 .2), advance-small _ _ (f .all) (f .walked) _ _ _ _ _ _ w (l .2))
-
-add-advance : tie.Need-add-advance Inv-loop μ-loop
-add-advance c = let w = turn (c .before .before .before .before .before .before .before .before) _ refl in omega (arith, w .behind, c .before .before .before .before .before .before .before .before .before .before .before .before .before .before .before .before .loop .inv .3 .few-bytes)
-
-add-advance-2 : tie.Need-add-advance-2 Inv-loop μ-loop
-add-advance-2 c = let w = turn (c .before .before .before .before .before .before .before .before) _ refl in omega (arith, w .behind, c .before .before .before .before .before .before .before .before .before .before .before .before .before .before .before .before .loop .inv .3 .few-bytes)
-
-advance-requires : tie.Need-advance-requires Inv-loop μ-loop
-advance-requires c κs =
-    let l = c .before .before .before .before .before .before .before .before .before .before .before .before .before .before .before .before .loop .inv in
-    let w = turn (c .before .before .before .before .before .before .before .before) _ refl in
-    (omega (arith, l .3 .number, l .3 .few-bytes, c .before .before .before .before .before .before .before .before .before .before .before .before .before .before .if1 .taken), omega (arith, w .units-few, l .3 .few-units), l .3 .some)
-
-loop-less : tie.Need-loop-less Inv-loop μ-loop
-loop-less c = let w = turn (c .before .before .before .before .before .before .before .before .before) _ (c .advance .ensures) in omega (arith, w .further, w .ready .place)
-
-loop-again : tie.Need-loop-again Inv-loop μ-loop
-loop-again c =
-    let a = c .before .before .before .before .before .before .before .before .before .before .before .before .before .before .before .before .before .before .before .before .before .before .before .before .before .before .before in
-    let f = label (c .before .before .before .before .before .before .before .before .before .before .before .before .before .before .before .before .before .before .before .before .before .before .before .before .before .before .before) in
-    let l = c .before .before .before .before .before .before .before .before .before .before .before .before .before .before .before .before .before .loop .inv in
-    let w = turn (c .before .before .before .before .before .before .before .before .before) _ (c .advance .ensures) in (
+loop-again-2 : tie.Need-loop-again-2 Inv-loop μ-loop
+loop-again-2 c =
+    let a = c .before .before .before .before .before .before .before .before .before .before .before .before .before .before .before .before .before .before .before .before .before .before .before .before .before in
+    let f = label a in
+    let l = c .before .before .before .before .before .before .before .before .before .before .before .before .before .before .before .loop .inv in
+    let w = fill-turn _ _ (f .all) (f .walked) _ _ _ (l .2) (l .3) (c .before .before .before .before .before .before .before .before .before .before .before .before .before .if1 .taken) (c .before .before .before .before .before .before .x .given .0 .0) _ _ (read-here _ (c .before .before .before .before .before .before .before .before .before .before .before .before .before .before .before .loop .at) _ (c .before .before .before .before .before .before .before .before .read-entry .ensures) _ (c .before .before .before .before .before .before .x .given .1)) (f .text .count) refl _ (c .before .before .put-entry2 .ensures .0) in (
       _,
       w .lack′,
       w .stands,
       w .ready,
-      clusters-stored _ _ (f .all) (f .walked) _ _ _ _ _ _ w (l .2) _ _ _ (l .4) (c .before .before .before .before .before .before .put-cluster .ensures) (omega (arith, f .clusters-are, a .pre .1 .1)),
-      glyphs-stored _ _ (f .all) (f .walked) _ _ _ _ _ _ w (l .2) _ _ _ (l .5) (c .before .before .before .put-glyph .ensures) (omega (arith, f .glyphs-are, a .pre .1 .2)),
+      clusters-stored _ _ (f .all) (f .walked) _ _ _ _ _ _ w (l .2) _ _ _ (l .4) (c .before .before .put-entry2 .ensures .1 .0) (omega (arith, f .clusters-are, a .pre .1 .1)),
+      glyphs-stored _ _ (f .all) (f .walked) _ _ _ _ _ _ w (l .2) _ _ _ (l .5) (c .before .before .put-entry2 .ensures .1 .1) (omega (arith, f .glyphs-are, a .pre .1 .2)),
     )
 
 enum-told : tie.Need-enum-told Inv-loop μ-loop
@@ -134,16 +139,16 @@ same-length : tie.Need-same-length Inv-loop μ-loop
 same-length c = search needs
 
 same-length-2 : tie.Need-same-length-2 Inv-loop μ-loop
-same-length-2 c = c .before .before .before .before .before .before .loop .inv .4 .same
+same-length-2 c = c .before .before .before .before .before .before .before .before .before .loop .inv .4 .same
 
 same-length-3 : tie.Need-same-length-3 Inv-loop μ-loop
-same-length-3 c = c .before .before .before .before .before .before .loop .inv .5 .same
+same-length-3 c = c .before .before .before .before .before .before .before .before .before .loop .inv .5 .same
 
 returns : tie.Need-returns Inv-loop μ-loop
 returns c =
-    let f = label (c .before .before .before .before .before .before .before .before .before .before .before .before .before .before .before .before) in
-    let l = c .before .before .before .before .before .before .loop .inv in
-    fill-never _ _ (f .all) (f .walked) _ _ _ (l .2) (l .3) (c .before .before .before .before .if1 .taken) _ (c .before .before .read-entry .ensures) _ (c .enum-told .given .1)
+    let f = label (c .before .before .before .before .before .before .before .before .before .before .before .before .before .before .before .before .before .before .before) in
+    let l = c .before .before .before .before .before .before .before .before .before .loop in
+    fill-never _ _ (f .all) (f .walked) _ _ _ (l .inv .2) (l .inv .3) (c .before .before .before .before .before .before .before .if1 .taken) _ (read-here _ (l .at) _ (c .before .before .read-entry .ensures) _ (c .enum-told .given .1))
 
 sub-fill-tail : tie.Need-sub-fill-tail Inv-loop μ-loop
 sub-fill-tail c = omega (arith, c .before .before .before .loop .inv .3 .inside, label (c .before .before .before .before .before .before .before .before .before .before .before .before .before) .text .count)
@@ -188,19 +193,20 @@ fill-spec =
     fill-units-requires
     first-cursor-requires
     loop-holds
+    digits-at-requires
+    is-index-requires
+    index-item-requires
+    put-entry-requires
+    loop-less
+    loop-again
     sub-read-entry
     part-read-entry-start
     part-read-entry-end
     read-entry-requires
     enum-known-x
-    taken-requires
-    put-cluster-requires
-    put-glyph-requires
-    add-advance
-    add-advance-2
-    advance-requires
-    loop-less
-    loop-again
+    put-entry-requires-2
+    loop-less-2
+    loop-again-2
     enum-told
     same-length
     same-length-2

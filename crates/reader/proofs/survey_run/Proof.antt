@@ -8,7 +8,7 @@ use Rattle.label.specs.Bytes.{empty}
 use Rattle.label.specs.Run.{Parts}
 use Rattle.text.specs.Moves.{unitsFrom}
 use Rattle.reader.proofs.Endings.{nothing-is, run-nothing, run-stop, run-tail, refused-outcome}
-use Rattle.reader.proofs.Walking.{nothing, Stands, Ready, At, stands-start, ready-start, at-start, at-decodes, at-length, read-here, read-inside, code-took, code-stopped, turn-unread, ends-open}
+use Rattle.reader.proofs.Walking.{nothing, Stands, Ready, At, stands-start, ready-start, at-start, at-decodes, at-length, code-took, code-stopped, ends-open}
 use Rattle.reader.proofs.survey_run.Statement.{statement}
 use Rattle.reader.proofs.survey_run.Tie as tie
 
@@ -49,75 +49,44 @@ loop-holds c =
       sym (nothing-is us s _ _ (c .before .before .both .ensures) (a .pre .1 .0)) ∙ c .before .if1 .left,
     )
 
-sub-read-entry : tie.Need-sub-read-entry Inv-loop μ-loop
-sub-read-entry c = search needs
-
-part-read-entry-start : tie.Need-part-read-entry-start Inv-loop μ-loop
-part-read-entry-start c = search needs
-
-part-read-entry-end : tie.Need-part-read-entry-end Inv-loop μ-loop
-part-read-entry-end c = search needs
-
-read-entry-requires : tie.Need-read-entry-requires Inv-loop μ-loop
-read-entry-requires c κs = search needs
-
-enum-known-x : tie.Need-enum-known-x Inv-loop μ-loop
-enum-known-x c = search needs
-
-take-entry-requires : tie.Need-take-entry-requires Inv-loop μ-loop
-take-entry-requires c κs =
-    let a = c .before .before .before .before .before .before .before .before .before .before .before .before .before in
-    let p = c .before .before .before .before .before .before .before in
+survey-entry-requires : tie.Need-survey-entry-requires Inv-loop μ-loop
+survey-entry-requires c κs =
+    let a = c .before .before .before .before .before .before .before .before in
+    let l = c .before .before .loop in
     let us = unitsFrom (a .args .text .now) (a .args .start) in
-    let l = p .loop .inv in
-    let i = read-inside us (a .args .indices .now) (p .loop .c) _ (c .before .before .before .read-entry .ensures) _ (c .before .x .given .1) (c .before .before .before .before .before .if2 .taken) in
-    let n = at-length _ us (p .loop .c) (l .4) in
-    (at-decodes _ us (p .loop .c) (l .4), (omega (arith, n, l .3 .few-units, l .3 .inside), omega (arith, l .3 .number, l .3 .few-bytes, c .before .before .before .before .before .if2 .taken), l .3 .some, omega (arith, i, l .3 .few-bytes)))
+    let n = at-length _ us (l .c) (l .inv .4) in
+    (at-decodes _ us (l .c) (l .inv .4), (omega (arith, n, l .inv .3 .few-units, l .inv .3 .inside), l .inv .3 .number, l .inv .3 .some, c .if2 .taken, l .inv .3 .few-bytes))
 
 enum-known-next : tie.Need-enum-known-next Inv-loop μ-loop
 enum-known-next c = search needs
 
 loop-less : tie.Need-loop-less Inv-loop μ-loop
 loop-less c =
-    let l = c .before .before .before .before .before .before .before .before .before .before .before .loop .inv in
-    let w = code-took _ _ _ _ (c .before .before .before .before .before .before .before .read-entry .ensures) _ _ _ (l .2) (l .3) (l .4) (c .before .before .before .before .before .before .before .before .before .if2 .taken) _ (c .before .before .before .before .before .before .before .before .before .before .before .before .before .before .before .before .before .pre .1 .0) _ (c .before .before .before .before .before .x .given .1) _ (c .before .before .before .take-entry .ensures) _ (c .before .next .given .1) .0 in
+    let l = c .before .before .before .before .before .before .loop .inv in
+    let w = code-took _ _ _ _ _ _ (l .2) (l .3) (l .4) (c .before .before .before .before .if2 .taken) _ (c .before .before .before .before .before .before .before .before .before .before .before .before .pre .1 .0) _ (c .before .before .before .survey-entry .ensures) _ (c .before .next .given .1) .1 in
     omega (arith, w .further, w .ready .place)
 
 loop-again : tie.Need-loop-again Inv-loop μ-loop
 loop-again c =
-    let l = c .before .before .before .before .before .before .before .before .before .before .before .loop .inv in
-    let w = code-took _ _ _ _ (c .before .before .before .before .before .before .before .read-entry .ensures) _ _ _ (l .2) (l .3) (l .4) (c .before .before .before .before .before .before .before .before .before .if2 .taken) _ (c .before .before .before .before .before .before .before .before .before .before .before .before .before .before .before .before .before .pre .1 .0) _ (c .before .before .before .before .before .x .given .1) _ (c .before .before .before .take-entry .ensures) _ (c .before .next .given .1) in
-    (_, w .0 .lack′, w .0 .stands, w .0 .ready, w .1, l .5)
+    let l = c .before .before .before .before .before .before .loop .inv in
+    let w = code-took _ _ _ _ _ _ (l .2) (l .3) (l .4) (c .before .before .before .before .if2 .taken) _ (c .before .before .before .before .before .before .before .before .before .before .before .before .pre .1 .0) _ (c .before .before .before .survey-entry .ensures) _ (c .before .next .given .1) in
+    (_, w .1 .lack′, w .1 .stands, w .1 .ready, w .2, l .5)
 
 enum-known-r : tie.Need-enum-known-r Inv-loop μ-loop
 enum-known-r c = search needs
 
 returns-2 : tie.Need-returns-2 Inv-loop μ-loop
 returns-2 c =
-    let a = c .before .before .before .before .before .before .before .before .before .before .before .before .before .before .before .before .before in
-    let us = unitsFrom (a .args .text .now) (a .args .start) in
-    let l = c .before .before .before .before .before .before .before .before .before .before .before .loop .inv in
-    run-stop us (a .args .indices .now) _ _ (l .5)
-    (code-stopped _ _ _ _ (c .before .before .before .before .before .before .before .read-entry .ensures) _ _ _ (l .2) (l .3) (l .4) (c .before .before .before .before .before .before .before .before .before .if2 .taken) _ (a .pre .1 .0) _ (c .before .before .before .before .before .x .given .1) _ (c .before .before .before .take-entry .ensures) _ (c .before .r .given .1))
-
-enum-known-r-2 : tie.Need-enum-known-r-2 Inv-loop μ-loop
-enum-known-r-2 c = search needs
-
-returns-3 : tie.Need-returns-3 Inv-loop μ-loop
-returns-3 c =
-    let a = c .before .before .before .before .before .before .before .before .before .before .before .before .before in
-    let p = c .before .before .before .before .before .before .before in
-    let us = unitsFrom (a .args .text .now) (a .args .start) in
-    let s = a .args .indices .now in
-    let l = p .loop .inv in
-    run-stop us s _ _ (l .5)
-    (turn-unread _ us s _ _ (p .loop .c) (l .2) (l .3) (l .4) (c .before .before .before .before .before .if2 .taken) _ (read-here us s (p .loop .c) _ (c .before .before .before .read-entry .ensures) _ (c .before .r2 .given .1)))
+    let a = c .before .before .before .before .before .before .before .before .before .before .before .before in
+    let l = c .before .before .before .before .before .before .loop .inv in
+    run-stop (unitsFrom (a .args .text .now) (a .args .start)) (a .args .indices .now) _ _ (l .5)
+    (code-stopped _ _ _ _ _ _ (l .2) (l .3) (l .4) (c .before .before .before .before .if2 .taken) _ (a .pre .1 .0) _ (c .before .before .before .survey-entry .ensures) _ (c .before .r .given .1))
 
 refused-requires-2 : tie.Need-refused-requires-2 Inv-loop μ-loop
 refused-requires-2 c κs = search needs
 
-returns-4 : tie.Need-returns-4 Inv-loop μ-loop
-returns-4 c =
+returns-3 : tie.Need-returns-3 Inv-loop μ-loop
+returns-3 c =
     let a = c .before .before .before .before .before .before .before .before .before .before .before in
     let us = unitsFrom (a .args .text .now) (a .args .start) in
     let l = c .before .before .before .before .before .loop .inv in
@@ -133,8 +102,8 @@ survey-tail-requires c κs =
     let n = at-length _ us (p .loop .c) (l .4) in
     (at-decodes _ us (p .loop .c) (l .4), (omega (arith, n, l .3 .inside, a .pre .1 .0), a .pre .1 .1, omega (arith, l .3 .number, l .3 .place, l .3 .few-bytes), l .3 .some))
 
-returns-5 : tie.Need-returns-5 Inv-loop μ-loop
-returns-5 c =
+returns-4 : tie.Need-returns-4 Inv-loop μ-loop
+returns-4 c =
     let a = c .before .before .before .before .before .before .before .before .before .before .before in
     let p = c .before .before .before .before .before in
     let us = unitsFrom (a .args .text .now) (a .args .start) in
@@ -152,20 +121,13 @@ survey-run-spec =
     returns
     first-cursor-requires
     loop-holds
-    sub-read-entry
-    part-read-entry-start
-    part-read-entry-end
-    read-entry-requires
-    enum-known-x
-    take-entry-requires
+    survey-entry-requires
     enum-known-next
     loop-less
     loop-again
     enum-known-r
     returns-2
-    enum-known-r-2
-    returns-3
     refused-requires-2
-    returns-4
+    returns-3
     survey-tail-requires
-    returns-5)
+    returns-4)

@@ -1,0 +1,46 @@
+-- `reader::put_entry` meets its contract. Assumes nothing.
+use mathlib.Core.Path.{sym, _∙_}
+use borrow.Author.Needs.{needs}
+use Rattle.reader.proofs.put_entry.Statement.{statement}
+use Rattle.reader.proofs.put_entry.Tie as tie
+
+taken-requires : tie.Need-taken-requires
+taken-requires c κs = search needs
+
+put-cluster-requires : tie.Need-put-cluster-requires
+put-cluster-requires c κs = rw (c .before .before .taken .ensures) (c .before .before .before .pre .0, c .before .before .before .pre .1)
+
+put-glyph-requires : tie.Need-put-glyph-requires
+put-glyph-requires c κs = search needs
+
+add-advance : tie.Need-add-advance
+add-advance c = search needs
+
+add-advance-2 : tie.Need-add-advance-2
+add-advance-2 c = search needs
+
+advance-requires : tie.Need-advance-requires
+advance-requires c κs = search needs
+
+same-length : tie.Need-same-length
+same-length c = search needs
+
+same-length-2 : tie.Need-same-length-2
+same-length-2 c = search needs
+
+returns : tie.Need-returns
+returns c = rw (← c .before .before .before .before .before .before .before .before .before .before .taken .ensures) (c .advance .ensures, (c .before .before .before .before .before .before .before .put-cluster .ensures, c .before .before .before .before .put-glyph .ensures))
+
+pub put-entry-spec : {M : Type 1} → statement M
+put-entry-spec =
+    tie.close
+    (tie.spec
+    taken-requires
+    put-cluster-requires
+    put-glyph-requires
+    add-advance
+    add-advance-2
+    advance-requires
+    same-length
+    same-length-2
+    returns)
