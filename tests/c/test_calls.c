@@ -554,7 +554,7 @@ int main(int argc, char **argv) {
     test_null();
     test_picks();
     test_faults();
-    static const size_t sizes[] = {31, 32, 33, 100, 511, 512, 513, 1000, 4095, 4096};
+    static const size_t sizes[] = {31, 32, 33, 100, 255, 256, 257, 1023, 1024, 1025, 4095, 4096};
     for (size_t k = 0; k < sizeof sizes / sizeof sizes[0]; k++)
         test_size(sizes[k]);
     test_beyond();
