@@ -7,5 +7,3 @@ pub mod FieldBridge
 pub mod FrontBridge
 pub mod EntryBridge
 pub mod EntryLaws
-pub mod DecimalLaws
-pub mod WriteLaws

@@ -2,4 +2,3 @@ pub mod Items
 pub mod Digits
 pub mod Numbers
 pub mod Parts
-pub mod Fields

@@ -36,11 +36,11 @@ fn put_next(out: &mut [u8], at: usize, owed: usize, a: u32, b: u32, gs: &[i32], 
     ensures { λ r. ⌜ Put (now (out .entry)) at (led owed (entryBytes a b (glyphAt (now (gs .entry)) k))) r (now (out .exit)) ⌝ }
     ensures bounds { λ r. ⌜ r ≤ at + owed + 80 ⌝ }
 {
-    if entry::empty_entry(a, b, gs, k) {
+    if entry_bytes::empty_entry(a, b, gs, k) {
         return at;
     }
     let p = put_semis(out, at, owed);
-    entry::put_entry(out, p, a, b, gs, k)
+    entry_bytes::put_entry(out, p, a, b, gs, k)
 }
 
 // The separators owed before the next entry: one, and those before an entry that was not stored.

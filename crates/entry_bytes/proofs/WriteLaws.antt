@@ -1,0 +1,222 @@
+-- The bytes of the writing as the code makes them, piece by piece: one law for each return. Assumes nothing.
+use mathlib.Core.Path.{_≡_, refl, sym, ap, _∙_}
+use mathlib.Core.Bool.{Bool, true, false, cond, not, _&&_, and-true}
+use mathlib.Core.List.{List, [], _∷_, _++_, append-nil}
+use Prim.Native.Nat.{ℕ, suc, _+_, _-_, _/_, _%_}
+use native.Mathlib.Omega.{arith}
+use borrow.Author.Tests.{eq-eqb, ne-eqb}
+use lib.Dec.{leb, eqb}
+use lib.IntN.{ℤ, pos, negsuc}
+use Rattle.label.specs.Bytes.{empty, join, joinRest, trim, decimal}
+use Rattle.label.specs.Write.{fraction, valueBytes, offsetBytes, advanceBytes, indexBytes, mapBytes, entryBytes}
+use Rattle.label.specs.Sound.{natural, size, numberIndex, numberAdvance}
+use Rattle.label.proofs.Basics.{cases, clash}
+use Rattle.label.proofs.Splits.{empty-nil}
+use Rattle.label.proofs.Decimals.{empty-decimal}
+use Rattle.words.specs.Places.{glyphAt, place}
+use Rattle.entry_bytes.specs.Fields.{partsV, partsUV, partsAUV, fields}
+
+-- ── values ──
+
+module _ (f : ℕ) where
+  pub frac-one : f % 100 ≡ 0 → (48 + f / 100) ∷ [] ≡ fraction f
+  unfolding fraction
+  frac-one h = rw (eq-eqb (f % 100) 0 h)
+
+  pub frac-two : (f % 100 ≡ 0 → ⊥) → f % 10 ≡ 0 → ((48 + f / 100) ∷ []) ++ ((48 + f / 10 % 10) ∷ []) ≡ fraction f
+  unfolding fraction
+  frac-two n h = rw (ne-eqb (f % 100) 0 n, eq-eqb (f % 10) 0 h)
+
+  pub frac-three : (f % 100 ≡ 0 → ⊥) → (f % 10 ≡ 0 → ⊥) → (((48 + f / 100) ∷ []) ++ ((48 + f / 10 % 10) ∷ [])) ++ ((48 + f % 10) ∷ []) ≡ fraction f
+  unfolding fraction
+  frac-three n h = rw (ne-eqb (f % 100) 0 n, ne-eqb (f % 10) 0 h)
+
+pub choose-true : {A : Type 0} (t : Bool) (a b : A) → t ≡ true → a ≡ cond t a b
+choose-true t a b e = rw e
+
+pub choose-false : {A : Type 0} (t : Bool) (a b : A) → t ≡ false → b ≡ cond t a b
+choose-false t a b e = rw e
+
+module _ (n : ℕ) where
+  pub value-whole : n % 1000 ≡ 0 → decimal (n / 1000) ≡ valueBytes n
+  unfolding valueBytes
+  value-whole h = rw (eq-eqb (n % 1000) 0 h)
+
+  pub value-point : (n % 1000 ≡ 0 → ⊥) → cond (eqb (n / 1000) 0) [] (decimal (n / 1000)) ++ ((46 ∷ []) ++ fraction (n % 1000)) ≡ valueBytes n
+  unfolding valueBytes
+  value-point h = rw (ne-eqb (n % 1000) 0 h)
+
+empty-more : (x : List ℕ) (y : ℕ) (l : List ℕ) → empty (x ++ (y ∷ l)) ≡ false
+empty-more [] y l = refl
+empty-more (x ∷ xs) y l = refl
+
+value-full : (n : ℕ) → empty (valueBytes n) ≡ false
+unfolding valueBytes
+value-full n =
+    cases (eqb (n % 1000) 0)
+    (λ e. rw e (empty-decimal (n / 1000)))
+    (λ e. rw e (empty-more (cond (eqb (n / 1000) 0) [] (decimal (n / 1000))) 46 (fraction (n % 1000))))
+
+offset-empty : (z : ℤ) → empty (offsetBytes z) ≡ eqb (size z) 0
+unfolding offsetBytes
+offset-empty (pos n) = cases (eqb n 0) (λ e. rw e) (λ e. rw e (value-full n))
+offset-empty (negsuc n) = sym (ne-eqb (suc n) 0 (λ e. omega arith))
+
+advance-empty : (z : ℤ) → empty (advanceBytes (numberAdvance z)) ≡ not (natural z)
+unfolding advanceBytes
+advance-empty (pos n) = value-full n
+advance-empty (negsuc n) = refl
+
+module _ (z : ℤ) {n : ℕ} (e : n ≡ size z) where
+  pub offset-none : n ≡ 0 → [] ≡ offsetBytes z
+  offset-none h = sym (empty-nil (offsetBytes z) (offset-empty z ∙ eq-eqb (size z) 0 (sym e ∙ h)))
+
+  module _ (h : n ≡ 0 → ⊥) {b : Bool} (f : b ≡ natural z) where
+    pub offset-plus : b ≡ true → valueBytes n ≡ offsetBytes z
+    unfolding offsetBytes
+    offset-plus k = by z e (sym f ∙ k)
+      where
+        by : (y : ℤ) → n ≡ size y → natural y ≡ true → valueBytes n ≡ offsetBytes y
+        by (pos m) d t = rw (d, ne-eqb m 0 (λ z. h (d ∙ z)))
+        by (negsuc m) d t = clash false t refl
+
+    pub offset-minus : b ≡ false → (45 ∷ []) ++ valueBytes n ≡ offsetBytes z
+    unfolding offsetBytes
+    offset-minus k = by z e (sym f ∙ k)
+      where
+        by : (y : ℤ) → n ≡ size y → natural y ≡ false → (45 ∷ []) ++ valueBytes n ≡ offsetBytes y
+        by (pos m) d t = clash true refl t
+        by (negsuc m) d t = rw d
+
+module _ (z : ℤ) {b : Bool} (f : b ≡ natural z) where
+  pub advance-given : {n : ℕ} → n ≡ size z → b ≡ true → valueBytes n ≡ advanceBytes (numberAdvance z)
+  unfolding advanceBytes
+  advance-given {n} d k = by z d (sym f ∙ k)
+    where
+      by : (y : ℤ) → n ≡ size y → natural y ≡ true → valueBytes n ≡ advanceBytes (numberAdvance y)
+      by (pos m) d t = ap valueBytes d
+      by (negsuc m) d t = clash false t refl
+
+  pub advance-own : b ≡ false → [] ≡ advanceBytes (numberAdvance z)
+  advance-own k = sym (empty-nil (advanceBytes (numberAdvance z)) (advance-empty z ∙ ap not (sym f ∙ k)))
+
+  pub index-named : {n : ℕ} → n ≡ size z → b ≡ true → decimal n ≡ indexBytes (numberIndex z)
+  unfolding indexBytes
+  index-named {n} d k = by z d (sym f ∙ k)
+    where
+      by : (y : ℤ) → n ≡ size y → natural y ≡ true → decimal n ≡ indexBytes (numberIndex y)
+      by (pos m) d t = ap decimal d
+      by (negsuc m) d t = clash false t refl
+
+  pub index-font : b ≡ false → [] ≡ indexBytes (numberIndex z)
+  unfolding indexBytes
+  index-font k = by z (sym f ∙ k)
+    where
+      by : (y : ℤ) → natural y ≡ false → [] ≡ indexBytes (numberIndex y)
+      by (pos m) t = clash true refl t
+      by (negsuc m) t = refl
+
+-- ── an entry ──
+
+module _ (a b : ℕ) {t : Bool} (e : t ≡ (leb a 1 && eqb b 1)) where
+  pub map-none : t ≡ true → [] ≡ mapBytes a b
+  unfolding mapBytes
+  map-none k = rw (← e, k)
+
+  pub map-some : t ≡ false → (40 ∷ []) ++ ((decimal a ++ cond (eqb b 1) [] (58 ∷ decimal b)) ++ (41 ∷ [])) ≡ mapBytes a b
+  unfolding mapBytes
+  map-some k = rw (← e, k)
+
+empty-cond : {A : Type 0} (t : Bool) (x : A) (l : List A) → empty (cond t [] (x ∷ l)) ≡ t
+empty-cond true x l = refl
+empty-cond false x l = refl
+
+trim-empty : (x : List ℕ) (l : List (List ℕ)) → empty (trim (x ∷ l)) ≡ (empty x && empty (trim l))
+unfolding trim
+trim-empty x l = empty-cond (empty x && empty (trim l)) x (trim l)
+
+pub blank-v-is : (v : ℤ) {n : ℕ} → n ≡ size v → eqb n 0 ≡ empty (trim (partsV v))
+unfolding partsV trim
+blank-v-is v e = rw e (sym (trim-empty (offsetBytes v) [] ∙ and-true (empty (offsetBytes v)) ∙ offset-empty v))
+
+pub blank-uv-is : (u v : ℤ) {n : ℕ} {b r : Bool} → n ≡ size u → b ≡ empty (trim (partsV v)) → r ≡ (eqb n 0 && b) → r ≡ empty (trim (partsUV u v))
+unfolding partsUV
+blank-uv-is u v e f g = g ∙ rw (e, f) (sym (trim-empty (offsetBytes u) (partsV v) ∙ rw (offset-empty u)))
+
+pub blank-auv-is : (a u v : ℤ) {n b r : Bool} → n ≡ natural a → b ≡ empty (trim (partsUV u v)) → r ≡ (not n && b) → r ≡ empty (trim (partsAUV a u v))
+unfolding partsAUV
+blank-auv-is a u v e f g = g ∙ rw (e, f) (sym (trim-empty (advanceBytes (numberAdvance a)) (partsUV u v) ∙ rw (advance-empty a)))
+
+pub fields-blank : (l : List (List ℕ)) {b : Bool} → b ≡ empty (trim l) → b ≡ true → [] ≡ fields l
+unfolding fields joinRest
+fields-blank l e k = rw (empty-nil (trim l) (sym e ∙ k))
+
+fields-more : (x : List ℕ) (l : List (List ℕ)) {b : Bool} → b ≡ empty (trim (x ∷ l)) → b ≡ false → (44 ∷ []) ++ (x ++ fields l) ≡ fields (x ∷ l)
+unfolding fields joinRest trim
+fields-more x l e k = rw (sym (trim-empty x l) ∙ sym e ∙ k)
+
+pub fields-v : (v : ℤ) {b : Bool} → b ≡ empty (trim (partsV v)) → b ≡ false → (44 ∷ []) ++ offsetBytes v ≡ fields (partsV v)
+unfolding partsV fields joinRest trim
+fields-v v e k = ap (λ (w : List ℕ). 44 ∷ w) (sym (append-nil (offsetBytes v))) ∙ fields-more (offsetBytes v) [] e k
+
+pub fields-uv : (u v : ℤ) {b : Bool} → b ≡ empty (trim (partsUV u v)) → b ≡ false → (44 ∷ []) ++ (offsetBytes u ++ fields (partsV v)) ≡ fields (partsUV u v)
+unfolding partsUV
+fields-uv u v e k = fields-more (offsetBytes u) (partsV v) e k
+
+pub fields-auv : (a u v : ℤ) {b : Bool} → b ≡ empty (trim (partsAUV a u v)) → b ≡ false → (44 ∷ []) ++ (advanceBytes (numberAdvance a) ++ fields (partsUV u v)) ≡ fields (partsAUV a u v)
+unfolding partsAUV
+fields-auv a u v e k = fields-more (advanceBytes (numberAdvance a)) (partsUV u v) e k
+
+join-cond : (c : ℕ) (x : List ℕ) (l : List (List ℕ)) → join c (cond (empty x && empty l) [] (x ∷ l)) ≡ x ++ joinRest c l
+unfolding join joinRest
+join-cond c [] [] = refl
+join-cond c [] (y ∷ l) = refl
+join-cond c (x ∷ xs) l = refl
+
+pub entry-is : (a b : ℕ) (s : List ℤ) (k : ℕ)
+    → (mapBytes a b ++ indexBytes (numberIndex (place s k))) ++ fields (partsAUV (place s (k + 1)) (place s (k + 1 + 1)) (place s (k + 1 + 1 + 1))) ≡ entryBytes a b (glyphAt s k)
+unfolding entryBytes glyphAt fields partsAUV partsUV partsV trim
+entry-is a b s k =
+    let e : k + 1 + 1 ≡ k + 2 = omega arith in
+    let f : k + 2 + 1 ≡ k + 3 = omega arith in
+    rw (e, f) (sym (join-cond 44 (mapBytes a b ++ indexBytes (numberIndex (place s k))) (trim (partsAUV (place s (k + 1)) (place s (k + 2)) (place s (k + 3))))))
+
+-- ── an entry without bytes ──
+
+map-empty : (a b : ℕ) → empty (mapBytes a b) ≡ (leb a 1 && eqb b 1)
+unfolding mapBytes
+map-empty a b = empty-cond (leb a 1 && eqb b 1) 40 (decimal a ++ cond (eqb b 1) [] (58 ∷ decimal b) ++ (41 ∷ []))
+
+index-empty : (z : ℤ) → empty (indexBytes (numberIndex z)) ≡ not (natural z)
+unfolding indexBytes
+index-empty (pos n) = empty-decimal n
+index-empty (negsuc n) = refl
+
+append-empty : (x y : List ℕ) → empty (x ++ y) ≡ (empty x && empty y)
+append-empty [] y = refl
+append-empty (b ∷ x) y = refl
+
+rest-empty : (l : List (List ℕ)) → empty (joinRest 44 l) ≡ empty l
+unfolding joinRest
+rest-empty [] = refl
+rest-empty (x ∷ l) = refl
+
+fields-empty : (l : List (List ℕ)) → empty (fields l) ≡ empty (trim l)
+unfolding fields
+fields-empty l = rest-empty (trim l)
+
+pub entry-empty : (a b : ℕ) (s : List ℤ) (k : ℕ) {m n q e r : Bool}
+    → m ≡ (leb a 1 && eqb b 1) → n ≡ natural (place s k) → q ≡ (m && not n)
+    → e ≡ empty (trim (partsAUV (place s (k + 1)) (place s (k + 1 + 1)) (place s (k + 1 + 1 + 1)))) → r ≡ (q && e) → r ≡ empty (entryBytes a b (glyphAt s k))
+entry-empty a b s k em en eq ee er =
+    er
+    ∙ rw (eq, em, en, ee)
+    (sym
+    (ap (λ (w : List ℕ). empty w) (sym (entry-is a b s k))
+    ∙ append-empty (mapBytes a b ++ indexBytes (numberIndex (place s k))) (fields (partsAUV (place s (k + 1)) (place s (k + 1 + 1)) (place s (k + 1 + 1 + 1))))
+    ∙ rw (
+      append-empty (mapBytes a b) (indexBytes (numberIndex (place s k))),
+      map-empty a b,
+      index-empty (place s k),
+      fields-empty (partsAUV (place s (k + 1)) (place s (k + 1 + 1)) (place s (k + 1 + 1 + 1))),
+    )))

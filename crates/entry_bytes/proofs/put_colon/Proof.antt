@@ -1,0 +1,27 @@
+-- `entry_bytes::put_colon` meets its contract. Assumes nothing.
+use native.Mathlib.Omega.{arith}
+use borrow.Author.Tests.{eq-eqb, ne-eqb}
+use borrow.Author.Needs.{needs}
+use Rattle.words.proofs.Puts.{then, none, put-as}
+use Rattle.entry_bytes.proofs.WriteLaws.{choose-true, choose-false}
+use Rattle.entry_bytes.proofs.put_colon.Statement.{statement}
+use Rattle.entry_bytes.proofs.put_colon.Tie as tie
+
+returns : tie.Need-returns
+returns c = (put-as (choose-true _ _ _ (eq-eqb _ _ (c .if1 .taken))) none, omega arith)
+
+put-byte-requires : tie.Need-put-byte-requires
+put-byte-requires c κs = search needs
+
+put-decimal-requires : tie.Need-put-decimal-requires
+put-decimal-requires c κs = search needs
+
+same-length : tie.Need-same-length
+same-length c = search needs
+
+returns-2 : tie.Need-returns-2
+returns-2 c = (put-as (choose-false _ _ _ (ne-eqb _ _ (c .before .before .before .before .before .before .before .before .if1 .left))) (then (c .before .before .before .before .before .before .put-byte .ensures .0) (c .before .before .put-decimal .ensures .0)), omega arith)
+
+pub put-colon-spec : {M : Type 1} → statement M
+put-colon-spec =
+    tie.close (tie.spec returns put-byte-requires put-decimal-requires same-length returns-2)

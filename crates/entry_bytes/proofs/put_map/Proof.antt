@@ -1,0 +1,44 @@
+-- `entry_bytes::put_map` meets its contract. Assumes nothing.
+use native.Mathlib.Omega.{arith}
+use borrow.Author.Needs.{needs}
+use Rattle.words.proofs.Puts.{then, none, put-as}
+use Rattle.entry_bytes.proofs.WriteLaws.{map-none, map-some}
+use Rattle.entry_bytes.proofs.put_map.Statement.{statement}
+use Rattle.entry_bytes.proofs.put_map.Tie as tie
+
+both-requires : tie.Need-both-requires
+both-requires c κs = search needs
+
+returns : tie.Need-returns
+returns c = (put-as (map-none (c .before .before .before .args .a) (c .before .before .before .args .b) (c .before .both .ensures) (c .if1 .taken)) none, omega arith)
+
+put-byte-requires : tie.Need-put-byte-requires
+put-byte-requires c κs = search needs
+
+put-decimal-requires : tie.Need-put-decimal-requires
+put-decimal-requires c κs = search needs
+
+put-colon-requires : tie.Need-put-colon-requires
+put-colon-requires c κs = search needs
+
+put-byte-requires-2 : tie.Need-put-byte-requires-2
+put-byte-requires-2 c κs = search needs
+
+same-length : tie.Need-same-length
+same-length c = search needs
+
+returns-2 : tie.Need-returns-2
+returns-2 c = (put-as (map-some (c .before .before .before .before .before .before .before .before .before .before .before .before .before .before .before .before .before .before .before .args .a) (c .before .before .before .before .before .before .before .before .before .before .before .before .before .before .before .before .before .before .before .args .b) (c .before .before .before .before .before .before .before .before .before .before .before .before .before .before .before .before .before .both .ensures) (c .before .before .before .before .before .before .before .before .before .before .before .before .before .before .before .before .if1 .left)) (then (c .before .before .before .before .before .before .before .before .before .before .before .before .before .before .put-byte .ensures .0) (then (then (c .before .before .before .before .before .before .before .before .before .before .put-decimal .ensures .0) (c .before .before .before .before .before .before .put-colon .ensures .0)) (c .before .before .put-byte2 .ensures .0))), omega arith)
+
+pub put-map-spec : {M : Type 1} → statement M
+put-map-spec =
+    tie.close
+    (tie.spec
+    both-requires
+    returns
+    put-byte-requires
+    put-decimal-requires
+    put-colon-requires
+    put-byte-requires-2
+    same-length
+    returns-2)

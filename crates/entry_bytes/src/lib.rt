@@ -1,0 +1,231 @@
+// One entry of the indices, written in its normal form.
+ghost use mathlib.Core.Path.{_≡_};
+ghost use mathlib.Core.Bool.{cond};
+ghost use mathlib.Core.List.{[], _∷_};
+ghost use Prim.Native.Nat.{_+_, _≤_, _<_};
+ghost use lib.ListN.{length};
+ghost use lib.Dec.{eqb};
+ghost use Rattle.label.specs.Bytes.{empty, decimal, trim};
+ghost use Rattle.label.specs.Sound.{numberIndex, numberAdvance};
+ghost use Rattle.label.specs.Write.{fraction, valueBytes, offsetBytes, advanceBytes, indexBytes, mapBytes, entryBytes};
+ghost use Rattle.words.specs.Places.{glyphAt, place};
+ghost use Rattle.words.specs.Puts.{Put};
+ghost use Rattle.entry_bytes.specs.Fields.{partsV, partsUV, partsAUV, fields};
+
+// Each `put_..` stores its bytes from `at` on and returns the place behind them; where `out` ends, it only counts.
+
+// The byte of a digit.
+fn digit(n: u32) -> u8
+    requires { ⌜ n < 10 ⌝ }
+    ensures { λ r. ⌜ r ≡ 48 + n ⌝ }
+{
+    48 + n as u8
+}
+
+// A number, without leading zeros: all digits but the last, then the last.
+fn put_decimal(out: &mut [u8], at: usize, n: u32) -> usize
+    requires { ⌜ at < 1152921504606846000 ⌝ }
+    ensures { λ r. ⌜ Put (now (out .entry)) at (decimal n) r (now (out .exit)) ⌝ }
+    ensures bounds { λ r. ⌜ r ≤ at + 10 ⌝ }
+{
+    if n < 10 {
+        return words::put_byte(out, at, digit(n));
+    }
+    let p = put_decimal(out, at, n / 10);
+    words::put_byte(out, p, digit(n % 10))
+}
+
+// The digits behind the point, without trailing zeros.
+fn put_fraction(out: &mut [u8], at: usize, f: u32) -> usize
+    requires { ⌜ (at < 1152921504606846000) × (f < 1000) ⌝ }
+    ensures { λ r. ⌜ Put (now (out .entry)) at (fraction f) r (now (out .exit)) ⌝ }
+    ensures bounds { λ r. ⌜ r ≤ at + 3 ⌝ }
+{
+    let p = words::put_byte(out, at, digit(f / 100));
+    if f % 100 == 0 {
+        return p;
+    }
+    let q = words::put_byte(out, p, digit(f / 10 % 10));
+    if f % 10 == 0 {
+        return q;
+    }
+    words::put_byte(out, q, digit(f % 10))
+}
+
+// The whole part of a value that has a fraction: no lone zero.
+fn put_whole(out: &mut [u8], at: usize, whole: u32) -> usize
+    requires { ⌜ at < 1152921504606846000 ⌝ }
+    ensures { λ r. ⌜ Put (now (out .entry)) at (cond (eqb whole 0) [] (decimal whole)) r (now (out .exit)) ⌝ }
+    ensures bounds { λ r. ⌜ r ≤ at + 10 ⌝ }
+{
+    if whole == 0 {
+        return at;
+    }
+    put_decimal(out, at, whole)
+}
+
+// A value in thousandths, before its sign.
+fn put_value(out: &mut [u8], at: usize, n: u32) -> usize
+    requires { ⌜ at < 1152921504606845000 ⌝ }
+    ensures { λ r. ⌜ Put (now (out .entry)) at (valueBytes n) r (now (out .exit)) ⌝ }
+    ensures bounds { λ r. ⌜ r ≤ at + 14 ⌝ }
+{
+    if n % 1000 == 0 {
+        return put_decimal(out, at, n / 1000);
+    }
+    let p = put_whole(out, at, n / 1000);
+    let q = words::put_byte(out, p, 46);
+    put_fraction(out, q, n % 1000)
+}
+
+// The offset at place k; nothing for 0.
+fn put_offset_at(out: &mut [u8], at: usize, s: &[i32], k: usize) -> usize
+    requires { ⌜ (at < 1152921504606844000) × (k < length (now s)) ⌝ }
+    ensures { λ r. ⌜ Put (now (out .entry)) at (offsetBytes (place (now (s .entry)) k)) r (now (out .exit)) ⌝ }
+    ensures bounds { λ r. ⌜ r ≤ at + 15 ⌝ }
+{
+    let size = words::size_at(s, k);
+    if size == 0 {
+        return at;
+    }
+    if words::natural_at(s, k) {
+        return put_value(out, at, size);
+    }
+    let p = words::put_byte(out, at, 45);
+    put_value(out, p, size)
+}
+
+// The advance at place k; nothing for the font's own.
+fn put_advance_at(out: &mut [u8], at: usize, s: &[i32], k: usize) -> usize
+    requires { ⌜ (at < 1152921504606844000) × (k < length (now s)) ⌝ }
+    ensures { λ r. ⌜ Put (now (out .entry)) at (advanceBytes (numberAdvance (place (now (s .entry)) k))) r (now (out .exit)) ⌝ }
+    ensures bounds { λ r. ⌜ r ≤ at + 14 ⌝ }
+{
+    if words::natural_at(s, k) {
+        return put_value(out, at, words::size_at(s, k));
+    }
+    at
+}
+
+// The index at place k; nothing for one that the font chooses.
+fn put_index_at(out: &mut [u8], at: usize, s: &[i32], k: usize) -> usize
+    requires { ⌜ (at < 1152921504606844000) × (k < length (now s)) ⌝ }
+    ensures { λ r. ⌜ Put (now (out .entry)) at (indexBytes (numberIndex (place (now (s .entry)) k))) r (now (out .exit)) ⌝ }
+    ensures bounds { λ r. ⌜ r ≤ at + 10 ⌝ }
+{
+    if words::natural_at(s, k) {
+        return put_decimal(out, at, words::size_at(s, k));
+    }
+    at
+}
+
+// `:b`, unless b is 1.
+fn put_colon(out: &mut [u8], at: usize, b: u32) -> usize
+    requires { ⌜ at < 1152921504606844000 ⌝ }
+    ensures { λ r. ⌜ Put (now (out .entry)) at (cond (eqb b 1) [] (58 ∷ decimal b)) r (now (out .exit)) ⌝ }
+    ensures bounds { λ r. ⌜ r ≤ at + 11 ⌝ }
+{
+    if b == 1 {
+        return at;
+    }
+    let p = words::put_byte(out, at, 58);
+    put_decimal(out, p, b)
+}
+
+// `(a:b)`, unless it is 1:1 or 0:1.
+fn put_map(out: &mut [u8], at: usize, a: u32, b: u32) -> usize
+    requires { ⌜ at < 1152921504606843000 ⌝ }
+    ensures { λ r. ⌜ Put (now (out .entry)) at (mapBytes a b) r (now (out .exit)) ⌝ }
+    ensures bounds { λ r. ⌜ r ≤ at + 23 ⌝ }
+{
+    if words::both(a <= 1, b == 1) {
+        return at;
+    }
+    let p = words::put_byte(out, at, 40);
+    let q = put_decimal(out, p, a);
+    let t = put_colon(out, q, b);
+    words::put_byte(out, t, 41)
+}
+
+// Whether there is nothing to write from a field on, and the fields from it on, each behind its comma: v; u and v; all three.
+fn blank_v(s: &[i32], k: usize) -> bool
+    requires { ⌜ k < length (now s) ⌝ }
+    ensures { λ r. ⌜ r ≡ empty (trim (partsV (place (now (s .entry)) k))) ⌝ }
+{
+    words::size_at(s, k) == 0
+}
+
+fn blank_uv(s: &[i32], k: usize) -> bool
+    requires { ⌜ k + 1 < length (now s) ⌝ }
+    ensures { λ r. ⌜ r ≡ empty (trim (partsUV (place (now (s .entry)) k) (place (now (s .entry)) (k + 1)))) ⌝ }
+{
+    let n = words::size_at(s, k);
+    words::both(n == 0, blank_v(s, k + 1))
+}
+
+fn blank_auv(s: &[i32], k: usize) -> bool
+    requires { ⌜ k + 2 < length (now s) ⌝ }
+    ensures { λ r. ⌜ r ≡ empty (trim (partsAUV (place (now (s .entry)) k) (place (now (s .entry)) (k + 1)) (place (now (s .entry)) (k + 1 + 1)))) ⌝ }
+{
+    let n = words::natural_at(s, k);
+    words::both(!n, blank_uv(s, k + 1))
+}
+
+fn put_v(out: &mut [u8], at: usize, s: &[i32], k: usize) -> usize
+    requires { ⌜ (at < 1152921504606843000) × (k < length (now s)) ⌝ }
+    ensures { λ r. ⌜ Put (now (out .entry)) at (fields (partsV (place (now (s .entry)) k))) r (now (out .exit)) ⌝ }
+    ensures bounds { λ r. ⌜ r ≤ at + 16 ⌝ }
+{
+    if blank_v(s, k) {
+        return at;
+    }
+    let p = words::put_byte(out, at, 44);
+    put_offset_at(out, p, s, k)
+}
+
+fn put_uv(out: &mut [u8], at: usize, s: &[i32], k: usize) -> usize
+    requires { ⌜ (at < 1152921504606842000) × (k + 1 < length (now s)) ⌝ }
+    ensures { λ r. ⌜ Put (now (out .entry)) at (fields (partsUV (place (now (s .entry)) k) (place (now (s .entry)) (k + 1)))) r (now (out .exit)) ⌝ }
+    ensures bounds { λ r. ⌜ r ≤ at + 32 ⌝ }
+{
+    if blank_uv(s, k) {
+        return at;
+    }
+    let p = words::put_byte(out, at, 44);
+    let q = put_offset_at(out, p, s, k);
+    put_v(out, q, s, k + 1)
+}
+
+fn put_auv(out: &mut [u8], at: usize, s: &[i32], k: usize) -> usize
+    requires { ⌜ (at < 1152921504606841000) × (k + 2 < length (now s)) ⌝ }
+    ensures { λ r. ⌜ Put (now (out .entry)) at (fields (partsAUV (place (now (s .entry)) k) (place (now (s .entry)) (k + 1)) (place (now (s .entry)) (k + 1 + 1)))) r (now (out .exit)) ⌝ }
+    ensures bounds { λ r. ⌜ r ≤ at + 47 ⌝ }
+{
+    if blank_auv(s, k) {
+        return at;
+    }
+    let p = words::put_byte(out, at, 44);
+    let q = put_advance_at(out, p, s, k);
+    put_uv(out, q, s, k + 1)
+}
+
+// The entry of the glyph at place k of a run's numbers, which opens a cluster a:b.
+pub fn put_entry(out: &mut [u8], at: usize, a: u32, b: u32, s: &[i32], k: usize) -> usize
+    requires { ⌜ (at < 1152921504606840000) × (k + 3 < length (now s)) ⌝ }
+    ensures { λ r. ⌜ Put (now (out .entry)) at (entryBytes a b (glyphAt (now (s .entry)) k)) r (now (out .exit)) ⌝ }
+    ensures bounds { λ r. ⌜ r ≤ at + 80 ⌝ }
+{
+    let p = put_map(out, at, a, b);
+    let q = put_index_at(out, p, s, k);
+    put_auv(out, q, s, k + 1)
+}
+
+// Whether that entry has no bytes: no map, no index and no field.
+pub fn empty_entry(a: u32, b: u32, s: &[i32], k: usize) -> bool
+    requires { ⌜ k + 3 < length (now s) ⌝ }
+    ensures { λ r. ⌜ r ≡ empty (entryBytes a b (glyphAt (now (s .entry)) k)) ⌝ }
+{
+    let unmapped = words::both(a <= 1, b == 1);
+    let font = !words::natural_at(s, k);
+    words::both(words::both(unmapped, font), blank_auv(s, k + 1))
+}
