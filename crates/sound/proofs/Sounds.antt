@@ -20,7 +20,7 @@ use Rattle.label.proofs.Basics.{and-l, and-r, cases}
 use Rattle.sound.specs.Sounds.{opensAt}
 use Rattle.words.specs.Places.{clusterAt, glyphAt, place}
 use Rattle.words.proofs.Signs.{named-is}
-use Rattle.text.proofs.Units.{stops, goes}
+use Rattle.text_bytes.proofs.Units.{stops, goes}
 use Rattle.sound.proofs.Parts.{glyphs-at, glyphs-end, clusters-at, clusters-end, glyph-count}
 
 pub sub-zero-is : (n i : ℕ) → i ≤ n → eqb i n ≡ eqb (n - i) 0

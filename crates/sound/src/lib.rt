@@ -89,7 +89,7 @@ fn opens_at(bare: bool, us: &[u16], at: usize, a: usize, b: usize, named: bool) 
     }
     let counts = words::both(1 <= a, 1 <= b);
     let inside = words::both(counts, a <= us.len() - at);
-    let split = text::is_low(text::unit_or_zero(us, at + a));
+    let split = text_bytes::is_low(text_bytes::unit_or_zero(us, at + a));
     let index = words::either(named, words::both(a == 1, b == 1));
     words::both(words::both(inside, !split), index)
 }
@@ -142,7 +142,7 @@ pub fn is_sound(units: &[u16], clusters: &[i32], glyphs: &[i32]) -> bool
     if !whole_glyphs(glyphs) {
         return false;
     }
-    if !text::proper_units(units) {
+    if !text_bytes::proper_units(units) {
         return false;
     }
     let count = glyphs.len() / 4;

@@ -1,4 +1,3 @@
 pub mod Chars
 pub mod Moves
-pub mod Units
 pub mod Texts

@@ -1,4 +1,4 @@
-// The text of a label: UTF-8 by the rows of Unicode's Table 3-7 to code units and back, XML 1.0's Char, and the moves over a text that the reader makes.
+// The text of a label: UTF-8 by the rows of Unicode's Table 3-7 to code units, XML 1.0's Char, and the moves over a text that the reader makes.
 ghost use mathlib.Core.Path.{_≡_};
 ghost use mathlib.Core.Bool.{true, false, cond};
 ghost use Prim.Native.Nat.{_+_, _-_, _*_, _/_, _%_, _≤_, _<_};
@@ -6,39 +6,15 @@ ghost use lib.ListN.{length, getD, drop};
 ghost use lib.Seq.{sets};
 ghost use Rattle.label.specs.Limits.{maxTextBytes};
 ghost use Rattle.label.specs.Outcome.{ok};
-ghost use Rattle.label.specs.Text.{within, lead, trail, scalar, xmlChar, isHigh, isLow, unitsOf, decode};
-ghost use Rattle.label.specs.Sound.{properUnits};
-ghost use Rattle.label.specs.Write.{utf8, paired, unitBytes, unitsBytes, textOf};
+ghost use Rattle.label.specs.Text.{within, lead, trail, scalar, xmlChar, unitsOf, decode};
 ghost use Rattle.label.specs.Calls.{filled};
-ghost use Rattle.words.specs.Puts.{Put};
 ghost use Rattle.text.specs.Chars.{charAt, counted};
 ghost use Rattle.text.specs.Texts.{unitsWithin, textRead};
 ghost use Rattle.text.specs.Moves.{unitsFrom, Moves};
 ghost use Rattle.text.specs.declared.Moved.the-variants.{To};
-ghost use Rattle.text.specs.Units.{unitOk, nextHalf, unitLength, markLength};
 use label::Row;
 
-// ── units and bytes ──
-
-// A high half or a low half of a pair.
-pub fn is_high(u: u16) -> bool
-    ensures { λ r. ⌜ r ≡ isHigh u ⌝ }
-{
-    words::both(0xd800 <= u, u <= 0xdbff)
-}
-
-pub fn is_low(u: u16) -> bool
-    ensures { λ r. ⌜ r ≡ isLow u ⌝ }
-{
-    words::both(0xdc00 <= u, u <= 0xdfff)
-}
-
-// A unit, or 0 past the end.
-pub fn unit_or_zero(us: &[u16], i: usize) -> u16
-    ensures { λ r. ⌜ r ≡ getD (now (us .entry)) i 0 ⌝ }
-{
-    if i < us.len() { us[i] } else { 0 }
-}
+// ── bytes ──
 
 // A byte, or 0 past the end.
 fn byte_or_zero(s: &[u8], i: usize) -> u8
@@ -441,173 +417,4 @@ pub fn is_plain(s: &[u8], at: usize) -> bool
         return false;
     }
     is_within(0x20, 0x7f, s[at])
-}
-
-// ── the units of a run ──
-
-// A unit may stand behind a high half, or where no high half is before it.
-fn unit_ok(half: bool, u: u16) -> bool
-    ensures { λ r. ⌜ r ≡ unitOk half u ⌝ }
-{
-    if half {
-        is_low(u)
-    } else {
-        words::either(is_high(u), is_xml(u as u32))
-    }
-}
-
-// Whether the unit behind u has to be a low half.
-fn next_half(half: bool, u: u16) -> bool
-    ensures { λ r. ⌜ r ≡ nextHalf half u ⌝ }
-{
-    if half { false } else { is_high(u) }
-}
-
-// The units are well-formed XML characters.
-pub fn proper_units(us: &[u16]) -> bool
-    ensures { λ r. ⌜ r ≡ properUnits false (now (us .entry)) ⌝ }
-{
-    let mut half = false;
-    let mut i = 0;
-    while i < us.len() {
-        if !unit_ok(half, us[i]) {
-            return false;
-        }
-        half = next_half(half, us[i]);
-        i += 1;
-    }
-    !half
-}
-
-// ── a run's units in UTF-8 ──
-// Each `put_..` stores its bytes from `at` on and returns the place behind them.
-
-fn tail_byte(c: u32) -> u8
-    ensures { λ r. ⌜ r ≡ 128 + c % 64 ⌝ }
-{
-    (128 + c % 64) as u8
-}
-
-fn put_utf8(out: &mut [u8], at: usize, c: u32) -> usize
-    requires { ⌜ (at < 1152921504606840000) × (c < 2097152) ⌝ }
-    ensures { λ r. ⌜ Put (now (out .entry)) at (utf8 c) r (now (out .exit)) ⌝ }
-    ensures bounds { λ r. ⌜ r ≤ at + 4 ⌝ }
-{
-    if c <= 0x7f {
-        return words::put_byte(out, at, c as u8);
-    }
-    if c <= 0x7ff {
-        let p = words::put_byte(out, at, (192 + c / 64) as u8);
-        return words::put_byte(out, p, tail_byte(c));
-    }
-    if c <= 0xffff {
-        let p = words::put_byte(out, at, (224 + c / 4096) as u8);
-        let q = words::put_byte(out, p, tail_byte(c / 64));
-        return words::put_byte(out, q, tail_byte(c));
-    }
-    let p = words::put_byte(out, at, (240 + c / 262144) as u8);
-    let q = words::put_byte(out, p, tail_byte(c / 4096));
-    let t = words::put_byte(out, q, tail_byte(c / 64));
-    words::put_byte(out, t, tail_byte(c))
-}
-
-// What a low half adds to a pair's number; 0 for a unit below the low halves.
-fn above_low(l: u16) -> u32
-    ensures { λ r. ⌜ (r ≡ l - 56320) × (r < 65536) ⌝ }
-{
-    let n = l as u32;
-    if n < 0xdc00 { 0 } else { n - 0xdc00 }
-}
-
-// The character of a pair.
-fn pair_of(h: u16, l: u16) -> u32
-    requires { ⌜ (55296 ≤ h) × (h ≤ 56319) ⌝ }
-    ensures { λ r. ⌜ (r ≡ paired h l) × (r < 2097152) ⌝ }
-{
-    0x10000 + (h as u32 - 0xd800) * 1024 + above_low(l)
-}
-
-// The bytes of unit i: a pair's stand at its high half.
-fn put_unit(out: &mut [u8], at: usize, us: &[u16], i: usize) -> usize
-    requires { ⌜ (at < 1152921504606840000) × (i < length (now us)) ⌝ }
-    ensures { λ r. ⌜ Put (now (out .entry)) at (unitBytes (getD (now (us .entry)) i 0) (getD (now (us .entry)) (i + 1) 0)) r (now (out .exit)) ⌝ }
-    ensures bounds { λ r. ⌜ r ≤ at + 4 ⌝ }
-{
-    let u = us[i];
-    if is_low(u) {
-        return at;
-    }
-    if is_high(u) {
-        let v = unit_or_zero(us, i + 1);
-        return put_utf8(out, at, pair_of(u, v));
-    }
-    put_utf8(out, at, u as u32)
-}
-
-fn put_units(out: &mut [u8], from: usize, us: &[u16]) -> usize
-    requires { ⌜ (from ≤ 2) × (length (now us) ≤ 1000000000000) ⌝ }
-    ensures { λ r. ⌜ Put (now (out .entry)) from (unitsBytes (now (us .entry))) r (now (out .exit)) ⌝ }
-{
-    let mut at = from;
-    let mut i = 0;
-    while i < us.len() {
-        at = put_unit(out, at, us, i);
-        i += 1;
-    }
-    at
-}
-
-// The text of a run's units.
-pub fn put_text(out: &mut [u8], us: &[u16]) -> usize
-    requires { ⌜ length (now us) ≤ 1000000000000 ⌝ }
-    ensures { λ r. ⌜ Put (now (out .entry)) 0 (textOf (now (us .entry))) r (now (out .exit)) ⌝ }
-{
-    if unit_or_zero(us, 0) == 123 {
-        let p = words::put_byte(out, 0, 123);
-        let q = words::put_byte(out, p, 125);
-        return put_units(out, q, us);
-    }
-    put_units(out, 0, us)
-}
-
-// How many bytes stand for a unit: those of a pair at its high half.
-fn unit_length(u: u16) -> usize
-    ensures { λ r. ⌜ r ≡ unitLength u ⌝ }
-    ensures bounds { λ r. ⌜ r ≤ 4 ⌝ }
-{
-    if u <= 0x7f {
-        return 1;
-    }
-    if u <= 0x7ff {
-        return 2;
-    }
-    if is_high(u) {
-        return 4;
-    }
-    if is_low(u) {
-        return 0;
-    }
-    3
-}
-
-// The bytes of `{}`, where the text of these units begins with it.
-fn mark_length(us: &[u16]) -> usize
-    ensures { λ r. ⌜ r ≡ markLength (now (us .entry)) ⌝ }
-    ensures bounds { λ r. ⌜ r ≤ 2 ⌝ }
-{
-    if unit_or_zero(us, 0) == 123 { 2 } else { 0 }
-}
-
-// How many bytes the text of a run has.
-pub fn text_length(us: &[u16]) -> usize
-    requires { ⌜ length (now us) ≤ 1000000000000 ⌝ }
-    ensures { λ r. ⌜ r ≡ length (textOf (now (us .entry))) ⌝ }
-{
-    let mut n = mark_length(us);
-    let mut i = 0;
-    while i < us.len() {
-        n += unit_length(us[i]);
-        i += 1;
-    }
-    n
 }

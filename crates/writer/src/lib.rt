@@ -120,7 +120,7 @@ pub fn write(
     if !is_sound {
         return refused(19, 0);
     }
-    let text_bytes = text::text_length(units);
+    let text_bytes = text_bytes::text_length(units);
     if text.len() < text_bytes {
         return refused(20, text_bytes);
     }
@@ -128,7 +128,7 @@ pub fn write(
     if indices.len() < indices_bytes {
         return refused(21, indices_bytes);
     }
-    text::put_text(text, units);
+    text_bytes::put_text(text, units);
     put_indices(indices, clusters, glyphs);
     Writing::Written(Lengths {
         text: text_bytes,

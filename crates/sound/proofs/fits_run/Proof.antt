@@ -8,7 +8,7 @@ use lib.IntN.{pos}
 use Rattle.label.specs.Bytes.{empty}
 use Rattle.label.specs.Sound.{nat, fits, clustersOf, glyphsOf}
 use borrow.Author.Tests.{not-true, not-false}
-use Rattle.text.proofs.Units.{stops, goes}
+use Rattle.text_bytes.proofs.Units.{stops, goes}
 use Rattle.sound.proofs.Sounds.{fitsAt, empty-is, fits-further, fits-none, fits-opens, fits-unfit, fits-end, opens-within, flagged, opened}
 use Rattle.sound.proofs.fits_run.Statement.{statement}
 use Rattle.sound.proofs.fits_run.Tie as tie

@@ -4,7 +4,7 @@ use mathlib.Core.Path.{_≡_, refl, sym, _∙_}
 use lib.ListN.{length, drop}
 use Rattle.label.specs.Sound.{wholeClusters}
 use Rattle.sound.proofs.Parts.{whole-clusters-at, whole-clusters-end}
-use Rattle.text.proofs.Units.{stops, goes}
+use Rattle.text_bytes.proofs.Units.{stops, goes}
 use Rattle.sound.proofs.Sounds.{and-of, sub-zero-is}
 use native.Mathlib.Omega.{arith}
 use Rattle.sound.proofs.whole_clusters.Statement.{statement}

@@ -4,7 +4,7 @@ use mathlib.Core.Path.{_≡_, refl, sym, _∙_}
 use lib.ListN.{length, drop}
 use Rattle.label.specs.Sound.{wholeGlyphs}
 use Rattle.sound.proofs.Parts.{whole-glyphs-at, whole-glyphs-end}
-use Rattle.text.proofs.Units.{stops, goes}
+use Rattle.text_bytes.proofs.Units.{stops, goes}
 use Rattle.sound.proofs.Sounds.{and-of, sub-zero-is}
 use native.Mathlib.Omega.{arith}
 use Rattle.sound.proofs.whole_glyphs.Statement.{statement}

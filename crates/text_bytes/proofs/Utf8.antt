@@ -14,7 +14,7 @@ use lib.Seq.{drop-cons, getD-drop}
 use Rattle.label.specs.Text.{isLow, isHigh, braced}
 use Rattle.label.specs.Write.{utf8, paired, unitBytes, unitsBytes, textOf}
 use Rattle.label.proofs.Basics.{and-l, and-r, cases}
-use Rattle.text.specs.Units.{unitLength, markLength}
+use Rattle.text_bytes.specs.Units.{unitLength, markLength}
 
 -- ── a character ──
 

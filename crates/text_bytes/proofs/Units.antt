@@ -10,7 +10,7 @@ use borrow.Author.Tests.{le-leb, not-true, not-false}
 use lib.ListN.{length, getD, drop, drop-of-length-le}
 use lib.Seq.{drop-cons}
 use Rattle.label.specs.Sound.{properUnits}
-use Rattle.text.specs.Units.{unitOk, nextHalf}
+use Rattle.text_bytes.specs.Units.{unitOk, nextHalf}
 
 -- a turn of a loop that tests: the whole w is what is here, which is a test t and what follows; x is the code's flag of the test
 module _ {w h x : Bool} (t n : Bool) (p : w ≡ h) (q : h ≡ (t && n)) (e : x ≡ t) where

@@ -1,15 +1,15 @@
 use borrow.Author.Needs.{needs}
-use Rattle.text.proofs.Utf8.{units-at, units-end}
+use Rattle.text_bytes.proofs.Utf8.{units-at, units-end}
 use Rattle.words.proofs.Puts.{Left, left-start, left-next, left-as, left-end}
 use Rattle.label.specs.Write.{unitsBytes}
 use lib.ListN.{length, drop}
 use native.Mathlib.Omega.{arith}
 use Prim.Native.Nat.{_+_, _-_, _*_, _≤_}
-use Rattle.text.proofs.put_units.Statement.{statement}
-use Rattle.text.proofs.put_units.Tie as tie
-use Rattle.text.proofs.put_units.Reads as reads
-use Rattle.text.proofs.put_units.Lts as lts
-use Rattle.text.proofs.put_unit.Reads as put-unit-reads
+use Rattle.text_bytes.proofs.put_units.Statement.{statement}
+use Rattle.text_bytes.proofs.put_units.Tie as tie
+use Rattle.text_bytes.proofs.put_units.Reads as reads
+use Rattle.text_bytes.proofs.put_units.Lts as lts
+use Rattle.text_bytes.proofs.put_unit.Reads as put-unit-reads
 
 abbrev Inv-loop : tie.InvT-loop
 Inv-loop out₀ from us at₀ i₀ out at i = Left out₀ (unitsBytes us) out from at (unitsBytes (drop i us)) × (at ≤ from + 4 * i)
