@@ -1,4 +1,4 @@
--- The reading, the writing and the picks are what the table's first cause that holds decides.
+-- Each call is what the table's first cause that holds decides.
 -- Assumes nothing.
 use Prim.Native.Nat.{ℕ, zero, suc, _+_, _*_}
 use mathlib.Core.Path.{_≡_, refl, sym, _∙_, ap}
@@ -17,8 +17,9 @@ use Rattle.label.specs.Run.{Run, Parts, fontGlyph, cluster, before, whol
 use Rattle.label.specs.Sound.{sound, runOf, clustersOf, glyphsOf}
 use Rattle.label.specs.Write.{Label, normal, write}
 use Rattle.label.specs.Pick.{inside, touched, turned, pickUnits, pickGlyphs}
-use Rattle.label.specs.Calls.{readInto, writeInto}
-use Rattle.label.specs.Checks.{Check, check, verdict, refuses, Given, textChecks, bitUnits, entryChecks, tailChecks, walkChecks, tailParts, walkParts, saidUnits, saidParts, saidRun, runChecks, labelChecks, readChecks, writeChecks, pickChecks}
+use Rattle.label.specs.Calls.{readInto, writeInto, listInto}
+use Rattle.label.specs.Wire.{halves, words, noLeftOver, writeBytes, pickUnitsBytes, pickGlyphsBytes}
+use Rattle.label.specs.Checks.{Check, check, verdict, refuses, GivenBy, textChecks, bitUnits, entryChecks, tailChecks, walkChecks, tailParts, walkParts, saidUnits, saidParts, saidRun, runChecks, labelChecks, readChecks, writeChecks, pickChecks, listChecks, writeByteChecks, pickByteChecks}
 use Rattle.label.proofs.Basics.{no-ok, or-l, or-r}
 
 -- ── a list of checks before an outcome ──
@@ -247,21 +248,48 @@ pub glyphs-by-checks : (us : List ℕ) (cs gs : List ℤ) (first end : ℕ)
 unfolding pickGlyphs pickChecks
 glyphs-by-checks us cs gs first end = picked (sound us cs gs) (inside first end (length us)) (ok (touched first end (turned (clustersOf cs))))
 
+-- the list of records
+pub list-by-checks : (room : ℕ) (us : List ℕ) (cs gs : List ℤ) → listInto room us cs gs ≡ (verdict (listChecks room us cs gs) >> ok (glyphsOf gs))
+unfolding listInto listChecks
+list-by-checks room us cs gs =
+    let n : ℕ = length (glyphsOf gs) in
+    sym (check-need (sound us cs gs) 19 0 (check (not (leb n room)) 18 n ∷ []) (ok (glyphsOf gs)) ∙ rw (check-last (leb n room) 18 n (ok (glyphsOf gs))))
+
+-- over bytes: 19 for bytes left over comes first
+handed-by-checks : {A : Type 0} (us cs gs : List ℕ) (l : List Check) (o p : Outcome A) → o ≡ (verdict l >> p)
+    → (need (noLeftOver us cs gs) 19 0 >> o) ≡ (verdict (check (not (noLeftOver us cs gs)) 19 0 ∷ l) >> p)
+handed-by-checks us cs gs l o p e = rw e (sym (check-need (noLeftOver us cs gs) 19 0 l p))
+
+pub write-bytes-by-checks : (t i : ℕ) (us cs gs : List ℕ)
+    → writeBytes t i us cs gs ≡ (verdict (writeByteChecks t i us cs gs) >> ok (normal (runOf (halves us) (words cs) (words gs))))
+unfolding writeBytes writeByteChecks
+write-bytes-by-checks t i us cs gs = handed-by-checks us cs gs _ _ _ (write-by-checks t i (halves us) (words cs) (words gs))
+
+pub units-bytes-by-checks : (us cs gs : List ℕ) (first end : ℕ)
+    → pickUnitsBytes us cs gs first end ≡ (verdict (pickByteChecks us cs gs first end (length (glyphsOf (words gs)))) >> ok (touched first end (clustersOf (words cs))))
+unfolding pickUnitsBytes pickByteChecks
+units-bytes-by-checks us cs gs first end = handed-by-checks us cs gs _ _ _ (units-by-checks (halves us) (words cs) (words gs) first end)
+
+pub glyphs-bytes-by-checks : (us cs gs : List ℕ) (first end : ℕ)
+    → pickGlyphsBytes us cs gs first end ≡ (verdict (pickByteChecks us cs gs first end (length (halves us))) >> ok (touched first end (turned (clustersOf (words cs)))))
+unfolding pickGlyphsBytes pickByteChecks
+glyphs-bytes-by-checks us cs gs first end = handed-by-checks us cs gs _ _ _ (glyphs-by-checks (halves us) (words cs) (words gs) first end)
+
 -- ── what a verdict says ──
 
-first-given : (cs : List Check) (n p : ℕ) → verdict cs ≡ no n p → Given cs n p
+first-given : (cs : List Check) (n p : ℕ) → verdict cs ≡ no n p → GivenBy cs n p
 unfolding verdict
 first-given [] n p h = let z : true ≡ false = cc in absurd (false≢true (sym z))
 first-given (c ∷ cs) n p h = go (c .holds) refl (first-given cs n p)
   where
-    go : (b : Bool) → c .holds ≡ b → (verdict cs ≡ no n p → Given cs n p) → Given (c ∷ cs) n p
+    go : (b : Bool) → c .holds ≡ b → (verdict cs ≡ no n p → GivenBy cs n p) → GivenBy (c ∷ cs) n p
     go true e r =
         let k : no (c .number) (c .place) ≡ no n p = rw e at h in
         let a : c .number ≡ n = cc in
         let b : c .place ≡ p = cc in
         record { earlier = []; it = c; later = cs; in-order = refl; none-earlier = unfold refuses in refl; holds = e; number = a; place = b }
     go false e r =
-        let g : Given cs n p = r (rw e at h) in
+        let g : GivenBy cs n p = r (rw e at h) in
         record {
           earlier = c ∷ g .earlier;
           it = g .it;
@@ -273,7 +301,7 @@ first-given (c ∷ cs) n p h = go (c .holds) refl (first-given cs n p)
           place = g .place;
         }
 
-given-first : {A : Type 0} (cs : List Check) (n p : ℕ) (o : Outcome A) → Given cs n p → (verdict cs >> o) ≡ no n p
+given-first : {A : Type 0} (cs : List Check) (n p : ℕ) (o : Outcome A) → GivenBy cs n p → (verdict cs >> o) ≡ no n p
 unfolding verdict refuses
 given-first cs n p o g =
     ap (λ (l : List Check). verdict l >> o) (g .in-order) ∙ go (g .earlier) (g .none-earlier) ∙ rw (g .number, g .place)
@@ -283,7 +311,7 @@ given-first cs n p o g =
     go (e ∷ es) h = rw (or-l (e .holds) (refuses es) h) (go es (or-r (e .holds) (refuses es) h))
 
 -- a number is given exactly by the first cause that holds
-pub given-is : {A : Type 0} (cs : List Check) (n p : ℕ) (a : A) → ((verdict cs >> ok a) ≡ no n p) ↔ Given cs n p
+pub given-is : {A : Type 0} (cs : List Check) (n p : ℕ) (a : A) → ((verdict cs >> ok a) ≡ no n p) ↔ GivenBy cs n p
 given-is {A = A} cs n p a = (λ h. first-given cs n p (only (verdict cs) h), λ g. given-first cs n p (ok a) g)
   where
     only : (v : Outcome (Unit {0})) → _≡_ {A = Outcome A} (v >> ok a) (no n p) → v ≡ no n p

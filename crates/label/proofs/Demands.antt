@@ -11,23 +11,22 @@ use lib.Dec.{ltb, leb}
 use lib.IntN.{ℤ}
 use lib.ListN.{length, take, drop}
 use lib.Seq.{take-at}
-use Rattle.label.specs.Outcome.{Outcome, ok, no}
+use Rattle.label.specs.Outcome.{Outcome, ok, no, _>>_}
 use Rattle.label.specs.Bytes.{empty}
 use Rattle.label.specs.Run.{Run, read}
 use Rattle.label.specs.Write.{Label, normal, write}
 use Rattle.label.specs.Sound.{flatClusters, flatGlyphs, Readable, clustersOf, glyphsOf, wholeClusters, wholeGlyphs, soundRun, runOf, sound}
 use Rattle.label.specs.Pick.{touched, turned, inside, pickUnits, pickGlyphs}
 use Rattle.label.specs.Calls.{filled, readInto, writeInto}
-use Rattle.label.specs.Wire.{fromHalves, fromWords, halves, words, evenBytes, wordBytes, noLeftOver, readBytes, writeBytes}
-use Rattle.label.specs.Checks.{Given, refuses, saidRun, labelChecks, readChecks, writeChecks, pickChecks}
-use Rattle.label.specs.Demands.{unitCounts, glyphCounts, WholeClusters, Roomy, RoomyFor, writes, bytes, ReadableBytes, Left, LeftBytes, Wrote, NotWrote, Demand1, Demand2, passedOn, Passed, Demand3}
-use Rattle.label.specs.declared.Stretch.{Stretch}
+use Rattle.label.specs.Wire.{fromHalves, fromWords, halves, words, evenBytes, wordBytes, noLeftOver, readBytes, writeBytes, pickUnitsBytes, pickGlyphsBytes}
+use Rattle.label.specs.Checks.{Check, verdict, GivenBy, refuses, saidRun, labelChecks, readChecks, writeChecks, pickChecks, listChecks, writeByteChecks, pickByteChecks}
+use Rattle.label.specs.Demands.{unitCounts, glyphCounts, Roomy, RoomyFor, writes, bytes, ReadableBytes, Left, LeftBytes, Wrote, NotWrote, Demand1, PicksWhole, Demand2, passedOn, passedOnBytes, textWritten, indicesWritten, Passed, Demand3}
 use Rattle.label.proofs.Basics.{and-l, and-r, and-i, cases, bind-ok, need-ok, no-ok}
 use Rattle.label.proofs.Walks.{ok-path}
 use Rattle.label.proofs.Sounds.{read-sound, read-back, SoundRun, sound-parts}
-use Rattle.label.proofs.Checks.{read-by-checks, into-by-checks, write-by-checks, units-by-checks, glyphs-by-checks, given-is, passes, stops}
+use Rattle.label.proofs.Checks.{read-by-checks, into-by-checks, write-by-checks, units-by-checks, glyphs-by-checks, list-by-checks, write-bytes-by-checks, units-bytes-by-checks, glyphs-bytes-by-checks, given-is, passes, stops}
 use Rattle.label.proofs.Parts.{sum, length-clusters, length-glyphs, divided, fits-units, fits-glyphs, clusters-of, glyphs-of, run-sound, sound-readable, readable-sound, touched-whole, turned-glyphs, turned-units, map-sum, map-at}
-use Rattle.label.proofs.Wires.{halves-back, halves-even, halves-forth, words-back, words-forth, words-whole, glyphs-32, clusters-32}
+use Rattle.label.proofs.Wires.{length-halves, length-words, halves-back, halves-even, halves-forth, words-back, words-forth, words-whole, glyphs-32, clusters-32}
 
 -- ── the reader and the writer, with room ──
 
@@ -155,19 +154,34 @@ bytes-to us cs gs x y hu hc hg l h =
     let (v, q) = readable-bytes us cs gs hu hc hg e w in
     (v, n ∙ ap normal (sym q), subst (λ (r : Run). RoomyFor (normal r) x y) (sym q) m)
 
-bytes-from : (us cs gs : List ℕ) (x y : ℕ) (w : ReadableBytes us cs gs) → RoomyFor (normal (w .run)) x y → (l : Label) × (writeBytes x y us cs gs ≡ ok l)
+bytes-from : (us cs gs : List ℕ) (x y : ℕ) (w : ReadableBytes us cs gs) → RoomyFor (normal (w .run)) x y → writeBytes x y us cs gs ≡ ok (normal (w .run))
 unfolding writeBytes
 bytes-from us cs gs x y w m =
     let (e, v, q) = bytes-readable us cs gs w in
-    (normal (v .run), rw e (written-from (halves us) (words cs) (words gs) x y v (subst (λ (r : Run). RoomyFor (normal r) x y) (sym q) m)))
+    rw e (written-from (halves us) (words cs) (words gs) x y v (subst (λ (r : Run). RoomyFor (normal r) x y) (sym q) m) ∙ ap (λ (r : Run). ok (normal r)) q)
+
+bytes-normal : (us cs gs : List ℕ) (l : Label) (x y : ℕ) (w : ReadableBytes us cs gs) → writeBytes x y us cs gs ≡ ok l → l ≡ normal (w .run)
+unfolding writeBytes
+bytes-normal us cs gs l x y w h =
+    let (e, k) = need-ok (noLeftOver us cs gs) 19 0 _ l h in
+    let (f, v, q) = bytes-readable us cs gs w in
+    into-write (halves us) (words cs) (words gs) l x y k .is ∙ ap normal (readable-run (halves us) (words cs) (words gs) v) ∙ ap normal q
 
 -- ── demand 1 ──
 
-fixed : (u c g : ℕ) (t i : List ℕ) (n p : ℕ) → (readInto u c g t i ≡ no n p) ↔ Given (readChecks u c g t i) n p
+fixed : (u c g : ℕ) (t i : List ℕ) (n p : ℕ) → (readInto u c g t i ≡ no n p) ↔ GivenBy (readChecks u c g t i) n p
 fixed u c g t i n p = rw (into-by-checks u c g t i) (given-is (readChecks u c g t i) n p (saidRun t i))
 
-writer-fixed : (t i : ℕ) (us : List ℕ) (cs gs : List ℤ) (n p : ℕ) → (writeInto t i us cs gs ≡ no n p) ↔ Given (writeChecks t i us cs gs) n p
+bytes-fixed : (u c g : ℕ) (t i : List ℕ) (n p : ℕ) → (readBytes u c g t i ≡ no n p) ↔ GivenBy (readChecks (u / 2) (c / 4) (g / 4) t i) n p
+unfolding readBytes
+bytes-fixed u c g t i n p = fixed (u / 2) (c / 4) (g / 4) t i n p
+
+writer-fixed : (t i : ℕ) (us : List ℕ) (cs gs : List ℤ) (n p : ℕ) → (writeInto t i us cs gs ≡ no n p) ↔ GivenBy (writeChecks t i us cs gs) n p
 writer-fixed t i us cs gs n p = rw (write-by-checks t i us cs gs) (given-is (writeChecks t i us cs gs) n p (normal (runOf us cs gs)))
+
+writer-bytes-fixed : (t i : ℕ) (us cs gs : List ℕ) (n p : ℕ) → (writeBytes t i us cs gs ≡ no n p) ↔ GivenBy (writeByteChecks t i us cs gs) n p
+writer-bytes-fixed t i us cs gs n p =
+    rw (write-bytes-by-checks t i us cs gs) (given-is (writeByteChecks t i us cs gs) n p (normal (runOf (halves us) (words cs) (words gs))))
 
 memory : (t i us : List ℕ) (cs gs : List ℤ) (o : Outcome Run) → readInto (length us) (length cs) (length gs) t i ≡ o → Left o t i us cs gs
 memory t i us cs gs (ok r) h =
@@ -192,7 +206,7 @@ not-wrote n p tx ix = record { lengths-are = refl; text = refl; indices = refl }
 
 writer-memory : (us : List ℕ) (cs gs : List ℤ) (tx ix : List ℕ) (o : Outcome Label) → writeInto (length tx) (length ix) us cs gs ≡ o
     → ((w : Readable us cs gs) × Wrote (w .run) o tx ix)
-    ⊎ ((n : ℕ) × (p : ℕ) × Given (writeChecks (length tx) (length ix) us cs gs) n p × NotWrote n p o tx ix)
+    ⊎ ((n : ℕ) × (p : ℕ) × GivenBy (writeChecks (length tx) (length ix) us cs gs) n p × NotWrote n p o tx ix)
 writer-memory us cs gs tx ix (ok l) h =
     let (w, e, m) = written-to us cs gs (length tx) (length ix) l h in
     inl (w, wrote (w .run) l tx ix e m)
@@ -200,11 +214,11 @@ writer-memory us cs gs tx ix (no n p) h = inr (n, p, writer-fixed (length tx) (l
 
 writer-byte-memory : (us cs gs tx ix : List ℕ) (o : Outcome Label) → bytes us ≡ true → bytes cs ≡ true → bytes gs ≡ true
     → writeBytes (length tx) (length ix) us cs gs ≡ o
-    → ((w : ReadableBytes us cs gs) × Wrote (w .run) o tx ix) ⊎ ((n : ℕ) × (p : ℕ) × NotWrote n p o tx ix)
+    → ((w : ReadableBytes us cs gs) × Wrote (w .run) o tx ix) ⊎ ((n : ℕ) × (p : ℕ) × GivenBy (writeByteChecks (length tx) (length ix) us cs gs) n p × NotWrote n p o tx ix)
 writer-byte-memory us cs gs tx ix (ok l) hu hc hg h =
     let (w, e, m) = bytes-to us cs gs (length tx) (length ix) hu hc hg l h in
     inl (w, wrote (w .run) l tx ix e m)
-writer-byte-memory us cs gs tx ix (no n p) hu hc hg h = inr (n, p, not-wrote n p tx ix)
+writer-byte-memory us cs gs tx ix (no n p) hu hc hg h = inr (n, p, writer-bytes-fixed (length tx) (length ix) us cs gs n p .0 h, not-wrote n p tx ix)
 
 pub demand-1 : Demand1
 demand-1 =
@@ -212,9 +226,12 @@ demand-1 =
       memory = λ t i us cs gs. memory t i us cs gs (readInto (length us) (length cs) (length gs) t i) refl;
       byte-memory = λ t i us cs gs. byte-memory t i us cs gs (readBytes (length us) (length cs) (length gs) t i) refl;
       fixed = fixed;
+      bytes-fixed = bytes-fixed;
       writer-memory = λ us cs gs tx ix. writer-memory us cs gs tx ix (writeInto (length tx) (length ix) us cs gs) refl;
       writer-byte-memory = λ us cs gs tx ix hu hc hg. writer-byte-memory us cs gs tx ix (writeBytes (length tx) (length ix) us cs gs) hu hc hg refl;
       writer-fixed = writer-fixed;
+      writer-bytes-fixed = writer-bytes-fixed;
+      list-fixed = λ room us cs gs n p. rw (list-by-checks room us cs gs) (given-is (listChecks room us cs gs) n p (glyphsOf gs));
     }
 
 -- ── demand 2 ──
@@ -237,50 +254,83 @@ glyphs-ok : (us : List ℕ) (cs gs : List ℤ) (first end : ℕ) → Readable us
 unfolding pickGlyphs
 glyphs-ok us cs gs first end w h k = rw (readable-sound us cs gs w, inside-is first end (length us) h k)
 
-to-units : (us : List ℕ) (cs gs : List ℤ) (first end : ℕ) → Readable us cs gs → first < end → end ≤ length (glyphsOf gs)
-    → (s : Stretch) × (pickUnits us cs gs first end ≡ ok s) × WholeClusters (glyphCounts (clustersOf cs)) (unitCounts (clustersOf cs)) first end s
+to-units : (us : List ℕ) (cs gs : List ℤ) (first end : ℕ) (w : Readable us cs gs) → first < end → end ≤ length (w .run .glyphs)
+    → PicksWhole (glyphCounts (w .run .clusters)) (unitCounts (w .run .clusters)) first end (pickUnits us cs gs first end)
 to-units us cs gs first end w h k =
+    let q : runOf us cs gs ≡ w .run = readable-run us cs gs w in
+    let k′ : end ≤ length (glyphsOf gs) = subst (λ (r : Run). end ≤ length (r .glyphs)) (sym q) k in
     let e : 0 + sum (glyphCounts (clustersOf cs)) ≡ length (glyphsOf gs) = fits-glyphs (glyphsOf gs) (empty us) (clustersOf cs) us 0 (readable-fits us cs gs w .fit) in
-    (touched first end (clustersOf cs), units-ok us cs gs first end w h k, touched-whole (clustersOf cs) first end h (omega arith))
+    subst (λ (r : Run). PicksWhole (glyphCounts (r .clusters)) (unitCounts (r .clusters)) first end (pickUnits us cs gs first end)) q
+    (touched first end (clustersOf cs), units-ok us cs gs first end w h k′, touched-whole (clustersOf cs) first end h (omega arith))
 
-to-glyphs : (us : List ℕ) (cs gs : List ℤ) (first end : ℕ) → Readable us cs gs → first < end → end ≤ length us
-    → (s : Stretch) × (pickGlyphs us cs gs first end ≡ ok s) × WholeClusters (unitCounts (clustersOf cs)) (glyphCounts (clustersOf cs)) first end s
+to-glyphs : (us : List ℕ) (cs gs : List ℤ) (first end : ℕ) (w : Readable us cs gs) → first < end → end ≤ length (w .run .units)
+    → PicksWhole (unitCounts (w .run .clusters)) (glyphCounts (w .run .clusters)) first end (pickGlyphs us cs gs first end)
 to-glyphs us cs gs first end w h k =
+    let q : runOf us cs gs ≡ w .run = readable-run us cs gs w in
+    let k′ : end ≤ length us = subst (λ (r : Run). end ≤ length (r .units)) (sym q) k in
     let e : sum (unitCounts (clustersOf cs)) ≡ length us = fits-units (glyphsOf gs) (empty us) (clustersOf cs) us 0 (readable-fits us cs gs w .fit) in
-    let t : sum (glyphCounts (turned (clustersOf cs))) ≡ length us = rw (turned-glyphs (clustersOf cs)) e in (
+    let t : sum (glyphCounts (turned (clustersOf cs))) ≡ length us = rw (turned-glyphs (clustersOf cs)) e in
+    subst (λ (r : Run). PicksWhole (unitCounts (r .clusters)) (glyphCounts (r .clusters)) first end (pickGlyphs us cs gs first end)) q (
       touched first end (turned (clustersOf cs)),
-      glyphs-ok us cs gs first end w h k,
+      glyphs-ok us cs gs first end w h k′,
       rw (turned-glyphs (clustersOf cs), turned-units (clustersOf cs)) at (touched-whole (turned (clustersOf cs)) first end h (omega arith)),
     )
 
-accepted : (t i : List ℕ) → refuses (labelChecks t i) ≡ false → read t i ≡ ok (saidRun t i)
-accepted t i h = read-by-checks t i ∙ passes (labelChecks t i) (ok (saidRun t i)) h
+-- the same of a run handed in as bytes
+bytes-to-units : (us cs gs : List ℕ) (first end : ℕ) (w : ReadableBytes us cs gs) → first < end → end ≤ length (w .run .glyphs)
+    → PicksWhole (glyphCounts (w .run .clusters)) (unitCounts (w .run .clusters)) first end (pickUnitsBytes us cs gs first end)
+unfolding pickUnitsBytes
+bytes-to-units us cs gs first end w h k =
+    let (e, v, q) = bytes-readable us cs gs w in
+    rw e (subst (λ (r : Run). PicksWhole (glyphCounts (r .clusters)) (unitCounts (r .clusters)) first end (pickUnits (halves us) (words cs) (words gs) first end)) q
+    (to-units (halves us) (words cs) (words gs) first end v h (subst (λ (r : Run). end ≤ length (r .glyphs)) (sym q) k)))
 
-refused : (t i : List ℕ) → refuses (labelChecks t i) ≡ true → (n : ℕ) × (p : ℕ) × (read t i ≡ no n p) × Given (labelChecks t i) n p
-refused t i h =
-    let (n, p, e) = stops (labelChecks t i) h in
-    let r : read t i ≡ no n p = read-by-checks t i ∙ rw e in
-    (n, p, r, given-is (labelChecks t i) n p (saidRun t i) .0 (rw e))
+bytes-to-glyphs : (us cs gs : List ℕ) (first end : ℕ) (w : ReadableBytes us cs gs) → first < end → end ≤ length (w .run .units)
+    → PicksWhole (unitCounts (w .run .clusters)) (glyphCounts (w .run .clusters)) first end (pickGlyphsBytes us cs gs first end)
+unfolding pickGlyphsBytes
+bytes-to-glyphs us cs gs first end w h k =
+    let (e, v, q) = bytes-readable us cs gs w in
+    rw e (subst (λ (r : Run). PicksWhole (unitCounts (r .clusters)) (glyphCounts (r .clusters)) first end (pickGlyphs (halves us) (words cs) (words gs) first end)) q
+    (to-glyphs (halves us) (words cs) (words gs) first end v h (subst (λ (r : Run). end ≤ length (r .units)) (sym q) k)))
 
-reads-to : (t i : List ℕ) (r : Run) → read t i ≡ ok r → (refuses (labelChecks t i) ≡ false) × (r ≡ saidRun t i)
-reads-to t i r h =
-    cases (refuses (labelChecks t i))
-    (λ e. let (n, p, a, b) = refused t i e in no-ok n p r (sym a ∙ h))
-    (λ e. (e, sym (ok-path (saidRun t i) r (sym (accepted t i e) ∙ h))))
+-- what checks decide: a value where no cause holds, else the number of the first that does
+module _ {A : Type 0} (cs : List Check) (a : A) (o : Outcome A) (e : o ≡ (verdict cs >> ok a)) where
+  decided-ok : refuses cs ≡ false → o ≡ ok a
+  decided-ok h = e ∙ passes cs (ok a) h
+
+  decided-no : refuses cs ≡ true → (n : ℕ) × (p : ℕ) × (o ≡ no n p) × GivenBy cs n p
+  decided-no h =
+      let (n, p, v) = stops cs h in
+      let r : o ≡ no n p = e ∙ rw v in
+      (n, p, r, given-is cs n p a .0 (sym e ∙ r))
+
+  decided : (b : A) → (o ≡ ok b) ↔ ((refuses cs ≡ false) × (b ≡ a))
+  decided b = (
+    λ h. cases (refuses cs) (λ t. let (n, p, r, g) = decided-no t in no-ok n p b (sym r ∙ h)) (λ t. (t, sym (ok-path a b (sym (decided-ok t) ∙ h)))),
+    λ h. decided-ok (h .0) ∙ ap ok (sym (h .1)),
+  )
 
 pub demand-2 : Demand2
 demand-2 =
     record {
-      reads = λ t i r. (reads-to t i r, λ h. accepted t i (h .0) ∙ ap ok (sym (h .1)));
-      refused = refused;
+      reads = λ t i r. decided (labelChecks t i) (saidRun t i) (read t i) (read-by-checks t i) r;
       map-length = λ t i r h. map-sum 0 (r .clusters) ∙ fits-units (r .glyphs) (empty (r .units)) (r .clusters) (r .units) 0 (sound-parts r (read-sound t i r h) .fit);
       map-entry = λ t i r j k h x. map-at (r .clusters) 0 j k x ∙ omega arith;
-      normally = write-is;
+      accepts = λ u c g t i r. decided (readChecks u c g t i) (saidRun t i) (readInto u c g t i) (into-by-checks u c g t i) r;
+      refused = λ u c g t i h. decided-no (readChecks u c g t i) (saidRun t i) (readInto u c g t i) (into-by-checks u c g t i) h;
+      normally = written-from;
+      bytes-normally = bytes-from;
       sound-is = λ us cs gs. (sound-readable us cs gs, readable-sound us cs gs);
       to-units = to-units;
       to-glyphs = to-glyphs;
+      bytes-to-units = bytes-to-units;
+      bytes-to-glyphs = bytes-to-glyphs;
       units-fixed = λ us cs gs first end n p. rw (units-by-checks us cs gs first end) (given-is (pickChecks us cs gs first end (length (glyphsOf gs))) n p (touched first end (clustersOf cs)));
       glyphs-fixed = λ us cs gs first end n p. rw (glyphs-by-checks us cs gs first end) (given-is (pickChecks us cs gs first end (length us)) n p (touched first end (turned (clustersOf cs))));
+      units-bytes-fixed = λ us cs gs first end n p. rw (units-bytes-by-checks us cs gs first end)
+          (given-is (pickByteChecks us cs gs first end (length (glyphsOf (words gs)))) n p (touched first end (clustersOf (words cs))));
+      glyphs-bytes-fixed = λ us cs gs first end n p. rw (glyphs-bytes-by-checks us cs gs first end)
+          (given-is (pickByteChecks us cs gs first end (length (halves us))) n p (touched first end (turned (clustersOf (words cs)))));
     }
 
 -- ── demand 3 ──
@@ -311,15 +361,48 @@ passed-is t i r us cs gs x y h m n =
     )
     (writes-is r x y (read-sound t i r h) n)
 
-passed : (t i : List ℕ) (r : Run) (us : List ℕ) (cs gs : List ℤ) (tx ix : List ℕ) → read t i ≡ ok r → Roomy r (length us) (length cs) (length gs)
-    → RoomyFor (normal r) (length tx) (length ix) → Passed r t i us cs gs tx ix
-passed t i r us cs gs tx ix h m n =
-    let w : passedOn r t i us cs gs (length tx) (length ix) ≡ ok (normal r) = passed-is t i r us cs gs (length tx) (length ix) h m n in
+-- the same of the bytes that a reading filled
+bytes-passed-is : (t i : List ℕ) (r : Run) (us cs gs : List ℕ) (x y : ℕ) → read t i ≡ ok r → Roomy r (length us / 2) (length cs / 4) (length gs / 4) → RoomyFor (normal r) x y
+    → passedOnBytes r t i us cs gs x y ≡ ok (normal r)
+unfolding readBytes
+bytes-passed-is t i r us cs gs x y h m n =
+    let w : ReadableBytes (fromHalves (r .units)) (fromWords (flatClusters (r .clusters))) (fromWords (flatGlyphs (r .glyphs))) =
+    record { run = r; text = t; indices = i; reads = h; units-are = refl; clusters-are = refl; glyphs-are = refl } in
+    rw (
+      read-into t i r (length us / 2) (length cs / 4) (length gs / 4) h m,
+      held (fromHalves (r .units)) us (2 * length (r .units)) (length-halves (r .units)),
+      held (fromWords (flatClusters (r .clusters))) cs (8 * length (r .clusters)) (length-words (flatClusters (r .clusters)) ∙ omega (arith, length-clusters (r .clusters))),
+      held (fromWords (flatGlyphs (r .glyphs))) gs (16 * length (r .glyphs)) (length-words (flatGlyphs (r .glyphs)) ∙ omega (arith, length-glyphs (r .glyphs))),
+    )
+    (bytes-from (fromHalves (r .units)) (fromWords (flatClusters (r .clusters))) (fromWords (flatGlyphs (r .glyphs))) x y w n)
+
+-- what is in the outputs when the normal writing was given
+passed : (r : Run) (o : Outcome Run) (w : Outcome Label) (tx ix : List ℕ) → soundRun r ≡ true → o ≡ ok r → w ≡ ok (normal r) → RoomyFor (normal r) (length tx) (length ix) → Passed r o w tx ix
+passed r o w tx ix s eo ew n =
     record {
-      counts-are = rw (read-into t i r (length us) (length cs) (length gs) h m);
-      wrote = rw w (wrote r (normal r) tx ix refl n);
-      back = rw (w, held (normal r .text) tx (length (normal r .text)) refl, held (normal r .indices) ix (length (normal r .indices)) refl) (read-back r (read-sound t i r h));
+      counts-are = rw eo;
+      wrote = rw ew (wrote r (normal r) tx ix refl n);
+      back = rw (ew, held (normal r .text) tx (length (normal r .text)) refl, held (normal r .indices) ix (length (normal r .indices)) refl) (read-back r s);
     }
+
+module _ (r : Run) (o : Outcome Run) (w : Outcome Label) (tx ix : List ℕ) (p : Passed r o w tx ix) where
+  text-written : textWritten r w tx ≡ normal r .text
+  text-written = ap (take (length (normal r .text))) (p .wrote .text) ∙ held (normal r .text) tx (length (normal r .text)) refl
+
+  indices-written : indicesWritten r w ix ≡ normal r .indices
+  indices-written = ap (take (length (normal r .indices))) (p .wrote .indices) ∙ held (normal r .indices) ix (length (normal r .indices)) refl
+
+  passed-sound : soundRun r ≡ true
+  passed-sound = read-sound (textWritten r w tx) (indicesWritten r w ix) r (p .back)
+
+  written-again : (v : Outcome Label) → v ≡ ok (normal r) → (l : Label) × (v ≡ ok l) × (l .text ≡ textWritten r w tx) × (l .indices ≡ indicesWritten r w ix)
+  written-again v e = (normal r, e, sym text-written, sym indices-written)
+
+same-passed : (A B : Run) (oA oB : Outcome Run) (wA wB : Outcome Label) (txA ixA txB ixB : List ℕ) → Passed A oA wA txA ixA → Passed B oB wB txB ixB
+    → (A ≡ B) ↔ ((textWritten A wA txA ≡ textWritten B wB txB) × (indicesWritten A wA ixA ≡ indicesWritten B wB ixB))
+same-passed A B oA oB wA wB txA ixA txB ixB p q =
+    rw (text-written A oA wA txA ixA p, indices-written A oA wA txA ixA p, text-written B oB wB txB ixB q, indices-written B oB wB txB ixB q)
+    (same A B (normal A) (normal B) (passed-sound A oA wA txA ixA p) (passed-sound B oB wB txB ixB q) refl refl)
 
 pub demand-3 : Demand3
 demand-3 =
@@ -342,8 +425,18 @@ demand-3 =
       );
       written-bytes = λ us cs gs x y hu hc hg. (
         λ l. let (w, e, m) = bytes-to us cs gs x y hu hc hg (l .0) (l .1) in (w, m),
-        λ w. bytes-from us cs gs x y (w .0) (w .1),
+        λ w. (normal (w .0 .run), bytes-from us cs gs x y (w .0) (w .1)),
       );
       written-normally = λ us cs gs l x y w h. into-write us cs gs l x y h .is ∙ ap normal (readable-run us cs gs w);
-      passed = passed;
+      written-bytes-normally = λ us cs gs l x y w h. bytes-normal us cs gs l x y w h;
+      passed = λ t i r us cs gs tx ix h m n.
+          passed r _ _ tx ix (read-sound t i r h) (read-into t i r (length us) (length cs) (length gs) h m) (passed-is t i r us cs gs (length tx) (length ix) h m n) n;
+      bytes-passed = λ t i r us cs gs tx ix h m n.
+          passed r _ _ tx ix (read-sound t i r h) (unfold readBytes in read-into t i r (length us / 2) (length cs / 4) (length gs / 4) h m)
+          (bytes-passed-is t i r us cs gs (length tx) (length ix) h m n) n;
+      same-passed = same-passed;
+      unchanged = λ r o w tx ix us cs gs x y p m n.
+          written-again r o w tx ix p _ (passed-is (textWritten r w tx) (indicesWritten r w ix) r us cs gs x y (p .back) m n);
+      bytes-unchanged = λ r o w tx ix us cs gs x y p m n.
+          written-again r o w tx ix p _ (bytes-passed-is (textWritten r w tx) (indicesWritten r w ix) r us cs gs x y (p .back) m n);
     }

@@ -15,7 +15,7 @@ use Rattle.label.specs.Run.{Run}
 use Rattle.label.specs.Write.{textOf, indicesOf}
 use Rattle.label.specs.Sound.{indexNumber, advanceNumber, flatClusters, flatGlyphs, Readable, choice, wholeClusters, wholeGlyphs, numberIndex, numberAdvance, clustersOf, glyphsOf, fits, soundRun, runOf, sound}
 use Rattle.label.specs.Pick.{stretch, touched, turned}
-use Rattle.label.specs.Demands.{startsAt, In, Divided, unitCounts, glyphCounts, Touches, WholeClusters, clusterMap}
+use Rattle.label.specs.Demands.{startsAt, In, Divided, unitCounts, glyphCounts, Touches, ClustersTouched, clusterMap}
 use Rattle.label.specs.declared.Index.{Index}
 use Rattle.label.specs.declared.Index.the-variants.{Named, Font}
 use Rattle.label.specs.declared.Advance.{Advance}
@@ -200,7 +200,7 @@ readable-sound us cs gs w =
 
 -- the stretch between the clusters that hold the first and the last place
 holding-whole : (ns to : List ℕ) (first end j k : ℕ) → first < end → In ns j first → In ns k (end - 1)
-    → WholeClusters ns to first end (stretch (startsAt to j) (startsAt to (suc k)))
+    → ClustersTouched ns to first end (stretch (startsAt to j) (startsAt to (suc k)))
 holding-whole ns to first end j k h x y =
     let tj : Touches ns first end j = record { at = first; from = omega arith; below = h; is = x } in
     let tk : Touches ns first end k = record { at = end - 1; from = omega arith; below = omega arith; is = y } in
@@ -216,7 +216,7 @@ holding-whole ns to first end j k h x y =
     }
 
 pub touched-whole : (cs : List Cluster) (first end : ℕ) → first < end → end ≤ sum (glyphCounts cs)
-    → WholeClusters (glyphCounts cs) (unitCounts cs) first end (touched first end cs)
+    → ClustersTouched (glyphCounts cs) (unitCounts cs) first end (touched first end cs)
 unfolding touched
 touched-whole cs first end h l =
     let (j, x) = find (glyphCounts cs) first (omega arith) in

@@ -1,5 +1,5 @@
 -- "Checks, in order": the table of document 01 as a list, in its order, of causes with their numbers and places. Each cause is computed from what the call is
--- given, whatever the others say; each call is shown to be what the first cause that holds decides (laws `read-by-checks` and others).
+-- given, whatever the others say; each call is shown to be what the first cause that holds decides (laws `read-by-checks`, `write-by-checks` and others).
 -- Assumes nothing.
 use Prim.Native.Nat.{ℕ, zero, suc, _+_, _*_}
 use mathlib.Core.Path.{_≡_}
@@ -14,16 +14,18 @@ use Rattle.label.specs.Bytes.{empty, value}
 use Rattle.label.specs.Text.{lead, starts, scalar, xmlChar, unitsOf, braced, marked, unmarked}
 use Rattle.label.specs.Entry.{part, indexDigits, wellFormed, fieldFits, entryOf, entries}
 use Rattle.label.specs.Run.{Run, Parts, fontGlyph, cluster, before, whole, State, start, opens, takes, allowed, next}
-use Rattle.label.specs.Sound.{sound, runOf}
+use Rattle.label.specs.Sound.{sound, runOf, glyphsOf}
 use Rattle.label.specs.Write.{normal}
 use Rattle.label.specs.Pick.{inside}
+use Rattle.label.specs.Wire.{halves, words, noLeftOver}
 
--- a row of the table: whether its cause holds, its number and its place
+-- whether a row's cause holds, its number and its place
 pub record Check : Type 0 where
   pub holds : Bool
   pub number : ℕ
   pub place : ℕ
 
+-- the row of a cause, a number and a place
 abbrev pub check : Bool → ℕ → ℕ → Check
 check h n p = record { holds = h; number = n; place = p }
 
@@ -38,7 +40,7 @@ refuses [] = false
 refuses (c ∷ cs) = c .holds || refuses cs
 
 -- number n with place p is given by these checks: its cause holds, and no earlier one does
-pub record Given (cs : List Check) (n p : ℕ) : Type 0 where
+pub record GivenBy (cs : List Check) (n p : ℕ) : Type 0 where
   pub earlier : List Check
   pub it : Check
   pub later : List Check
@@ -145,3 +147,14 @@ writeChecks text indices us cs gs =
 -- "Soundness (19) is tested before 22": a pick among `count` glyphs or units
 unfoldable pub pickChecks : List ℕ → List ℤ → List ℤ → ℕ → ℕ → ℕ → List Check
 pickChecks us cs gs first end count = check (not (sound us cs gs)) 19 0 ∷ check (not (inside first end count)) 22 0 ∷ []
+
+-- "from a sound run (else 19; 18 where the list is too short ...)": a list of `room` records
+unfoldable pub listChecks : ℕ → List ℕ → List ℤ → List ℤ → List Check
+listChecks room us cs gs = check (not (sound us cs gs)) 19 0 ∷ check (not (leb (length (glyphsOf gs)) room)) 18 (length (glyphsOf gs)) ∷ []
+
+-- "a run handed in with some [left-over bytes] is one that no label reads as, so not sound" (19), before the checks of its numbers
+unfoldable pub writeByteChecks : ℕ → ℕ → List ℕ → List ℕ → List ℕ → List Check
+writeByteChecks text indices us cs gs = check (not (noLeftOver us cs gs)) 19 0 ∷ writeChecks text indices (halves us) (words cs) (words gs)
+
+unfoldable pub pickByteChecks : List ℕ → List ℕ → List ℕ → ℕ → ℕ → ℕ → List Check
+pickByteChecks us cs gs first end count = check (not (noLeftOver us cs gs)) 19 0 ∷ pickChecks (halves us) (words cs) (words gs) first end count

@@ -1,5 +1,5 @@
 -- The three demands, stated on the definitions that the contracts of the calls cite: a record for each, whose fields are its sentences. proofs/Demands.antt
--- has a value of each record.
+-- has a value of each record. A field whose name has `byte` says the same of the calls for C.
 -- Assumes nothing.
 use Prim.Native.Nat.{ℕ, zero, suc, _+_, _*_, _/_, _≤_, _<_}
 use mathlib.Core.Path.{_≡_}
@@ -11,12 +11,12 @@ use lib.IntN.{ℤ}
 use lib.ListN.{length, getD, take, replicate}
 use Rattle.label.specs.Outcome.{Outcome, ok, no}
 use Rattle.label.specs.Run.{Run, read}
-use Rattle.label.specs.Sound.{flatClusters, flatGlyphs, Readable, sound, runOf, clustersOf, glyphsOf}
-use Rattle.label.specs.Write.{Label, normal, write}
+use Rattle.label.specs.Sound.{flatClusters, flatGlyphs, Readable, sound, glyphsOf}
+use Rattle.label.specs.Write.{Label, normal}
 use Rattle.label.specs.Pick.{pickUnits, pickGlyphs}
-use Rattle.label.specs.Calls.{filled, readInto, counts, counted, unitsAfter, clustersAfter, glyphsAfter, writeInto, lengths, lengthsOf, textAfter, indicesAfter}
-use Rattle.label.specs.Wire.{fromHalves, fromWords, readBytes, unitBytesAfter, clusterBytesAfter, glyphBytesAfter, writeBytes}
-use Rattle.label.specs.Checks.{Given, refuses, saidRun, labelChecks, readChecks, writeChecks, pickChecks}
+use Rattle.label.specs.Calls.{filled, readInto, counts, counted, unitsAfter, clustersAfter, glyphsAfter, writeInto, lengths, lengthsOf, textAfter, indicesAfter, listInto}
+use Rattle.label.specs.Wire.{fromHalves, fromWords, halves, words, readBytes, unitBytesAfter, clusterBytesAfter, glyphBytesAfter, writeBytes, pickUnitsBytes, pickGlyphsBytes}
+use Rattle.label.specs.Checks.{GivenBy, refuses, saidRun, labelChecks, readChecks, writeChecks, pickChecks, listChecks, writeByteChecks, pickByteChecks}
 use Rattle.label.specs.declared.Cluster.{Cluster}
 use Rattle.label.specs.declared.Stretch.{Stretch}
 
@@ -41,6 +41,7 @@ pub record Divided (n : ℕ) (ns : List ℕ) : Type 0 where
   pub ordered : (i i′ j k : ℕ) → i ≤ i′ → In ns j i → In ns k i′ → j ≤ k
   pub no-more : (i j : ℕ) → In ns j i → i < n
 
+-- the clusters' counts of units, and of glyphs
 abbrev pub unitCounts : List Cluster → List ℕ
 unitCounts [] = []
 unitCounts (c ∷ cs) = c .units ∷ unitCounts cs
@@ -57,7 +58,7 @@ pub record Touches (ns : List ℕ) (first end m : ℕ) : Type 0 where
   pub is : In ns m at
 
 -- s is the stretch of whole clusters, counted by `to`, that the stretch from `first` to `end`, counted by `ns`, touches
-pub record WholeClusters (ns to : List ℕ) (first end : ℕ) (s : Stretch) : Type 0 where
+pub record ClustersTouched (ns to : List ℕ) (first end : ℕ) (s : Stretch) : Type 0 where
   -- it goes from the start of a touched cluster to the end of a touched cluster
   pub low : ℕ
   pub high : ℕ
@@ -121,7 +122,7 @@ abbrev pub Left : Outcome Run → List ℕ → List ℕ → List ℕ → List �
 Left o t i us cs gs =
     ((r : Run) × (read t i ≡ ok r) × Roomy r (length us) (length cs) (length gs) × (counted o ≡ ok (counts r))
     × Complete (r .units) us (unitsAfter o us) (flatClusters (r .clusters)) cs (clustersAfter o cs) (flatGlyphs (r .glyphs)) gs (glyphsAfter o gs))
-    ⊎ ((n : ℕ) × (p : ℕ) × Given (readChecks (length us) (length cs) (length gs) t i) n p × (counted o ≡ no n p)
+    ⊎ ((n : ℕ) × (p : ℕ) × GivenBy (readChecks (length us) (length cs) (length gs) t i) n p × (counted o ≡ no n p)
     × Untouched us (unitsAfter o us) cs (clustersAfter o cs) gs (glyphsAfter o gs))
 
 -- the same of the bytes that C lends
@@ -129,7 +130,7 @@ abbrev pub LeftBytes : Outcome Run → List ℕ → List ℕ → List ℕ → Li
 LeftBytes o t i us cs gs =
     ((r : Run) × (read t i ≡ ok r) × Roomy r (length us / 2) (length cs / 4) (length gs / 4) × (counted o ≡ ok (counts r))
     × Complete (fromHalves (r .units)) us (unitBytesAfter o us) (fromWords (flatClusters (r .clusters))) cs (clusterBytesAfter o cs) (fromWords (flatGlyphs (r .glyphs))) gs (glyphBytesAfter o gs))
-    ⊎ ((n : ℕ) × (p : ℕ) × Given (readChecks (length us / 2) (length cs / 4) (length gs / 4) t i) n p × (counted o ≡ no n p)
+    ⊎ ((n : ℕ) × (p : ℕ) × GivenBy (readChecks (length us / 2) (length cs / 4) (length gs / 4) t i) n p × (counted o ≡ no n p)
     × Untouched us (unitBytesAfter o us) cs (clusterBytesAfter o cs) gs (glyphBytesAfter o gs))
 
 -- what a writing with outcome o of the run r leaves in the two outputs: its normal writing, with its lengths
@@ -151,15 +152,19 @@ pub record Demand1 : Type 0 where
   pub memory : (t i us : List ℕ) (cs gs : List ℤ) → Left (readInto (length us) (length cs) (length gs) t i) t i us cs gs
   pub byte-memory : (t i us cs gs : List ℕ) → LeftBytes (readBytes (length us) (length cs) (length gs) t i) t i us cs gs
   -- "A refusal is a number and a place fixed by document 01": it is given exactly when its cause holds and no earlier one of the table does.
-  pub fixed : (u c g : ℕ) (t i : List ℕ) (n p : ℕ) → (readInto u c g t i ≡ no n p) ↔ Given (readChecks u c g t i) n p
+  pub fixed : (u c g : ℕ) (t i : List ℕ) (n p : ℕ) → (readInto u c g t i ≡ no n p) ↔ GivenBy (readChecks u c g t i) n p
+  pub bytes-fixed : (u c g : ℕ) (t i : List ℕ) (n p : ℕ) → (readBytes u c g t i ≡ no n p) ↔ GivenBy (readChecks (u / 2) (c / 4) (g / 4) t i) n p
   -- "The same holds for the writer's buffers, and for any run handed to it, sound or not."
   pub writer-memory : (us : List ℕ) (cs gs : List ℤ) (tx ix : List ℕ)
       → ((w : Readable us cs gs) × Wrote (w .run) (writeInto (length tx) (length ix) us cs gs) tx ix)
-      ⊎ ((n : ℕ) × (p : ℕ) × Given (writeChecks (length tx) (length ix) us cs gs) n p × NotWrote n p (writeInto (length tx) (length ix) us cs gs) tx ix)
+      ⊎ ((n : ℕ) × (p : ℕ) × GivenBy (writeChecks (length tx) (length ix) us cs gs) n p × NotWrote n p (writeInto (length tx) (length ix) us cs gs) tx ix)
   pub writer-byte-memory : (us cs gs tx ix : List ℕ) → bytes us ≡ true → bytes cs ≡ true → bytes gs ≡ true
       → ((w : ReadableBytes us cs gs) × Wrote (w .run) (writeBytes (length tx) (length ix) us cs gs) tx ix)
-      ⊎ ((n : ℕ) × (p : ℕ) × NotWrote n p (writeBytes (length tx) (length ix) us cs gs) tx ix)
-  pub writer-fixed : (t i : ℕ) (us : List ℕ) (cs gs : List ℤ) (n p : ℕ) → (writeInto t i us cs gs ≡ no n p) ↔ Given (writeChecks t i us cs gs) n p
+      ⊎ ((n : ℕ) × (p : ℕ) × GivenBy (writeByteChecks (length tx) (length ix) us cs gs) n p × NotWrote n p (writeBytes (length tx) (length ix) us cs gs) tx ix)
+  pub writer-fixed : (t i : ℕ) (us : List ℕ) (cs gs : List ℤ) (n p : ℕ) → (writeInto t i us cs gs ≡ no n p) ↔ GivenBy (writeChecks t i us cs gs) n p
+  pub writer-bytes-fixed : (t i : ℕ) (us cs gs : List ℕ) (n p : ℕ) → (writeBytes t i us cs gs ≡ no n p) ↔ GivenBy (writeByteChecks t i us cs gs) n p
+  -- and of the list of glyph records
+  pub list-fixed : (room : ℕ) (us : List ℕ) (cs gs : List ℤ) (n p : ℕ) → (listInto room us cs gs ≡ no n p) ↔ GivenBy (listChecks room us cs gs) n p
 
 -- ── demand 2 ──
 
@@ -169,29 +174,45 @@ unfoldable pub clusterMap : ℕ → List Cluster → List ℕ
 clusterMap g [] = []
 clusterMap g (c ∷ cs) = replicate (c .units) g ++ clusterMap (g + c .glyphs) cs
 
+-- the outcome o of a pick is the stretch of whole clusters that the stretch from `first` to `end` touches
+abbrev pub PicksWhole : List ℕ → List ℕ → ℕ → ℕ → Outcome Stretch → Type 0
+PicksWhole ns to first end o = (s : Stretch) × (o ≡ ok s) × ClustersTouched ns to first end s
+
 pub record Demand2 : Type 0 where
-  -- "what conforms is accepted with that run": a label reads as the run that its text and entries say exactly when no cause of 1 to 15 holds. What the buffers
-  -- then hold is `Demand1.memory`.
+  -- "The reading is the one that ECMA-388 [...] defines within the limits and house choices of document 01": the run is the one that text and entries say,
+  -- character by character and entry by entry, and its clusters make up the cluster map of the standard
   pub reads : (t i : List ℕ) (r : Run) → (read t i ≡ ok r) ↔ ((refuses (labelChecks t i) ≡ false) × (r ≡ saidRun t i))
-  -- "all else is refused"
-  pub refused : (t i : List ℕ) → refuses (labelChecks t i) ≡ true → (n : ℕ) × (p : ℕ) × (read t i ≡ no n p) × Given (labelChecks t i) n p
-  -- the run's clusters make up the cluster map of the standard
   pub map-length : (t i : List ℕ) (r : Run) → read t i ≡ ok r → length (clusterMap 0 (r .clusters)) ≡ length (r .units)
   pub map-entry : (t i : List ℕ) (r : Run) (j k : ℕ) → read t i ≡ ok r → In (unitCounts (r .clusters)) j k
       → getD (clusterMap 0 (r .clusters)) k 0 ≡ startsAt (glyphCounts (r .clusters)) j
+  -- "what conforms is accepted with that run": exactly when no cause of 1 to 18 holds. What is then returned and stored is `Demand1.memory`.
+  pub accepts : (u c g : ℕ) (t i : List ℕ) (r : Run) → (readInto u c g t i ≡ ok r) ↔ ((refuses (readChecks u c g t i) ≡ false) × (r ≡ saidRun t i))
+  -- "all else is refused"
+  pub refused : (u c g : ℕ) (t i : List ℕ) → refuses (readChecks u c g t i) ≡ true
+      → (n : ℕ) × (p : ℕ) × (readInto u c g t i ≡ no n p) × GivenBy (readChecks u c g t i) n p
   -- "The writer gives the normal writing that document 01 defines"
-  pub normally : (us : List ℕ) (cs gs : List ℤ) → sound us cs gs ≡ true → write us cs gs ≡ ok (normal (runOf us cs gs))
+  pub normally : (us : List ℕ) (cs gs : List ℤ) (x y : ℕ) (w : Readable us cs gs) → RoomyFor (normal (w .run)) x y → writeInto x y us cs gs ≡ ok (normal (w .run))
+  pub bytes-normally : (us cs gs : List ℕ) (x y : ℕ) (w : ReadableBytes us cs gs) → RoomyFor (normal (w .run)) x y → writeBytes x y us cs gs ≡ ok (normal (w .run))
   -- the computed test says "some label that this paper accepts reads as it"
   pub sound-is : (us : List ℕ) (cs gs : List ℤ) → (sound us cs gs ≡ true) ↔ Readable us cs gs
-  -- "a pick from glyphs to code units, or back, gives whole clusters": of every sound run, for every stretch inside it
-  pub to-units : (us : List ℕ) (cs gs : List ℤ) (first end : ℕ) → Readable us cs gs → first < end → end ≤ length (glyphsOf gs)
-      → (s : Stretch) × (pickUnits us cs gs first end ≡ ok s) × WholeClusters (glyphCounts (clustersOf cs)) (unitCounts (clustersOf cs)) first end s
-  pub to-glyphs : (us : List ℕ) (cs gs : List ℤ) (first end : ℕ) → Readable us cs gs → first < end → end ≤ length us
-      → (s : Stretch) × (pickGlyphs us cs gs first end ≡ ok s) × WholeClusters (unitCounts (clustersOf cs)) (glyphCounts (clustersOf cs)) first end s
+  -- "a pick from glyphs to code units, or back, gives whole clusters": of every run that some label reads as, for every stretch inside it
+  pub to-units : (us : List ℕ) (cs gs : List ℤ) (first end : ℕ) (w : Readable us cs gs) → first < end → end ≤ length (w .run .glyphs)
+      → PicksWhole (glyphCounts (w .run .clusters)) (unitCounts (w .run .clusters)) first end (pickUnits us cs gs first end)
+  pub to-glyphs : (us : List ℕ) (cs gs : List ℤ) (first end : ℕ) (w : Readable us cs gs) → first < end → end ≤ length (w .run .units)
+      → PicksWhole (unitCounts (w .run .clusters)) (glyphCounts (w .run .clusters)) first end (pickGlyphs us cs gs first end)
+  pub bytes-to-units : (us cs gs : List ℕ) (first end : ℕ) (w : ReadableBytes us cs gs) → first < end → end ≤ length (w .run .glyphs)
+      → PicksWhole (glyphCounts (w .run .clusters)) (unitCounts (w .run .clusters)) first end (pickUnitsBytes us cs gs first end)
+  pub bytes-to-glyphs : (us cs gs : List ℕ) (first end : ℕ) (w : ReadableBytes us cs gs) → first < end → end ≤ length (w .run .units)
+      → PicksWhole (unitCounts (w .run .clusters)) (glyphCounts (w .run .clusters)) first end (pickGlyphsBytes us cs gs first end)
+  -- "Soundness (19) is tested before 22."
   pub units-fixed : (us : List ℕ) (cs gs : List ℤ) (first end n p : ℕ)
-      → (pickUnits us cs gs first end ≡ no n p) ↔ Given (pickChecks us cs gs first end (length (glyphsOf gs))) n p
+      → (pickUnits us cs gs first end ≡ no n p) ↔ GivenBy (pickChecks us cs gs first end (length (glyphsOf gs))) n p
   pub glyphs-fixed : (us : List ℕ) (cs gs : List ℤ) (first end n p : ℕ)
-      → (pickGlyphs us cs gs first end ≡ no n p) ↔ Given (pickChecks us cs gs first end (length us)) n p
+      → (pickGlyphs us cs gs first end ≡ no n p) ↔ GivenBy (pickChecks us cs gs first end (length us)) n p
+  pub units-bytes-fixed : (us cs gs : List ℕ) (first end n p : ℕ)
+      → (pickUnitsBytes us cs gs first end ≡ no n p) ↔ GivenBy (pickByteChecks us cs gs first end (length (glyphsOf (words gs)))) n p
+  pub glyphs-bytes-fixed : (us cs gs : List ℕ) (first end n p : ℕ)
+      → (pickGlyphsBytes us cs gs first end ≡ no n p) ↔ GivenBy (pickByteChecks us cs gs first end (length (halves us))) n p
 
 -- ── demand 3 ──
 
@@ -202,16 +223,28 @@ passedOn r t i us cs gs x y =
     (take (2 * length (r .clusters)) (clustersAfter (readInto (length us) (length cs) (length gs) t i) cs))
     (take (4 * length (r .glyphs)) (glyphsAfter (readInto (length us) (length cs) (length gs) t i) gs))
 
--- what reading a label into buffers, and writing the places it filled into outputs, leave
-pub record Passed (r : Run) (t i us : List ℕ) (cs gs : List ℤ) (tx ix : List ℕ) : Type 0 where
+-- the same of the calls for C: a unit is 2 bytes, a cluster 8 and a glyph 16
+abbrev pub passedOnBytes : Run → List ℕ → List ℕ → List ℕ → List ℕ → List ℕ → ℕ → ℕ → Outcome Label
+passedOnBytes r t i us cs gs x y =
+    writeBytes x y (take (2 * length (r .units)) (unitBytesAfter (readBytes (length us) (length cs) (length gs) t i) us))
+    (take (8 * length (r .clusters)) (clusterBytesAfter (readBytes (length us) (length cs) (length gs) t i) cs))
+    (take (16 * length (r .glyphs)) (glyphBytesAfter (readBytes (length us) (length cs) (length gs) t i) gs))
+
+-- the text bytes and the indices bytes that a writing of the run r with outcome w leaves in the outputs
+abbrev pub textWritten : Run → Outcome Label → List ℕ → List ℕ
+textWritten r w tx = take (length (normal r .text)) (textAfter w tx)
+
+abbrev pub indicesWritten : Run → Outcome Label → List ℕ → List ℕ
+indicesWritten r w ix = take (length (normal r .indices)) (indicesAfter w ix)
+
+-- a label was read, with outcome o, and the places filled were written, with outcome w
+pub record Passed (r : Run) (o : Outcome Run) (w : Outcome Label) (tx ix : List ℕ) : Type 0 where
   -- the reader accepts, with the run's counts
-  pub counts-are : counted (readInto (length us) (length cs) (length gs) t i) ≡ ok (counts r)
+  pub counts-are : counted o ≡ ok (counts r)
   -- the writer fills both outputs with the normal writing
-  pub wrote : Wrote r (passedOn r t i us cs gs (length tx) (length ix)) tx ix
+  pub wrote : Wrote r w tx ix
   -- the bytes written are accepted and read back to the run
-  pub back : read (take (length (normal r .text)) (textAfter (passedOn r t i us cs gs (length tx) (length ix)) tx))
-      (take (length (normal r .indices)) (indicesAfter (passedOn r t i us cs gs (length tx) (length ix)) ix))
-      ≡ ok r
+  pub back : read (textWritten r w tx) (indicesWritten r w ix) ≡ ok r
 
 pub record Demand3 : Type 0 where
   -- "For every two labels that document 01 accepts, whatever the lent buffers, all large enough, held before, the reader accepts both, with the runs
@@ -239,7 +272,20 @@ pub record Demand3 : Type 0 where
       → ((l : Label) × (writeBytes x y us cs gs ≡ ok l)) ↔ ((w : ReadableBytes us cs gs) × RoomyFor (normal (w .run)) x y)
   -- "and then in its normal writing"
   pub written-normally : (us : List ℕ) (cs gs : List ℤ) (l : Label) (x y : ℕ) (w : Readable us cs gs) → writeInto x y us cs gs ≡ ok l → l ≡ normal (w .run)
-  -- over the calls: a label read into any large enough buffers, and the places filled written into any large enough outputs. With `same` it says of two labels
-  -- that their runs are equal exactly when the bytes in the outputs are.
+  pub written-bytes-normally : (us cs gs : List ℕ) (l : Label) (x y : ℕ) (w : ReadableBytes us cs gs) → writeBytes x y us cs gs ≡ ok l → l ≡ normal (w .run)
+  -- The same over the calls: a label is read into any large enough buffers, and the places filled are written into any large enough outputs.
   pub passed : (t i : List ℕ) (r : Run) (us : List ℕ) (cs gs : List ℤ) (tx ix : List ℕ) → read t i ≡ ok r → Roomy r (length us) (length cs) (length gs)
-      → RoomyFor (normal r) (length tx) (length ix) → Passed r t i us cs gs tx ix
+      → RoomyFor (normal r) (length tx) (length ix) → Passed r (readInto (length us) (length cs) (length gs) t i) (passedOn r t i us cs gs (length tx) (length ix)) tx ix
+  pub bytes-passed : (t i : List ℕ) (r : Run) (us cs gs tx ix : List ℕ) → read t i ≡ ok r → Roomy r (length us / 2) (length cs / 4) (length gs / 4)
+      → RoomyFor (normal r) (length tx) (length ix)
+      → Passed r (readBytes (length us) (length cs) (length gs) t i) (passedOnBytes r t i us cs gs (length tx) (length ix)) tx ix
+  -- Of two labels passed so, the runs are equal exactly when the outputs hold the same text bytes and the same indices bytes.
+  pub same-passed : (A B : Run) (oA oB : Outcome Run) (wA wB : Outcome Label) (txA ixA txB ixB : List ℕ) → Passed A oA wA txA ixA → Passed B oB wB txB ixB
+      → (A ≡ B) ↔ ((textWritten A wA txA ≡ textWritten B wB txB) × (indicesWritten A wA ixA ≡ indicesWritten B wB ixB))
+  -- The bytes written, passed again, are written back unchanged.
+  pub unchanged : (r : Run) (o : Outcome Run) (w : Outcome Label) (tx ix us : List ℕ) (cs gs : List ℤ) (x y : ℕ) → Passed r o w tx ix
+      → Roomy r (length us) (length cs) (length gs) → RoomyFor (normal r) x y
+      → (l : Label) × (passedOn r (textWritten r w tx) (indicesWritten r w ix) us cs gs x y ≡ ok l) × (l .text ≡ textWritten r w tx) × (l .indices ≡ indicesWritten r w ix)
+  pub bytes-unchanged : (r : Run) (o : Outcome Run) (w : Outcome Label) (tx ix us cs gs : List ℕ) (x y : ℕ) → Passed r o w tx ix
+      → Roomy r (length us / 2) (length cs / 4) (length gs / 4) → RoomyFor (normal r) x y
+      → (l : Label) × (passedOnBytes r (textWritten r w tx) (indicesWritten r w ix) us cs gs x y ≡ ok l) × (l .text ≡ textWritten r w tx) × (l .indices ≡ indicesWritten r w ix)
