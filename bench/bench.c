@@ -1,5 +1,6 @@
 /* Reading and writing through the C calls beside a plain loop of the kind that viewers use: digits by hand, strtof for the rest, no checks, no clusters
-   tied to the text. Both in one run, best of several rounds; the ratio is what counts. */
+   tied to the text. Both in one run, best of several rounds; the ratio is what counts. Then the growth with the label, and the stack that the calls take. */
+#include <pthread.h>
 #include <stdio.h>
 #include <stdlib.h>
 #include <string.h>
@@ -98,7 +99,7 @@ static int plain_write(int n)
 
 static char text[4 * MAX + 16], indices[262145];
 
-static void make(int n, const char *entry, const char *first, const char *unit)
+static void make(int n, const char *entry, const char *unit)
 {
     text[0] = 0;
     indices[0] = 0;
@@ -106,7 +107,7 @@ static void make(int n, const char *entry, const char *first, const char *unit)
     for (int i = 0; i < n; i++) {
         t += sprintf(t, "%s", unit);
         if (i) *p++ = ';';
-        p += sprintf(p, i == 0 && first ? first : entry, (i * 37) % 65536);
+        p += sprintf(p, entry, (i * 37) % 65536);
     }
 }
 
@@ -158,30 +159,66 @@ static void measure(const char *name, int n)
     printf("%-34s %9.0f %9.0f %6.2f   %9.0f %9.0f %6.2f\n", name, a, b, b / a, c, d, d / c);
 }
 
+/* ── the stack of a call ── */
+
+#define STACK (1 << 20)
+
+static uint8_t stack[STACK] __attribute__((aligned(4096)));
+
+static void *no_call(void *unused) { return unused; }
+
+static void *both_calls(void *unused)
+{
+    last = glyph_label_read((uint8_t *)text, strlen(text), (uint8_t *)indices, strlen(indices), units, sizeof units, clusters, sizeof clusters, glyphs, sizeof glyphs);
+    glyph_label_write(units, last.units * 2, clusters, last.clusters * 8, glyphs, last.glyphs * 16, out_text, sizeof out_text, out_indices, sizeof out_indices);
+    return unused;
+}
+
+/* The bytes of a fresh stack that a thread has changed when it ends. */
+static long touched(void *(*run)(void *))
+{
+    pthread_attr_t attr;
+    pthread_t thread;
+    memset(stack, 0xa5, STACK);
+    pthread_attr_init(&attr);
+    pthread_attr_setstack(&attr, stack, STACK);
+    if (pthread_create(&thread, &attr, run, NULL) != 0 || pthread_join(thread, NULL) != 0) exit(1);
+    long k = 0;
+    while (k < STACK && stack[k] == 0xa5) k++;
+    return STACK - k;
+}
+
+static long stack_of_calls(int n)
+{
+    make(n, "%d,55.5", "A");
+    return touched(both_calls) - touched(no_call);
+}
+
 int main(void)
 {
     printf("%-34s %9s %9s %6s   %9s %9s %6s\n", "label (ns a call)", "plain", "read", "ratio", "plain", "write", "ratio");
-    make(4, "%d", NULL, "A");
+    make(4, "%d", "A");
     measure("4 glyphs, bare", 4);
-    make(4, "%d,55.5", NULL, "A");
+    make(4, "%d,55.5", "A");
     measure("4 glyphs, advances", 4);
-    make(12, "%d,55.5", NULL, "A");
+    make(12, "%d,55.5", "A");
     measure("12 glyphs, advances", 12);
-    make(12, "%d,55.5,-1.25,.5", NULL, "A");
+    make(12, "%d,55.5,-1.25,.5", "A");
     measure("12 glyphs, all fields", 12);
-    make(1000, "%d", NULL, "A");
+    make(1000, "%d", "A");
     measure("1,000 glyphs, bare", 1000);
-    make(1000, "%d,55.5,-1.25,.5", NULL, "A");
+    make(1000, "%d,55.5,-1.25,.5", "A");
     measure("1,000 glyphs, all fields", 1000);
-    make(1000, "(1:1)%d,123456.789,-123456.789,-.125", NULL, "\xe0\xb8\xb3");
+    make(1000, "(1:1)%d,123456.789,-123456.789,-.125", "\xe0\xb8\xb3");
     measure("1,000 glyphs, long fields, 3 bytes", 1000);
-    make(1000, "%d,1234567890123e-10,-12345678901234567.8e-12,.000000000000000012e+17", NULL, "A");
+    make(1000, "%d,1234567890123e-10,-12345678901234567.8e-12,.000000000000000012e+17", "A");
     measure("1,000 glyphs, worst numbers", 1000);
-    make(100, "%d,55.5,-1.25,.5", NULL, "A");
+    make(100, "%d,55.5,-1.25,.5", "A");
     measure("100 glyphs, all fields", 100);
     double small = reading_ns;
-    make(4000, "%d,55.5,-1.25,.5", NULL, "A");
+    make(4000, "%d,55.5,-1.25,.5", "A");
     measure("4,000 glyphs, all fields", 4000);
     printf("growth of reading from 100 to 4,000 glyphs: %.1f times (40 is linear)\n", reading_ns / small);
+    printf("stack of a reading and a writing, bytes: %ld for 32 glyphs, %ld for 4,096\n", stack_of_calls(32), stack_of_calls(4096));
     return 0;
 }

@@ -10,7 +10,7 @@ if [ "${1:-}" = --seed ]; then seed=$2; fi
 
 rt check relabel trials > /dev/null
 rt staticlib glyph_label > /dev/null
-gcc -shared -o target/libglyph_label.so -Wl,--whole-archive target/staticlib/libglyph_label.a -Wl,--no-whole-archive
+"${CC:-cc}" -shared -o target/libglyph_label.so -Wl,--whole-archive target/staticlib/libglyph_label.a -Wl,--no-whole-archive
 compare=tests/independent/compare.py
 python3 $compare relabel target/bin/relabel --seed "$seed" --count $relabel
 python3 $compare trials target/bin/trials --seed "$seed" --count $trials

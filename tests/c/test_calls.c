@@ -440,7 +440,7 @@ static void test_faults(void) {
     check(is_part(fault("AB", "5", UINT32_MAX, 0), 0, 0, 0), "no such number");
 }
 
-/* ---- Sizes: small, medium and large runs ---- */
+/* ---- Sizes: runs about the size of each of the four arrays ---- */
 
 static void test_size(size_t n) {
     uint8_t *text = new_bytes(n), *indices = new_bytes(8 * n);

@@ -163,8 +163,8 @@ def as_numbers(run):
         return None
     return [list(struct.unpack(f'<{len(part) // size}{code}', part)) for part, size, code in zip(run, (2, 4, 4), 'Hii')]
 
-class Lent:
-    """Memory for one lent buffer, with guard bytes around it that must stay."""
+class Buffer:
+    """Memory for one buffer, with guard bytes around it that must stay."""
     GUARD, MEMORY = 24, 400_000
 
     def __init__(self, rng, alphabet):
@@ -173,7 +173,7 @@ class Lent:
         self.base = ctypes.addressof(self.memory)
         self.pool = bytes(rng.choices(alphabet, k=self.MEMORY))
 
-    def lend(self, data=None, length=None):
+    def slice(self, data=None, length=None):
         """The data, or else room of that length, as a slice in C: at any alignment, and NULL now and then where it has no
         byte. Bytes around it are of the pool, as are those of the room."""
         self.start, at = self.GUARD + int(self.rng.random() * 8), int(self.rng.random() * 1000)
@@ -197,19 +197,19 @@ class Archive:
         for name, (result, *arguments) in FUNCTIONS.items():
             self.functions[name] = getattr(library, 'glyph_label_' + name)
             self.functions[name].restype, self.functions[name].argtypes = result, arguments
-        self.lent = {name: Lent(rng, b'0123456789;,.:()+-eE5{}A\x80\xbf') for name in LABEL}
-        self.lent |= {name: Lent(rng, range(256)) for name in RUN}
+        self.buffers = {name: Buffer(rng, b'0123456789;,.:()+-eE5{}A\x80\xbf') for name in LABEL}
+        self.buffers |= {name: Buffer(rng, range(256)) for name in RUN}
 
     def call(self, name, answer, expected, inputs, outputs=(), extra=()):
         """One call. `inputs` are (buffer, bytes), `outputs` (buffer, size, bytes it must begin with afterwards)."""
-        slices = [self.lent[buffer].lend(data) for buffer, data in inputs]
-        slices += [self.lent[buffer].lend(length=size) for buffer, size, _ in outputs]
+        slices = [self.buffers[buffer].slice(data) for buffer, data in inputs]
+        slices += [self.buffers[buffer].slice(length=size) for buffer, size, _ in outputs]
         self.report.announce(call=name, inputs=inputs, outputs=[(buffer, size) for buffer, size, _ in outputs], extra=extra)
         result = self.functions[name](*chain(*slices), *extra)
         fields = [field for field, _ in result._fields_]
         got = tuple(getattr(result, field) for field in fields)
-        changes = [(buffer, self.lent[buffer].difference(b'')) for buffer, _ in inputs]
-        changes += [(buffer, self.lent[buffer].difference(after)) for buffer, _, after in outputs]
+        changes = [(buffer, self.buffers[buffer].difference(b'')) for buffer, _ in inputs]
+        changes += [(buffer, self.buffers[buffer].difference(after)) for buffer, _, after in outputs]
         self.report.count(name, ('accepted',) if answer[0] == 'ok' else answer)
         if got != expected or any(change for _, change in changes):
             shown_changes = {}

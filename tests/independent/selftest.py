@@ -94,8 +94,8 @@ def standard_examples():
     accepted(g, '\u0451\u0436\u0438\u043a', '(1:2)72;142,0,-40', [(1, 2)] + [(1, 1)] * 3,
              named(72) + [(142, 0, -40000, 0)] + [FONT] * 3, '(1:2)72;142,0,-40')
 
-def readings_a():
-    g = 'readings A'
+def choices_of_text():
+    g = 'choices: text'
     for text, number, place in (
             (b'\x61\xe1\x80\x41', 2, 1), (b'\x61\xf0\x9f\x98', 2, 1), (b'\xed\xa0\x80', 2, 0), (b'\xc0\x80', 2, 0),
             (b'\xf4\x90\x80\x80', 2, 0), (b'{a\xff', 2, 2), (b'{\1', 3, 1), (b'{' + b'A' * 5000, 4, 0),
@@ -111,8 +111,8 @@ def readings_a():
     accepted(g, '{}', '5', [(0, 1)], named(5), ('', '5'))
     refused(g, '', ';', 11)
 
-def readings_b():
-    g = 'readings B'
+def choices_of_entries():
+    g = 'choices: entries'
     accepted(g, 'A', '5,,,', [(1, 1)], named(5), '5')
     refused(g, 'A', '5,,,,', 7)
     accepted(g, 'A', ',', [(1, 1)], [FONT], '')
@@ -133,8 +133,8 @@ def readings_b():
     accepted(g, 'A', '(01:001)5', [(1, 1)], named(5), '5')
     accepted(g, 'A', ',40', [(1, 1)], [(-1, 40000, 0, 0)], ',40')
 
-def readings_c():
-    g, five = 'readings C', [5, -1, 0, 0]
+def choices_of_runs():
+    g, five = 'choices: runs', [5, -1, 0, 0]
     for sizes, answer in (((3, 6, 12), 'ok'), ((2, 6, 12), ('no', 16, 3)), ((3, 5, 12), ('no', 17, 3)), ((3, 4, 0), ('no', 17, 3)),
                           ((3, 6, 11), ('no', 18, 3)), ((0, 0, 0), ('no', 16, 3))):
         got = labels.read_into(b'ABC', b'5', *sizes)
@@ -150,16 +150,16 @@ def readings_c():
     for sizes, answer in (((1, 1), ('ok', b'A', b'5')), ((0, 1), ('no', 20, 1)), ((1, 0), ('no', 21, 1)), ((0, 0), ('no', 20, 1))):
         check(g, labels.write_into([0x41], [1, 1], five, *sizes) == answer, sizes)
 
-def readings_d():
+def choices_of_writing():
     for text, indices, normal in (
             ('fl', '(2:1)192', '(2)192'), ('A', '(1:2)5;6', '(1:2)5;6'), ('AB', '(2:3)5;6;7', '(2:3)5;6;7'), ('A', '(1)5', '5'),
             ('A', '5,,0.5', '5,,.5'), ('A', '5,,-0.50', '5,,-.5'), ('A', '5,10.5', '5,10.5'), ('A', '5,0.0', '5,0'),
             ('A', '5,,,16', '5,,,16'), ('A', '5,,0,0', '5'), ('A', ',0', ',0'), ('ABCD', '5;;,,;', '5'), ('ABCD', ';5;;', ';5'),
             ('ABC', '5;;6', '5;;6'), ('ABC', ';;', '')):
-        accepted('readings D', text, indices, None, None, normal)
+        accepted('choices: writing', text, indices, None, None, normal)
 
-def readings_e():
-    g = 'readings E'
+def choices_of_calls():
+    g = 'choices: calls'
     run = [0x41] * 5, [2, 1, 1, 2, 2, 2], [5, -1, 0, 0] * 5             # units 2 1 2, glyphs 1 2 2
     bare = [], [0, 1] * 3, [5, -1, 0, 0] * 3
     empty = [], [], []
@@ -295,7 +295,7 @@ def main():
     parser.add_argument('--count', type=int, default=5000)
     options = parser.parse_args()
     rng = Random(options.seed)
-    for part in (paper_labels, standard_examples, readings_a, readings_b, readings_c, readings_d, readings_e, utf8, grammar):
+    for part in (paper_labels, standard_examples, choices_of_text, choices_of_entries, choices_of_runs, choices_of_writing, choices_of_calls, utf8, grammar):
         part()
     for part in (rounding, round_trips, picks, faults):
         part(rng, options.count)

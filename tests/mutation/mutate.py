@@ -18,7 +18,7 @@ SWAPS = [(' < ', ' <= '), (' <= ', ' < '), (' == ', ' != '), (' != ', ' == '), (
 
 def code_lines(lines):
     """The numbers of lines that hold code: no comment, no contract, no declaration."""
-    inside, depth = False, 0
+    inside = False
     for k, line in enumerate(lines):
         s = line.strip()
         if re.match(r'(pub )?(extern "C" )?fn ', s):
@@ -85,6 +85,8 @@ def main():
         subprocess.run(['git', 'init', '-q', folder], check=True)
         for name in ('crates', 'crates.txt', 'target'):
             source = os.path.join(ROOT, name)
+            if not os.path.exists(source):
+                continue
             if os.path.isdir(source):
                 shutil.copytree(source, os.path.join(folder, name), ignore=shutil.ignore_patterns('must-fail', 'incremental'))
             else:
@@ -92,7 +94,8 @@ def main():
         for change in sorted(picked):
             kind = try_change(folder, *change)
             totals[kind] = totals.get(kind, 0) + 1
-    print(f'mutation: {len(picked)} of {len(found)} changes tried: ' + ', '.join(f'{n} {kind}' for kind, n in sorted(totals.items())))
+    print(f'mutation, seed {args.seed}: {len(picked)} of {len(found)} changes tried: ' + ', '.join(f'{n} {kind}' for kind, n in sorted(totals.items())))
+    sys.exit('NOT REFUSED' in totals)
 
 
 main()

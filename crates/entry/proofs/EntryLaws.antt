@@ -26,7 +26,7 @@ use Rattle.entry.specs.declared.MapPart.{MapPart}
 use Rattle.entry.specs.declared.Front.{Front}
 use Rattle.entry.specs.declared.Field.{Field}
 use Rattle.entry.specs.declared.EntryRead.the-variants.{Read, Refused}
-use Rattle.entry.specs.Items.{cap, isSemi, here, entryRead, indexItem, IsIndex}
+use Rattle.entry.specs.Items.{cap, isSemi, here, entryRead, IsIndex}
 use Rattle.entry.specs.Digits.{headOf, ends, isBreak, lead, digitsFrom}
 use Rattle.entry.specs.Numbers.{sized, within, signLength, numberOf, Mant, Expo, mantissaOf, exponentOf, sizeOf}
 use Rattle.entry.specs.Parts.{Map, mapOf, mapBy, mapWith, noMap, badMap, leadAt, cutMap, indexAt, frontWith, frontOf, fieldOf, fieldWith, headAt, notGiven, givenBy, Small, Parts, partsOf, wellParted, indexChoice, advanceChoice, offsetBy, judged, scanned}
@@ -266,48 +266,6 @@ module _ (k : ℕ) (s : List ℕ) (f : Front) (ef : f ≡ frontOf s) (x : Field)
           rw (← one-sum)
           (code-read k s f ef x ex (notGiven 0) one-y (notGiven 0) one-z one-bound (one-well ∙ w) l (rw n) i ei a ea (pos 0) (pos 0) refl refl)
 
--- ── an entry without fields ──
-
-module _ (k : ℕ) (s : List ℕ) (f : Front) (ef : f ≡ frontOf s) (h : headOf (drop (f .used) s) ≡ 44 → ⊥) (bound : f .used ≤ length s) where
-  x0 : notGiven 0 ≡ fieldOf (drop (f .used) s)
-  x0 = code-absent s (f .used) h
-
-  y0 : notGiven 0 ≡ fieldOf (drop (f .used + 0) s)
-  y0 = rw (add-zero (f .used)) x0
-
-  z0 : notGiven 0 ≡ fieldOf (drop (f .used + 0 + 0) s)
-  z0 = rw (add-zero (f .used + 0), add-zero (f .used)) x0
-
-  sum : f .used + 0 + 0 + 0 ≡ f .used
-  sum = omega arith
-
-  bare-bound : f .used + 0 + 0 + 0 ≤ length s
-  bare-bound = rw sum bound
-
-  bare-well : Well s f (notGiven 0) (notGiven 0) (notGiven 0) ≡ (f .ok && ends isSemi (drop (f .used) s))
-  unfolding Well
-  bare-well = rw (sum, and-true)
-
-  pub bare-wrong : (f .ok && ends isSemi (drop (f .used) s)) ≡ false → Refused (refusal 7 k) ≡ entryRead (length (here s)) (entry k (here s))
-  bare-wrong w = code-wrong k s f ef (notGiven 0) x0 (notGiven 0) y0 (notGiven 0) z0 bare-bound (bare-well ∙ w)
-
-  module _ (w : (f .ok && ends isSemi (drop (f .used) s)) ≡ true) where
-    pub bare-index : maxIndex < f .index → Refused (refusal 8 k) ≡ entryRead (length (here s)) (entry k (here s))
-    bare-index l = code-index k s f ef (notGiven 0) x0 (notGiven 0) y0 (notGiven 0) z0 bare-bound (bare-well ∙ w) l
-
-    pub bare-read : f .index ≤ maxIndex → (i : Index) → i ≡ indexChoice (f .named) (f .index)
-        → Read (record {
-          mapped = f .mapped;
-          units = f .units;
-          glyphs = f .glyphs;
-          glyph = record { index = i; advance = Own; u = pos 0; v = pos 0 };
-          used = f .used;
-        }) ≡ entryRead (length (here s)) (entry k (here s))
-    unfolding Fit
-    bare-read l i ei =
-        rw (← sum)
-        (code-read k s f ef (notGiven 0) x0 (notGiven 0) y0 (notGiven 0) z0 bare-bound (bare-well ∙ w) l refl i ei Own refl (pos 0) (pos 0) refl refl)
-
 -- ── an index alone ──
 
 -- a map's `(` is no digit
@@ -319,20 +277,30 @@ no-comma : (t : List ℕ) → ends isSemi t ≡ true → headOf t ≡ 44 → ⊥
 no-comma [] w h = omega (arith, h)
 no-comma (b ∷ t) w h = omega (arith, h, eqb-true b 59 w)
 
-pub index-alone : (t : List ℕ) (d : Digits) → d ≡ digitsFrom 0 t → d .count ≤ length t → 0 < d .count → d .value ≤ maxIndex → ends isSemi (drop (d .count) t) ≡ true → IsIndex t d
+index-alone : (t : List ℕ) (d : Digits) → d ≡ digitsFrom 0 t → d .count ≤ length t → 0 < d .count → d .value ≤ maxIndex → ends isSemi (drop (d .count) t) ≡ true → IsIndex t d
+unfolding OneWell
 index-alone t d ed bound some l w =
     let n : ℕ = d .count in
+    let z : n + 0 ≡ n = add-zero n in
     let plain : mapOf t ≡ noMap = map-none t (λ h. omega (arith, some, ap (λ (r : Digits). r .count) ed, no-digit t h)) in
     let f : Front = record { ok = true; used = n; mapped = false; units = 1; glyphs = 1; named = ltb 0 n; index = d .value } in
     let ef : f ≡ frontOf t = rw (zero-add n) at (code-front t (cutMap noMap) (ap cutMap (sym plain)) d ed true true (sym (or-true (ltb 0 n))) refl) in
-    (l, λ k. sym (bare-read k t f ef (no-comma (drop n t) w) bound w l (Named (d .value)) (ap (λ (b : Bool). indexChoice b (d .value)) (sym (lt-ltb 0 n some)))))
+    let i : Named (d .value) ≡ indexChoice (ltb 0 n) (d .value) = ap (λ (b : Bool). indexChoice b (d .value)) (sym (lt-ltb 0 n some)) in (
+      l,
+      λ k. sym (rw z at (one-read k t f ef (notGiven 0) (code-absent t n (no-comma (drop n t) w)) (rw z (no-comma (drop n t) w)) (rw z bound) (rw z w) l refl (Named (d .value)) i Own refl)),
+    )
 
--- the same of the entry at a place, by the code's flags
-pub index-told : (s : List ℕ) (at : ℕ) (d : Digits) → d ≡ digitsFrom 0 (drop at s) → at + d .count ≤ length s → {i e r : Bool} → i ≡ (ltb 0 (d .count) && leb (d .value) maxIndex)
-    → e ≡ ends isSemi (drop (at + d .count) s) → r ≡ (i && e) → r ≡ true → IsIndex (drop at s) d
-index-told s at d ed b ei ee er h =
-    let t = rw (er, ei) at h in
-    let i = and-l (ltb 0 (d .count) && leb (d .value) maxIndex) _ t in
+-- two flags put together
+pub both-told : {i e r a b : Bool} → i ≡ a → e ≡ b → r ≡ (i && e) → r ≡ (a && b)
+both-told p q h = rw (← p, ← q) h
+
+-- the same of the entry at a place, by the code's test
+pub index-told : (s : List ℕ) (at : ℕ) (d : Digits) → d ≡ digitsFrom 0 (drop at s) → at + d .count ≤ length s → {r : Bool}
+    → r ≡ ((ltb 0 (d .count) && leb (d .value) maxIndex) && ends isSemi (drop (at + d .count) s)) → r ≡ true → IsIndex (drop at s) d
+index-told s at d ed b e h =
+    let index : Bool = ltb 0 (d .count) && leb (d .value) maxIndex in
+    let end : Bool = ends isSemi (drop (at + d .count) s) in
+    let t : (index && end) ≡ true = sym e ∙ h in
+    let i : index ≡ true = and-l index end t in
     index-alone (drop at s) d ed (omega (arith, b, length-drop at s)) (ltb-true 0 (d .count) (and-l (ltb 0 (d .count)) (leb (d .value) maxIndex) i))
-    (leb-true (d .value) maxIndex (and-r (ltb 0 (d .count)) (leb (d .value) maxIndex) i))
-    (ap (λ (y : List ℕ). ends isSemi y) (drop-drop (d .count) at s) ∙ sym ee ∙ and-r (ltb 0 (d .count) && leb (d .value) maxIndex) _ t)
+    (leb-true (d .value) maxIndex (and-r (ltb 0 (d .count)) (leb (d .value) maxIndex) i)) (ap (λ (y : List ℕ). ends isSemi y) (drop-drop (d .count) at s) ∙ and-r index end t)

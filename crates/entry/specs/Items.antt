@@ -35,7 +35,7 @@ isSemi b = eqb b 59
 abbrev pub here : List ℕ → List ℕ
 here t = cut isSemi t .before
 
--- the answer for an entry of n bytes
+-- the answer for an entry of n bytes: document 01's number and place for a refusal, and else what the entry says
 abbrev pub entryRead : ℕ → Outcome Entry → EntryRead
 entryRead n (ok e) = Read (cutItem n e)
 entryRead n (no i p) = Refused (refusal i p)
@@ -48,8 +48,3 @@ indexItem d =
 -- the entry in front, whatever its number, is read as the digits d alone
 abbrev pub IsIndex : List ℕ → Digits → Type 0
 IsIndex t d = (d .value ≤ maxIndex) × ((k : ℕ) → entryRead (length (here t)) (entry k (here t)) ≡ Read (indexItem d))
-
--- the paper's number and values for each case of the answer
-abbrev pub entryOutcome : EntryRead → Outcome Entry
-entryOutcome (Read i) = ok (record { mapped = i .mapped; units = i .units; glyphs = i .glyphs; glyph = i .glyph })
-entryOutcome (Refused x) = no (x .number) (x .place)

@@ -1,7 +1,8 @@
 // One entry of the indices, read in one pass over its bytes.
 ghost use mathlib.Core.Path.{_≡_};
-ghost use mathlib.Core.Bool.{true, cond};
+ghost use mathlib.Core.Bool.{true, cond, _&&_};
 ghost use Prim.Native.Nat.{_+_, _*_, _^_, _≤_, _<_};
+ghost use lib.Dec.{leb, ltb};
 ghost use lib.ListN.{length, drop};
 ghost use Rattle.label.specs.Limits.{maxIndex, maxThousandths};
 ghost use Rattle.label.specs.Calls.{refusal};
@@ -438,7 +439,7 @@ struct Front {
     index: u64,
 }
 
-// The digits behind the map; `first` are those in front of the entry.
+// The digits behind the map; `first` are those at the start of the entry.
 fn index_digits(s: &[u8], m: MapPart, first: Digits) -> Digits
     requires { ⌜ (m ≡ cutMap (mapOf (now s))) × (m .used ≤ length (now s)) ⌝ }
     requires first { ⌜ (first ≡ digitsFrom 0 (now s)) × (first .count ≤ length (now s)) ⌝ }
@@ -573,7 +574,7 @@ fn offset_of(negative: bool, z: Thousandths) -> i32
 
 // ── an entry ──
 
-// An entry with the field x behind its front and no field more.
+// An entry with at most the field x behind its front.
 fn read_advance(s: &[u8], k: usize, f: Front, x: Field) -> EntryRead
     requires { ⌜ (f ≡ frontOf (now s)) × (x ≡ fieldOf (drop (f .used) (now s))) × (f .used + x .used ≤ length (now s)) ⌝ }
     requires no_more { ⌜ (headOf (drop (f .used + x .used) (now s)) ≡ 44 → ⊥) ⌝ }
@@ -607,7 +608,7 @@ fn read_advance(s: &[u8], k: usize, f: Front, x: Field) -> EntryRead
     })
 }
 
-// An entry with fields behind its front.
+// An entry with up to three fields behind its front.
 fn read_fields(s: &[u8], k: usize, f: Front) -> EntryRead
     requires { ⌜ (f ≡ frontOf (now s)) × (f .used ≤ length (now s)) ⌝ }
     ensures { λ r. ⌜ r ≡ entryRead (length (here (now (s .entry)))) (entry k (here (now (s .entry)))) ⌝ }
@@ -655,30 +656,7 @@ pub fn read_entry(s: &[u8], first: Digits, k: usize) -> EntryRead
     requires { ⌜ (first ≡ digitsFrom 0 (now s)) × (first .count ≤ length (now s)) ⌝ }
     ensures { λ r. ⌜ r ≡ entryRead (length (here (now (s .entry)))) (entry k (here (now (s .entry)))) ⌝ }
 {
-    let front = front_of(s, first);
-    let end = front.used;
-    if byte_at(s, end) == 44 {
-        return read_fields(s, k, front);
-    }
-    if !words::both(front.ok, ends_at(s, end)) {
-        return refuse(7, k);
-    }
-    if Limits::INDEX < front.index {
-        return refuse(8, k);
-    }
-    let glyph = Glyph {
-        index: index_of(front.named, front.index),
-        advance: Advance::Own,
-        u: 0,
-        v: 0,
-    };
-    EntryRead::Read(Item {
-        mapped: front.mapped,
-        units: front.units,
-        glyphs: front.glyphs,
-        glyph,
-        used: end,
-    })
+    read_fields(s, k, front_of(s, first))
 }
 
 // ── an index alone ──
@@ -686,7 +664,8 @@ pub fn read_entry(s: &[u8], first: Digits, k: usize) -> EntryRead
 // Whether the entry at a place is the digits d there and nothing else, within the limit: such an entry needs no more reading.
 pub fn is_index(s: &[u8], at: usize, d: Digits) -> bool
     requires { ⌜ (d ≡ digitsFrom 0 (drop at (now s))) × (at + d .count ≤ length (now s)) ⌝ }
-    ensures { λ r. ⌜ (r ≡ true → IsIndex (drop at (now (s .entry))) d) ⌝ }
+    ensures { λ r. ⌜ r ≡ ((ltb 0 (d .count) && leb (d .value) maxIndex) && ends isSemi (drop (at + d .count) (now (s .entry)))) ⌝ }
+    ensures alone { λ r. ⌜ (r ≡ true → IsIndex (drop at (now (s .entry))) d) ⌝ }
 {
     let index = words::both(0 < d.count, d.value <= Limits::INDEX);
     words::both(index, ends_at(s, at + d.count))

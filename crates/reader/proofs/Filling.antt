@@ -21,7 +21,7 @@ use Rattle.label.specs.declared.Refusal.{Refusal}
 use Rattle.label.proofs.Basics.{cases, need-ok, no-ok, and-l, and-r}
 use Rattle.label.proofs.Walks.{ok-path, Walked, walk-ok, step-ok}
 use Rattle.label.proofs.Cursors.{joined, after, added}
-use Rattle.entry.specs.Items.{cap, here, entryRead}
+use Rattle.entry.specs.Items.{cap, here}
 use Rattle.entry.specs.declared.Item.{Item}
 use Rattle.entry.specs.declared.EntryRead.{EntryRead}
 use Rattle.entry.specs.declared.EntryRead.the-variants.{Read, Refused}
@@ -95,6 +95,15 @@ module _ {A : Type 0} (of : Parts → List A) (flat : List A → List ℤ) (one 
 
 -- ── an accepted walk, whose parts are `all` ──
 
+-- the walk stands at c, and the parts before it are stored
+pub record Filled (us s : List ℕ) (c₀ g₀ cs gs : List ℤ) (c : Cursor) : Type 0 where
+  pub pre : Parts
+  pub lack : ℕ
+  pub stands : Stands us s pre lack c
+  pub ready : Ready us s c
+  pub clusters : Stored c₀ cs (flatClusters (pre .clusters))
+  pub glyphs : Stored g₀ gs (flatGlyphs (pre .glyphs))
+
 after-ok : (p : Parts) (o : Outcome Parts) (q : Parts) → after p o ≡ ok q → (r : Parts) × (o ≡ ok r) × (joined p r ≡ q)
 after-ok p (ok r) q h = (r, refl, ok-path (joined p r) q h)
 after-ok p (no n m) q h = no-ok n m q h
@@ -127,7 +136,7 @@ module _ (us s : List ℕ) (all : Parts) (good : walk (empty us) (start us) (ent
           (refusing us s pre lack c st hi (r .number) (r .place)
           (step-no (empty us) (stateOf us c lack) head (r .number) (r .place) (refused-is (length head) (entry (c .entry) head) r e)))
 
-      pub fill-turn : (x : Item) (n a : ℕ) → entryAt s c ≡ Read x → n ≡ length us → a ≡ takenBy n (c .lack) (x .units)
+      fill-turn : (x : Item) (n a : ℕ) → entryAt s c ≡ Read x → n ≡ length us → a ≡ takenBy n (c .lack) (x .units)
           → (d : Cursor) → d ≡ advanced c 0 a (x .glyphs) (c .place + x .used + 1) → Turned us s pre lack c d a x
       fill-turn x n a e en ea d ed =
           let (e₁, is, ex) = read-is (length head) (entry (c .entry) head) x e in
@@ -196,30 +205,53 @@ module _ (us s : List ℕ) (all : Parts) (good : walk (empty us) (start us) (ent
     room-glyphs = listed-room _ _ _ _ _ glyphs-listed all pre (c .entry) (st .glyphs-are) more (then .others) (then .is) _ glyph-is
 
     module _ (old out out′ : List ℤ) where
-      pub clusters-stored : Stored old out (flatClusters (pre .clusters)) → out′ ≡ sets out (2 * c .clusters) (flatClusters (openedHere (c .lack) t (x .glyphs)))
+      clusters-stored : Stored old out (flatClusters (pre .clusters)) → out′ ≡ sets out (2 * c .clusters) (flatClusters (openedHere (c .lack) t (x .glyphs)))
           → 2 * length (all .clusters) ≤ length old → Stored old out′ (flatClusters (joined pre more .clusters))
       clusters-stored = listed-stored _ _ _ _ _ clusters-listed all pre (c .clusters) (st .clusters-are) more (then .others) (then .is) _ opened-is old out out′
 
-      pub glyphs-stored : Stored old out (flatGlyphs (pre .glyphs)) → out′ ≡ sets out (4 * c .entry) (glyphPlaces (x .glyph))
+      glyphs-stored : Stored old out (flatGlyphs (pre .glyphs)) → out′ ≡ sets out (4 * c .entry) (glyphPlaces (x .glyph))
           → 4 * length (all .glyphs) ≤ length old → Stored old out′ (flatGlyphs (joined pre more .glyphs))
       glyphs-stored = listed-stored _ _ _ _ _ glyphs-listed all pre (c .entry) (st .glyphs-are) more (then .others) (then .is) _ glyph-is old out out′
 
-  -- an entry that was read can be stored, in m places of clusters and k of glyphs
-  pub storable : (pre : Parts) (lack : ℕ) (c : Cursor) (st : Stands us s pre lack c) → Ready us s c → c .place ≤ length s → (x : Item) (n : ℕ) → entryAt s c ≡ Read x → n ≡ length us
-      → (m k : ℕ) → 2 * length (all .clusters) ≤ m → 4 * length (all .glyphs) ≤ k → Storable n c x m k
-  storable pre lack c st rd hi x n h en m k hm hk =
-      let a : ℕ = takenBy n (c .lack) (x .units) in
-      let d : Cursor = advanced c 0 a (x .glyphs) (c .place + x .used + 1) in
-      let w : Turned us s pre lack c d a x = fill-turn pre lack c st rd hi x n a h en refl d refl in (
-        small-counts pre lack c d a x w st,
-        omega (arith, hm, room-clusters pre lack c d a x w st),
-        omega (arith, hk, room-glyphs pre lack c d a x w st),
-        advance-small pre lack c d a x w st,
-        omega (arith, rd .number, hi, rd .few-bytes),
-        omega (arith, w .units-few, rd .few-units),
-        rd .some,
-        omega (arith, w .behind, rd .few-bytes),
-      )
+  -- an entry x that was read can be stored, and then the walk stands behind it
+  module _ (c₀ g₀ cs gs : List ℤ) (c : Cursor) (l : Filled us s c₀ g₀ cs gs c) (hi : c .place ≤ length s) (hc : 2 * length (all .clusters) ≤ length c₀) (hg : 4 * length (all .glyphs) ≤ length g₀)
+      (n : ℕ) (en : n ≡ length us) (x : Item) (h : entryAt s c ≡ Read x) where
+    abbrev units : ℕ
+    units = takenBy n (c .lack) (x .units)
+
+    abbrev behind : Cursor
+    behind = advanced c 0 units (x .glyphs) (c .place + x .used + 1)
+
+    turn : (d : Cursor) → d ≡ behind → Turned us s (l .pre) (l .lack) c d units x
+    turn d ed = fill-turn (l .pre) (l .lack) c (l .stands) (l .ready) hi x n units h en refl d ed
+
+    pub storable : Storable n c x (length cs) (length gs)
+    storable =
+        let w : Turned us s (l .pre) (l .lack) c behind units x = turn behind refl in (
+          small-counts (l .pre) (l .lack) c behind units x w (l .stands),
+          omega (arith, hc, l .clusters .same, room-clusters (l .pre) (l .lack) c behind units x w (l .stands)),
+          omega (arith, hg, l .glyphs .same, room-glyphs (l .pre) (l .lack) c behind units x w (l .stands)),
+          advance-small (l .pre) (l .lack) c behind units x w (l .stands),
+          omega (arith, l .ready .number, hi, l .ready .few-bytes),
+          omega (arith, w .units-few, l .ready .few-units),
+          l .ready .some,
+          omega (arith, w .behind, l .ready .few-bytes),
+        )
+
+    pub filled-on : (d : Cursor) (cs′ gs′ : List ℤ) → d ≡ behind → cs′ ≡ sets cs (2 * c .clusters) (flatClusters (openedHere (c .lack) units (x .glyphs)))
+        → gs′ ≡ sets gs (4 * c .entry) (glyphPlaces (x .glyph)) → Filled us s c₀ g₀ cs′ gs′ d × (c .place < d .place)
+    filled-on d cs′ gs′ ed ec eg =
+        let w : Turned us s (l .pre) (l .lack) c d units x = turn d ed in (
+          record {
+            pre = joined (l .pre) (added (empty us) (stateOf us c (l .lack)) (w .e));
+            lack = w .lack′;
+            stands = w .stands;
+            ready = w .ready;
+            clusters = clusters-stored (l .pre) (l .lack) c d units x w (l .stands) c₀ cs cs′ (l .clusters) ec hc;
+            glyphs = glyphs-stored (l .pre) (l .lack) c d units x w (l .stands) g₀ gs gs′ (l .glyphs) eg hg;
+          },
+          w .further,
+        )
 
   -- ── the end ──
 

@@ -1,5 +1,4 @@
 -- `reader::put_entry` meets its contract. Assumes nothing.
-use mathlib.Core.Path.{sym, _∙_}
 use borrow.Author.Needs.{needs}
 use Rattle.reader.proofs.put_entry.Statement.{statement}
 use Rattle.reader.proofs.put_entry.Tie as tie

@@ -2,8 +2,6 @@
 use native.Mathlib.Omega.{arith}
 use mathlib.Core.Path.{refl, sym, _∙_}
 use borrow.Author.Needs.{needs}
-use Rattle.entry.specs.Items.{indexItem}
-use Rattle.entry.specs.declared.EntryRead.the-variants.{Read, Refused}
 use Rattle.reader.proofs.Placing.{moves-fit, plain-is, turn-plain}
 use Rattle.reader.proofs.Walking.{read-here, read-inside, digits-here, steps-read, steps-refused}
 use Rattle.reader.proofs.survey_entry.Statement.{statement}
@@ -51,7 +49,7 @@ returns c =
     let a = c .before .before .before .before .before .before .before .before .before .before .before .before in
     let q = plain-is (c .before .before .before .before .before .before .before .both .result) (c .before .before .before .before .before .before .is-plain .result) (c .before .before .before .before .is-index .result) (c .before .before .before .before .before .both2 .ensures) (c .before .before .before .both3 .ensures) (c .before .before .if1 .taken) in
     let m = c .before .before .before .before .before .before .is-plain .ensures (q .1) in
-    let i = c .before .before .before .before .is-index .ensures (q .2) in
+    let i = c .before .before .before .before .is-index .ensures .1 (q .2) in
     steps-read _ _ _ _ _ _ (i .1 (a .args .c .entry)) (turn-plain _ _ _ _ _ (sym (c .before .before .before .before .before .before .before .both .ensures) ∙ q .0) (m .1) (c .advance .ensures))
 
 sub-read-entry : tie.Need-sub-read-entry
