@@ -35,11 +35,13 @@ abbrev pub said : Outcome Run → Said
 said (ok r) = accepted r (normal r)
 said (no n p) = refused n p
 
+-- a label and what it comes to
 pub record LabelRow : Type 0 where
   pub text : List ℕ
   pub indices : List ℕ
   pub answer : Said
 
+-- the row of a text, indices and an answer
 abbrev row : List ℕ → List ℕ → Said → LabelRow
 row t i a = record { text = t; indices = i; answer = a }
 
@@ -54,11 +56,13 @@ glyph n = record { index = Named n; advance = Own; u = pos 0; v = pos 0 }
 abbrev advanced : ℕ → ℕ → Glyph
 advanced n a = record { index = Named n; advance = Given a; u = pos 0; v = pos 0 }
 
+-- a cluster 1:1
 abbrev one : Cluster
 one = cluster 1 1
 
 -- ── document 01, labels 1 to 11 ──
 
+-- a row for each answer that the list names
 unfoldable pub paperRows : List LabelRow
 paperRows =
     -- 1. U+0066 U+006C, `(2:1)192`: one cluster 2:1; normal `(2)192`
@@ -102,6 +106,7 @@ paperRows =
 
 -- ── ECMA-388, Examples 12-3 to 12-6 ──
 
+-- a row for each example that shows markup
 unfoldable pub standardRows : List LabelRow
 standardRows =
     -- 12-3, one to many: U+0E20 U+0E31 U+0E33 U+0021
