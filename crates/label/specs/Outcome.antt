@@ -5,7 +5,6 @@ use Prim.Native.Nat.{ℕ}
 use mathlib.Core.Bool.{Bool, true, false}
 
 infixl 10 _>>=_ _>>_
-
 -- a value; or a number of the table and its "Returned place"
 pub data Outcome (A : Type 0) : Type 0 where
   ok : A → Outcome A

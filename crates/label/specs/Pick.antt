@@ -38,7 +38,7 @@ inside first end count = ltb first end && leb end count
 
 -- "A pick takes a sound run and a stretch of glyphs"
 -- "Soundness (19) is tested before 22."
--- "In a run without units the first gives 0 to 0.": every cluster there has 0 units
+-- "In a run without units the first gives 0 to 0": every cluster there has 0 units
 unfoldable pub pickUnits : List ℕ → List ℤ → List ℤ → ℕ → ℕ → Outcome Stretch
 pickUnits us cs gs first end = do
   need (sound us cs gs) 19 0
