@@ -63,8 +63,8 @@ one = cluster 1 1
 -- ── document 01, labels 1 to 11 ──
 
 -- a row for each answer that the list names
-unfoldable pub paperRows : List LabelRow
-paperRows =
+unfoldable pub documentRows : List LabelRow
+documentRows =
     -- 1. U+0066 U+006C, `(2:1)192`: one cluster 2:1; normal `(2)192`
     row (ascii "fl") (ascii "(2:1)192") (reads (0x66 ∷ 0x6c ∷ []) (cluster 2 1 ∷ []) (glyph 192 ∷ []) (ascii "fl") (ascii "(2)192")) ∷
     -- 2. U+0E33, `(1:2)124;181`: one cluster 1:2
@@ -131,8 +131,8 @@ standardRows =
     []
 
 -- each row's label is answered as the row says
-pub labels : map (λ (r : LabelRow). said (read (r .text) (r .indices))) (paperRows ++ standardRows) ≡ map (λ (r : LabelRow). r .answer) (paperRows ++ standardRows)
-unfolding paperRows standardRows ascii split cut allDigits valueFrom joinRest join trim decimalFrom decimal lead trail starts scalar xmlChar unitsOf decode textUnits unsigned isDecimals isNumber mantissaDigits fractionDigits exponentDigits nearest scaled thousandths numberFits isIndexPart indexDigits mapUnits mapGlyphs isAdvance isOffset wellFormed fieldFits indexOf advanceOf offsetOf entryOf entry entries tail placed step walk runFrom read utf8 unitBytes unitsBytes textOf fraction valueBytes advanceBytes offsetBytes mapBytes indexBytes entryBytes written indicesOf
+pub labels : map (λ (r : LabelRow). said (read (r .text) (r .indices))) (documentRows ++ standardRows) ≡ map (λ (r : LabelRow). r .answer) (documentRows ++ standardRows)
+unfolding documentRows standardRows ascii split cut allDigits valueFrom joinRest join trim decimalFrom decimal lead trail starts scalar xmlChar unitsOf decode textUnits unsigned isDecimals isNumber mantissaDigits fractionDigits exponentDigits nearest scaled thousandths numberFits isIndexPart indexDigits mapUnits mapGlyphs isAdvance isOffset wellFormed fieldFits indexOf advanceOf offsetOf entryOf entry entries tail placed step walk runFrom read utf8 unitBytes unitsBytes textOf fraction valueBytes advanceBytes offsetBytes mapBytes indexBytes entryBytes written indicesOf
 labels = refl
 
 -- "From `{}flow` and `(2:1)192;07,+55.50,,0` it prints:"
