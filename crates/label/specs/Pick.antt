@@ -23,7 +23,7 @@ holding n u (c ∷ cs) =
     let r = holding (n - c .glyphs) (u + c .units) cs in
     cond (ltb n (c .glyphs)) (stretch u (u + c .units)) r
 
--- "the stretch of units of all clusters touched": from the first one's first unit to one past the last one's last
+-- "the stretch of units of all clusters touched": from the first one's first unit to one past the last one's last (over `turned` clusters: glyphs)
 unfoldable pub touched : ℕ → ℕ → List Cluster → Stretch
 touched first end cs = stretch (holding first 0 cs .first) (holding (end - 1) 0 cs .end)
 
