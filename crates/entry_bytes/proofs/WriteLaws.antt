@@ -2,7 +2,7 @@
 use mathlib.Core.Path.{_≡_, refl, sym, ap, _∙_}
 use mathlib.Core.Bool.{Bool, true, false, cond, not, _&&_, and-true}
 use mathlib.Core.List.{List, [], _∷_, _++_, append-nil}
-use Prim.Native.Nat.{ℕ, suc, _+_, _-_, _/_, _%_}
+use Prim.Native.Nat.{ℕ, suc, _+_, _/_, _%_}
 use native.Mathlib.Omega.{arith}
 use borrow.Author.Tests.{eq-eqb, ne-eqb}
 use lib.Dec.{leb, eqb}
@@ -62,11 +62,6 @@ unfolding offsetBytes
 offset-empty (pos n) = cases (eqb n 0) (λ e. rw e) (λ e. rw e (value-full n))
 offset-empty (negsuc n) = sym (ne-eqb (suc n) 0 (λ e. omega arith))
 
-advance-empty : (z : ℤ) → empty (advanceBytes (numberAdvance z)) ≡ not (natural z)
-unfolding advanceBytes
-advance-empty (pos n) = value-full n
-advance-empty (negsuc n) = refl
-
 module _ (z : ℤ) {n : ℕ} (e : n ≡ size z) where
   pub offset-none : n ≡ 0 → [] ≡ offsetBytes z
   offset-none h = sym (empty-nil (offsetBytes z) (offset-empty z ∙ eq-eqb (size z) 0 (sym e ∙ h)))
@@ -88,33 +83,33 @@ module _ (z : ℤ) {n : ℕ} (e : n ≡ size z) where
         by (pos m) d t = clash true refl t
         by (negsuc m) d t = rw d
 
-module _ (z : ℤ) {b : Bool} (f : b ≡ natural z) where
-  pub advance-given : {n : ℕ} → n ≡ size z → b ≡ true → valueBytes n ≡ advanceBytes (numberAdvance z)
-  unfolding advanceBytes
-  advance-given {n} d k = by z d (sym f ∙ k)
-    where
-      by : (y : ℤ) → n ≡ size y → natural y ≡ true → valueBytes n ≡ advanceBytes (numberAdvance y)
-      by (pos m) d t = ap valueBytes d
-      by (negsuc m) d t = clash false t refl
+-- what `w` writes of a number from 0 on, and nothing of one below 0
+abbrev chosen : (ℕ → List ℕ) → ℤ → List ℕ
+chosen w (pos n) = w n
+chosen w (negsuc n) = []
 
-  pub advance-own : b ≡ false → [] ≡ advanceBytes (numberAdvance z)
-  advance-own k = sym (empty-nil (advanceBytes (numberAdvance z)) (advance-empty z ∙ ap not (sym f ∙ k)))
+module _ {w : ℕ → List ℕ} {g : ℤ → List ℕ} (is : (z : ℤ) → chosen w z ≡ g z) where
+  pub chosen-some : (z : ℤ) {b : Bool} {n : ℕ} → b ≡ natural z → n ≡ size z → b ≡ true → w n ≡ g z
+  chosen-some (pos m) f d k = ap w d ∙ is (pos m)
+  chosen-some (negsuc m) {b} f d k = clash b k f
 
-  pub index-named : {n : ℕ} → n ≡ size z → b ≡ true → decimal n ≡ indexBytes (numberIndex z)
-  unfolding indexBytes
-  index-named {n} d k = by z d (sym f ∙ k)
-    where
-      by : (y : ℤ) → n ≡ size y → natural y ≡ true → decimal n ≡ indexBytes (numberIndex y)
-      by (pos m) d t = ap decimal d
-      by (negsuc m) d t = clash false t refl
+  pub chosen-none : (z : ℤ) {b : Bool} → b ≡ natural z → b ≡ false → [] ≡ g z
+  chosen-none (pos m) {b} f k = clash b f k
+  chosen-none (negsuc m) f k = is (negsuc m)
 
-  pub index-font : b ≡ false → [] ≡ indexBytes (numberIndex z)
-  unfolding indexBytes
-  index-font k = by z (sym f ∙ k)
-    where
-      by : (y : ℤ) → natural y ≡ false → [] ≡ indexBytes (numberIndex y)
-      by (pos m) t = clash true refl t
-      by (negsuc m) t = refl
+  chosen-empty : ((n : ℕ) → empty (w n) ≡ false) → (z : ℤ) → empty (g z) ≡ not (natural z)
+  chosen-empty h (pos n) = rw (← is (pos n)) (h n)
+  chosen-empty h (negsuc n) = rw (← is (negsuc n))
+
+pub advance-is : (z : ℤ) → chosen valueBytes z ≡ advanceBytes (numberAdvance z)
+unfolding advanceBytes
+advance-is (pos n) = refl
+advance-is (negsuc n) = refl
+
+pub index-is : (z : ℤ) → chosen decimal z ≡ indexBytes (numberIndex z)
+unfolding indexBytes
+index-is (pos n) = refl
+index-is (negsuc n) = refl
 
 -- ── an entry ──
 
@@ -145,7 +140,7 @@ blank-uv-is u v e f g = g ∙ rw (e, f) (sym (trim-empty (offsetBytes u) (partsV
 
 pub blank-auv-is : (a u v : ℤ) {n b r : Bool} → n ≡ natural a → b ≡ empty (trim (partsUV u v)) → r ≡ (not n && b) → r ≡ empty (trim (partsAUV a u v))
 unfolding partsAUV
-blank-auv-is a u v e f g = g ∙ rw (e, f) (sym (trim-empty (advanceBytes (numberAdvance a)) (partsUV u v) ∙ rw (advance-empty a)))
+blank-auv-is a u v e f g = g ∙ rw (e, f) (sym (trim-empty (advanceBytes (numberAdvance a)) (partsUV u v) ∙ rw (chosen-empty advance-is value-full a)))
 
 pub fields-blank : (l : List (List ℕ)) {b : Bool} → b ≡ empty (trim l) → b ≡ true → [] ≡ fields l
 unfolding fields joinRest
@@ -187,11 +182,6 @@ map-empty : (a b : ℕ) → empty (mapBytes a b) ≡ (leb a 1 && eqb b 1)
 unfolding mapBytes
 map-empty a b = empty-cond (leb a 1 && eqb b 1) 40 (decimal a ++ cond (eqb b 1) [] (58 ∷ decimal b) ++ (41 ∷ []))
 
-index-empty : (z : ℤ) → empty (indexBytes (numberIndex z)) ≡ not (natural z)
-unfolding indexBytes
-index-empty (pos n) = empty-decimal n
-index-empty (negsuc n) = refl
-
 append-empty : (x y : List ℕ) → empty (x ++ y) ≡ (empty x && empty y)
 append-empty [] y = refl
 append-empty (b ∷ x) y = refl
@@ -217,6 +207,6 @@ entry-empty a b s k em en eq ee er =
     ∙ rw (
       append-empty (mapBytes a b) (indexBytes (numberIndex (place s k))),
       map-empty a b,
-      index-empty (place s k),
+      chosen-empty index-is empty-decimal (place s k),
       fields-empty (partsAUV (place s (k + 1)) (place s (k + 1 + 1)) (place s (k + 1 + 1 + 1))),
     )))

@@ -1,4 +1,4 @@
--- The parts of an entry as the code writes them: a glyph at a place of a run's numbers, and its fields from one on.
+-- The fields of an entry as the code writes them, from one of them on.
 -- Assumes nothing.
 use Prim.Native.Nat.{ℕ}
 use mathlib.Core.List.{List, [], _∷_}

@@ -55,10 +55,6 @@ seq-bind : {A B : Type 0} (v : Outcome (Unit {0})) (a : A) (f : A → Outcome B)
 seq-bind (ok x) a f = refl
 seq-bind (no n p) a f = refl
 
-seq-seq : {A : Type 0} (v : Outcome (Unit {0})) (w : Outcome (Unit {0})) (o : Outcome A) → ((v >> w) >> o) ≡ (v >> (w >> o))
-seq-seq (ok x) w o = refl
-seq-seq (no n p) w o = refl
-
 -- ── the text ──
 
 decode-by-checks : (bs : List ℕ) (skip at : ℕ) → decode skip at bs ≡ (verdict (textChecks skip at bs) >> ok (bitUnits skip bs))

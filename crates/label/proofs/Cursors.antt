@@ -3,14 +3,14 @@
 -- Assumes nothing.
 use Prim.Native.Nat.{ℕ, zero, suc, _+_, _-_, _≤_, _<_}
 use native.Mathlib.Omega.{arith}
-use native.Mathlib.Nat.{not-suc-le-zero, add-zero, add-suc, suc-add}
+use native.Mathlib.Nat.{add-zero, add-suc, suc-add}
 use mathlib.Core.Path.{_≡_, refl, _∙_, ap, subst}
 use mathlib.Core.Bool.{Bool, true, false, not}
 use mathlib.Core.List.{List, [], _∷_, _++_, append-assoc, append-nil}
-use borrow.Author.Tests.{eqb-true, eq-eqb, not-true}
+use borrow.Author.Tests.{eq-eqb, not-true}
 use lib.Dec.{eqb}
 use lib.ListN.{length, getD, take, drop, length-drop, drop-of-length-le}
-use lib.Seq.{take-all, drop-cons, drop-drop, split-at}
+use lib.Seq.{take-all, drop-cons, drop-drop}
 use Rattle.label.specs.Outcome.{Outcome, ok, no, _>>=_}
 use Rattle.label.specs.Bytes.{split}
 use Rattle.label.specs.Text.{lead, starts, scalar, xmlChar, unitsOf, decode}
@@ -18,7 +18,7 @@ use Rattle.label.specs.Entry.{Entry}
 use Rattle.label.specs.Run.{Parts, State, opens, takes, cluster, before, next, step, walk}
 use Rattle.label.specs.declared.Glyph.{Glyph}
 use Rattle.label.specs.declared.Cluster.{Cluster}
-use Rattle.label.proofs.Basics.{and-l, and-r, cases}
+use Rattle.label.proofs.Basics.{and-l, and-r}
 use Rattle.label.proofs.Splits.{free, split-join, rest-nil, split-hit, split-miss}
 
 -- ── parts ──
@@ -30,27 +30,6 @@ split-rest c (b ∷ x) rest h =
 
 pub split-all : (c : ℕ) (x : List ℕ) → free c x ≡ true → split c x ≡ x ∷ []
 split-all c x h = subst (λ (y : List ℕ). split c y ≡ x ∷ []) (ap (λ (r : List ℕ). x ++ r) (rest-nil c) ∙ append-nil x) (split-join c [] x h refl)
-
--- a stretch that a search passed has no byte c
-pub passed-free : (c : ℕ) (s : List ℕ) (n : ℕ) → ((k : ℕ) → k < n → getD s k 0 ≡ c → ⊥) → n ≤ length s → free c (take n s) ≡ true
-passed-free c s zero h l = refl
-passed-free c [] (suc n) h l = absurd (not-suc-le-zero l)
-passed-free c (b ∷ s) (suc n) h l =
-    let e : eqb b c ≡ false = cases (eqb b c) (λ t. absurd (h 0 (omega arith) (eqb-true b c t))) (λ t. t) in
-    rw e (passed-free c s n (λ k p q. h (suc k) (omega arith) q) (omega arith))
-
-pub split-found : (c : ℕ) (s : List ℕ) (e : ℕ) → ((k : ℕ) → k < e → getD s k 0 ≡ c → ⊥) → e < length s → getD s e 0 ≡ c
-    → split c s ≡ take e s ∷ split c (drop (suc e) s)
-split-found c s e h l q =
-    ap (λ (y : List ℕ). split c y) (split-at s e 0 l ∙ rw q)
-    ∙ split-rest c (take e s) (drop (suc e) s) (passed-free c s e h (omega arith))
-
-pub split-last : (c : ℕ) (s : List ℕ) → ((k : ℕ) → k < length s → getD s k 0 ≡ c → ⊥) → split c s ≡ s ∷ []
-split-last c s h = split-all c s (subst (λ (y : List ℕ). free c y ≡ true) (take-all s) (passed-free c s (length s) h (omega arith)))
-  where
-    take-all : (s : List ℕ) → take (length s) s ≡ s
-    take-all [] = refl
-    take-all (b ∷ s) = rw (take-all s)
 
 -- ── characters ──
 

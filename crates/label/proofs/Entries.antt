@@ -27,62 +27,47 @@ use Rattle.label.proofs.Values.{digit-not, head-digit, Writes, value-wr
 
 -- ── the fields ──
 
-record AdvanceRead (a : Advance) (v : List ℕ) : Type 0 where
-  is : isAdvance v ≡ true
+-- the bytes of a field as the reader takes them: they pass the test, 9 does not hold, they say what is asked, they are at most so many, and no `,` or `;`
+-- is among them
+record FieldRead (test : List ℕ → Bool) (says : Type 0) (most : ℕ) (v : List ℕ) : Type 0 where
+  is : test v ≡ true
   small : fieldFits v ≡ true
-  val : advanceOf v ≡ a
-  short : length v ≤ 11
+  val : says
+  short : length v ≤ most
   comma : free 44 v ≡ true
   semi : free 59 v ≡ true
 
+abbrev AdvanceRead : Advance → List ℕ → Type 0
+AdvanceRead a v = FieldRead isAdvance (advanceOf v ≡ a) 11 v
+
+abbrev OffsetRead : ℤ → List ℕ → Type 0
+OffsetRead z v = FieldRead isOffset (offsetOf v ≡ z) 12 v
+
+-- a value without a sign
+value-read : (test : List ℕ → Bool) (says : Type 0) (most n : ℕ) (v : List ℕ) → Writes n v → test v ≡ true → says → 11 ≤ most → FieldRead test says most v
+unfolding fieldFits unsigned
+value-read test says most n v w i s l =
+    let f : fieldFits v ≡ true = rw (w .full, w .no-minus, w .no-plus, w .small) in
+    record { is = i; small = f; val = s; short = omega (arith, w .short, l); comma = w .comma; semi = w .semi }
+
 given-read : (n : ℕ) (v : List ℕ) → Writes n v → AdvanceRead (Given n) v
-unfolding isAdvance fieldFits advanceOf unsigned
+unfolding isAdvance advanceOf unsigned
 given-read n v w =
-    record {
-      is = rw (w .full, w .no-minus, w .no-plus, w .is);
-      small = rw (w .full, w .no-minus, w .no-plus, w .small);
-      val = rw (w .full, w .no-minus, w .no-plus, w .val);
-      short = w .short;
-      comma = w .comma;
-      semi = w .semi;
-    }
+    value-read isAdvance (advanceOf v ≡ Given n) 11 n v w (rw (w .full, w .no-minus, w .no-plus, w .is)) (rw (w .full, w .no-minus, w .no-plus, w .val)) (omega arith)
+
+pos-read : (n : ℕ) (v : List ℕ) → Writes n v → OffsetRead (pos n) v
+unfolding isOffset offsetOf unsigned
+pos-read n v w =
+    value-read isOffset (offsetOf v ≡ pos n) 12 n v w (rw (w .full, w .no-minus, w .no-plus, w .is)) (rw (w .full, w .no-minus, w .no-plus, w .val)) (omega arith)
+
+neg-read : (n : ℕ) (v : List ℕ) → Writes (suc n) v → OffsetRead (negsuc n) (45 ∷ v)
+unfolding isOffset fieldFits offsetOf unsigned
+neg-read n v w = record { is = w .is; small = w .small; val = rw (w .val); short = omega (arith, w .short); comma = w .comma; semi = w .semi }
 
 advance-read : (a : Advance) → advanceFits a ≡ true → AdvanceRead a (advanceBytes a)
 unfolding advanceBytes isAdvance fieldFits advanceOf
 advance-read Own h = record { is = refl; small = refl; val = refl; short = omega arith; comma = refl; semi = refl }
 advance-read (Given n) h = given-read n (valueBytes n) (value-writes n (leb-true n 1000000000 h))
-
-record OffsetRead (z : ℤ) (v : List ℕ) : Type 0 where
-  is : isOffset v ≡ true
-  small : fieldFits v ≡ true
-  val : offsetOf v ≡ z
-  short : length v ≤ 12
-  comma : free 44 v ≡ true
-  semi : free 59 v ≡ true
-
-pos-read : (n : ℕ) (v : List ℕ) → Writes n v → OffsetRead (pos n) v
-unfolding isOffset fieldFits offsetOf unsigned
-pos-read n v w =
-    record {
-      is = rw (w .full, w .no-minus, w .no-plus, w .is);
-      small = rw (w .full, w .no-minus, w .no-plus, w .small);
-      val = rw (w .full, w .no-minus, w .no-plus, w .val);
-      short = omega (arith, w .short);
-      comma = w .comma;
-      semi = w .semi;
-    }
-
-neg-read : (n : ℕ) (v : List ℕ) → Writes (suc n) v → OffsetRead (negsuc n) (45 ∷ v)
-unfolding isOffset fieldFits offsetOf unsigned
-neg-read n v w =
-    record {
-      is = w .is;
-      small = w .small;
-      val = rw (w .val);
-      short = omega (arith, w .short);
-      comma = w .comma;
-      semi = w .semi;
-    }
 
 offset-read : (z : ℤ) → leb (size z) 1000000000 ≡ true → OffsetRead z (offsetBytes z)
 unfolding offsetBytes isOffset fieldFits offsetOf

@@ -28,10 +28,6 @@ unfolding allDigits
 head-digit [] h = absurd (false≢true h)
 head-digit (b ∷ bs) h = and-l (isDigit b) (allDigits bs) h
 
-pub head-append : (s t : List ℕ) → empty s ≡ false → getD (s ++ t) 0 0 ≡ getD s 0 0
-head-append [] t h = clash true refl h
-head-append (b ∷ bs) t h = refl
-
 -- bytes that are a number without sign and exponent: digits, a point or none, digits
 pub record Plain (v figs frac : List ℕ) : Type 0 where
   pub is : isNumber v ≡ true

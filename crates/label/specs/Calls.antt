@@ -1,5 +1,5 @@
--- The calls with their lent buffers: 16 to 18, 20, 21 and 18 of the list of records; what each buffer holds afterwards; and for every answer enum the
--- paper's number, place and values of each of its cases.
+-- The calls with their lent buffers: 16 to 18, 20, 21, and 19 and 18 of the list of records; what each buffer holds afterwards; and for every answer enum
+-- document 01's number, place and values of each of its cases.
 -- Assumes nothing.
 use Prim.Native.Nat.{ℕ, _*_}
 use mathlib.Core.List.{List, _++_}
@@ -26,6 +26,7 @@ use Rattle.label.specs.declared.Listing.the-variants as L
 
 -- ── answers ──
 
+-- a refusal: a number of the table and its "Returned place"
 abbrev pub refusal : ℕ → ℕ → Refusal
 refusal n p = record { number = n; place = p }
 
@@ -52,7 +53,7 @@ listingOutcome (L.Refused x) = no (x .number) (x .place)
 abbrev pub filled : {A : Type 0} → List A → List A → List A
 filled vs old = vs ++ drop (length vs) old
 
--- a buffer after a call that fills it with what the value gives; "every refusal changes no lent place"
+-- a buffer after a call that fills it with what the value gives; "every refusal, later numbers included, changes no lent place"
 abbrev pub after : {A B : Type 0} → (A → List B) → Outcome A → List B → List B
 after f (ok a) old = filled (f a) old
 after f (no n p) old = old

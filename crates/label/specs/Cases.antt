@@ -24,11 +24,13 @@ use Rattle.label.specs.declared.Stretch.{Stretch}
 
 -- ── runs: the units, the clusters' numbers, the glyphs' numbers ──
 
+-- "A run is handed in as exactly its places."
 pub record Places : Type 0 where
   pub units : List ℕ
   pub clusters : List ℤ
   pub glyphs : List ℤ
 
+-- the run of these places
 abbrev places : List ℕ → List ℤ → List ℤ → Places
 places us cs gs = record { units = us; clusters = cs; glyphs = gs }
 
@@ -43,6 +45,7 @@ font zs = negsuc 0 ∷ negsuc 0 ∷ pos 0 ∷ pos 0 ∷ zs
 abbrev four : Places
 four = places (ascii "ABCD") (pos 1 ∷ pos 1 ∷ pos 2 ∷ pos 3 ∷ pos 1 ∷ pos 1 ∷ []) (plain 5 (plain 6 (plain 7 (plain 8 (font [])))))
 
+-- the writer gives this text and these indices
 abbrev label : List ℕ → List ℕ → Outcome Label
 label t i = ok (record { text = t; indices = i })
 
@@ -51,9 +54,11 @@ pub record Writes : Type 0 where
   pub run : Places
   pub answer : Outcome Label
 
+-- the row of a run and an answer
 abbrev writes : Places → Outcome Label → Writes
 writes r a = record { run = r; answer = a }
 
+-- "run handed in is not sound" (19), and normal writings
 unfoldable pub writings : List Writes
 writings =
     writes four (label (ascii "ABCD") (ascii "5;(2:3)6;7;8")) ∷
@@ -83,15 +88,18 @@ writings =
 
 -- ── picks in the run above: of glyphs, and of units ──
 
+-- a stretch; the units picked where it is of glyphs, the glyphs picked where it is of units
 pub record Picked : Type 0 where
   pub first : ℕ
   pub end : ℕ
   pub units : Outcome Stretch
   pub glyphs : Outcome Stretch
 
+-- the row of a stretch and its two answers
 abbrev picked : ℕ → ℕ → Outcome Stretch → Outcome Stretch → Picked
 picked a b u g = record { first = a; end = b; units = u; glyphs = g }
 
+-- "the stretch of units of all clusters touched; another goes from units to glyphs"; "pick empty, reversed or past the end" (22)
 unfoldable pub picks : List Picked
 picks =
     picked 0 1 (ok (stretch 0 1)) (ok (stretch 0 1)) ∷
@@ -108,14 +116,17 @@ picks =
 
 -- ── faults of the text `{a` and the indices `(1:2)5;` ──
 
+-- "a number and a place", and "the offending part"
 pub record Shown : Type 0 where
   pub number : ℕ
   pub place : ℕ
   pub part : Part
 
+-- the row of a number, a place and a part
 abbrev shown : ℕ → ℕ → Part → Shown
 shown n p x = record { number = n; place = p; part = x }
 
+-- "the text from that place on", "the entry", "the empty start of the text"
 unfoldable pub faults : List Shown
 faults =
     -- 2 to 4 show the text from the place on; its length is past the last

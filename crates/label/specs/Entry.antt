@@ -86,7 +86,7 @@ numberFits s = leb (length (mantissaDigits s)) maxDigits && leb (length (exponen
 abbrev pub part : ℕ → List ℕ → List ℕ
 part n s = getD (split 44 s) n []
 
--- "an optional map"
+-- "an optional map": the part begins with `(`
 abbrev pub hasMap : List ℕ → Bool
 hasMap p = eqb (getD p 0 0) 40
 

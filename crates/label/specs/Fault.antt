@@ -22,6 +22,7 @@ startOf [] k = 0
 startOf (e ∷ es) zero = 0
 startOf (e ∷ es) (suc k) = length e + 1 + startOf es k
 
+-- n bytes from byte a on, of the indices where i is true, else of the text
 abbrev pub portion : Bool → ℕ → ℕ → Part
 portion i a n = record { «in_indices» = i; start = a; length = n }
 

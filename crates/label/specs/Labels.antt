@@ -35,11 +35,13 @@ abbrev pub said : Outcome Run → Said
 said (ok r) = accepted r (normal r)
 said (no n p) = refused n p
 
+-- a label and what it comes to
 pub record LabelRow : Type 0 where
   pub text : List ℕ
   pub indices : List ℕ
   pub answer : Said
 
+-- the row of a text, indices and an answer
 abbrev row : List ℕ → List ℕ → Said → LabelRow
 row t i a = record { text = t; indices = i; answer = a }
 
@@ -54,13 +56,15 @@ glyph n = record { index = Named n; advance = Own; u = pos 0; v = pos 0 }
 abbrev advanced : ℕ → ℕ → Glyph
 advanced n a = record { index = Named n; advance = Given a; u = pos 0; v = pos 0 }
 
+-- a cluster 1:1
 abbrev one : Cluster
 one = cluster 1 1
 
 -- ── document 01, labels 1 to 11 ──
 
-unfoldable pub paperRows : List LabelRow
-paperRows =
+-- a row for each answer that the list names
+unfoldable pub documentRows : List LabelRow
+documentRows =
     -- 1. U+0066 U+006C, `(2:1)192`: one cluster 2:1; normal `(2)192`
     row (ascii "fl") (ascii "(2:1)192") (reads (0x66 ∷ 0x6c ∷ []) (cluster 2 1 ∷ []) (glyph 192 ∷ []) (ascii "fl") (ascii "(2)192")) ∷
     -- 2. U+0E33, `(1:2)124;181`: one cluster 1:2
@@ -102,6 +106,7 @@ paperRows =
 
 -- ── ECMA-388, Examples 12-3 to 12-6 ──
 
+-- a row for each example that shows markup
 unfoldable pub standardRows : List LabelRow
 standardRows =
     -- 12-3, one to many: U+0E20 U+0E31 U+0E33 U+0021
@@ -126,8 +131,8 @@ standardRows =
     []
 
 -- each row's label is answered as the row says
-pub labels : map (λ (r : LabelRow). said (read (r .text) (r .indices))) (paperRows ++ standardRows) ≡ map (λ (r : LabelRow). r .answer) (paperRows ++ standardRows)
-unfolding paperRows standardRows ascii split cut allDigits valueFrom joinRest join trim decimalFrom decimal lead trail starts scalar xmlChar unitsOf decode textUnits unsigned isDecimals isNumber mantissaDigits fractionDigits exponentDigits nearest scaled thousandths numberFits isIndexPart indexDigits mapUnits mapGlyphs isAdvance isOffset wellFormed fieldFits indexOf advanceOf offsetOf entryOf entry entries tail placed step walk runFrom read utf8 unitBytes unitsBytes textOf fraction valueBytes advanceBytes offsetBytes mapBytes indexBytes entryBytes written indicesOf
+pub labels : map (λ (r : LabelRow). said (read (r .text) (r .indices))) (documentRows ++ standardRows) ≡ map (λ (r : LabelRow). r .answer) (documentRows ++ standardRows)
+unfolding documentRows standardRows ascii split cut allDigits valueFrom joinRest join trim decimalFrom decimal lead trail starts scalar xmlChar unitsOf decode textUnits unsigned isDecimals isNumber mantissaDigits fractionDigits exponentDigits nearest scaled thousandths numberFits isIndexPart indexDigits mapUnits mapGlyphs isAdvance isOffset wellFormed fieldFits indexOf advanceOf offsetOf entryOf entry entries tail placed step walk runFrom read utf8 unitBytes unitsBytes textOf fraction valueBytes advanceBytes offsetBytes mapBytes indexBytes entryBytes written indicesOf
 labels = refl
 
 -- "From `{}flow` and `(2:1)192;07,+55.50,,0` it prints:"

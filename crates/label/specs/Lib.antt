@@ -11,7 +11,7 @@ pub mod Fault
 pub mod Calls
 pub mod Wire
 pub mod Relabel
+pub mod Checks
 pub mod Labels
 pub mod Cases
 pub mod Demands
-pub mod Checks

@@ -5,14 +5,17 @@ use Prim.Native.Nat.{ℕ}
 use mathlib.Core.Bool.{Bool, true, false}
 
 infixl 10 _>>=_ _>>_
+-- a value; or a number of the table and its "Returned place"
 pub data Outcome (A : Type 0) : Type 0 where
   ok : A → Outcome A
   no : ℕ → ℕ → Outcome A
 
+-- on with the value; a refusal stays, and no later check is asked
 abbrev pub _>>=_ : {A B : Type 0} → Outcome A → (A → Outcome B) → Outcome B
 _>>=_ (ok a) f = f a
 _>>=_ (no n p) f = no n p
 
+-- the same where the value is not needed
 abbrev pub _>>_ : {A B : Type 0} → Outcome A → Outcome B → Outcome B
 _>>_ (ok a) o = o
 _>>_ (no n p) o = no n p

@@ -23,7 +23,7 @@ holding n u (c ∷ cs) =
     let r = holding (n - c .glyphs) (u + c .units) cs in
     cond (ltb n (c .glyphs)) (stretch u (u + c .units)) r
 
--- "the stretch of units of all clusters touched": from the first one's first unit to the last one's last
+-- "the stretch of units of all clusters touched": from the first one's first unit to one past the last one's last (over `turned` clusters: glyphs)
 unfoldable pub touched : ℕ → ℕ → List Cluster → Stretch
 touched first end cs = stretch (holding first 0 cs .first) (holding (end - 1) 0 cs .end)
 
@@ -36,7 +36,9 @@ turned (c ∷ cs) = cluster (c .glyphs) (c .units) ∷ turned cs
 abbrev pub inside : ℕ → ℕ → ℕ → Bool
 inside first end count = ltb first end && leb end count
 
--- "A pick takes a sound run and a stretch of glyphs"; "Soundness (19) is tested before 22"; "In a run without units the first gives 0 to 0", as every cluster there has 0 units
+-- "A pick takes a sound run and a stretch of glyphs"
+-- "Soundness (19) is tested before 22."
+-- "In a run without units the first gives 0 to 0": every cluster there has 0 units
 unfoldable pub pickUnits : List ℕ → List ℤ → List ℤ → ℕ → ℕ → Outcome Stretch
 pickUnits us cs gs first end = do
   need (sound us cs gs) 19 0

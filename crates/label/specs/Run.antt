@@ -28,6 +28,7 @@ pub record Parts : Type 0 where
   pub clusters : List Cluster
   pub glyphs : List Glyph
 
+-- "The index is either named by the label or chosen by the font": it is named
 abbrev pub named : Index → Bool
 named (Named n) = true
 named Font = false
@@ -50,7 +51,7 @@ abbrev pub whole : ℕ → List ℕ → Bool
 whole a us = not (isLow (getD us a 0))
 
 -- "When entries end before the text, each unit left is a 1:1 cluster, all chosen by the font: this is the unwritten tail."
--- "A cluster may not end between the halves of a pair, the tail included."
+-- "A cluster may not end between the halves of a pair (house), the tail included."
 unfoldable pub tail : ℕ → List ℕ → Outcome Parts
 tail at [] = ok (record { clusters = []; glyphs = [] })
 tail at (u ∷ us) = do
@@ -67,6 +68,7 @@ pub record State : Type 0 where
   pub lack : ℕ
   pub opener : ℕ
 
+-- before the first entry: "bytes, units, entries and glyphs are numbered from 0"
 abbrev pub start : List ℕ → State
 start us = record { k = 0; at = 0; rest = us; lack = 0; opener = 0 }
 
@@ -75,12 +77,13 @@ start us = record { k = 0; at = 0; rest = us; lack = 0; opener = 0 }
 abbrev pub opens : State → Bool
 opens st = eqb (st .lack) 0
 
--- how many units the entry takes: those of the cluster that it opens; "In a text of no units [it] is a cluster of 0 units and 1 glyph"
+-- how many units the entry takes: those of the cluster that it opens; "In a text of no units (house) [...] it is a cluster of 0
+-- units and 1 glyph"
 abbrev pub takes : Bool → State → Entry → ℕ
 takes bare st e = cond (opens st && not bare) (e .units) 0
 
--- "the next b − 1 entries are its further glyphs and must each name an index and carry no map"; "In a text of no units each entry must name an index
--- and carry no map"
+-- "the next b − 1 entries are its further glyphs and must each name an index and carry no map"; "In a text of no units (house) each entry must
+-- name an index and carry no map"
 abbrev pub allowed : Bool → State → Entry → Bool
 allowed bare st e = (opens st && not bare) || (not (e .mapped) && named (e .glyph .index))
 
@@ -95,7 +98,8 @@ next bare st e =
       opener = cond (opens st) (st .k) (st .opener);
     }
 
--- an entry's checks 10 to 13, where the walk stands
+-- an entry's checks 10 to 13, where the walk stands. An entry that opens no cluster takes no units: 12 and 13 do not hold of it, as `rest` never begins with
+-- a low half.
 unfoldable pub placed : Bool → State → Entry → Outcome Entry
 placed bare st e = do
   need (leb 1 (e .units) && leb 1 (e .glyphs)) 10 (st .k)

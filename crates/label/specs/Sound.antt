@@ -75,7 +75,7 @@ wholeGlyphs (i ∷ a ∷ []) = false
 wholeGlyphs (i ∷ a ∷ u ∷ []) = false
 wholeGlyphs (i ∷ a ∷ u ∷ v ∷ zs) = choice i && choice a && wholeGlyphs zs
 
--- the clusters and the glyphs whose numbers these are
+-- a count, an index and an advance from their numbers, −1 for the font
 abbrev pub nat : ℤ → ℕ
 nat (pos n) = n
 nat (negsuc n) = 0
@@ -88,6 +88,7 @@ abbrev pub numberAdvance : ℤ → Advance
 numberAdvance (pos n) = Given n
 numberAdvance (negsuc n) = Own
 
+-- the clusters and the glyphs whose numbers these are
 unfoldable pub clustersOf : List ℤ → List Cluster
 clustersOf [] = []
 clustersOf (a ∷ []) = []
@@ -111,7 +112,7 @@ abbrev pub size : ℤ → ℕ
 size (pos n) = n
 size (negsuc n) = suc n
 
--- "limits hold" of a glyph: 8 and 9 do not
+-- "limits hold": 8 and 9 do not hold of a glyph's numbers
 abbrev pub indexFits : Index → Bool
 indexFits (Named n) = leb n maxIndex
 indexFits Font = true

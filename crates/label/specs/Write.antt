@@ -32,7 +32,7 @@ utf8 c =
 abbrev pub paired : ℕ → ℕ → ℕ
 paired h l = 0x10000 + (h - 0xd800) * 1024 + (l - 0xdc00)
 
--- the bytes of a unit and the one behind it: those of a pair stand at its high half
+-- the bytes of unit u, with v behind it: those of a pair stand at its high half
 unfoldable pub unitBytes : ℕ → ℕ → List ℕ
 unitBytes u v = cond (isLow u) [] (cond (isHigh u) (utf8 (paired u v)) (utf8 u))
 
@@ -54,7 +54,7 @@ fraction f =
     (cond (eqb (f % 10) 0) ((48 + f / 100) ∷ (48 + f / 10 % 10) ∷ [])
     ((48 + f / 100) ∷ (48 + f / 10 % 10) ∷ (48 + f % 10) ∷ []))
 
--- "a value has a point only before digits, no trailing zeros behind it and no lone zero before it, and 0 is `0`"
+-- "a value has a point only before digits, no trailing zeros behind it and no lone zero before it"; "0 is `0`"
 unfoldable pub valueBytes : ℕ → List ℕ
 valueBytes n =
     cond (eqb (n % 1000) 0) (decimal (n / 1000))

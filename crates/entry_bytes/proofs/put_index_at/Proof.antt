@@ -4,7 +4,7 @@ use lib.IntN.{pos}
 use lib.ListN.{getD}
 use borrow.Author.Needs.{needs}
 use Rattle.words.proofs.Puts.{none, put-as}
-use Rattle.entry_bytes.proofs.WriteLaws.{index-named, index-font}
+use Rattle.entry_bytes.proofs.WriteLaws.{chosen-some, chosen-none, index-is}
 use Rattle.entry_bytes.proofs.put_index_at.Statement.{statement}
 use Rattle.entry_bytes.proofs.put_index_at.Tie as tie
 
@@ -21,10 +21,10 @@ same-length : tie.Need-same-length
 same-length c = search needs
 
 returns : tie.Need-returns
-returns c = (put-as (index-named (getD (c .before .before .before .before .before .before .before .before .args .s .now) (c .before .before .before .before .before .before .before .before .args .k) (pos 0)) (c .before .before .before .before .before .before .natural-at .ensures) (c .before .before .before .size-at .ensures) (c .before .before .before .before .before .if1 .taken)) (c .before .before .put-decimal .ensures .0), omega arith)
+returns c = (put-as (chosen-some index-is (getD (c .before .before .before .before .before .before .before .before .args .s .now) (c .before .before .before .before .before .before .before .before .args .k) (pos 0)) (c .before .before .before .before .before .before .natural-at .ensures) (c .before .before .before .size-at .ensures) (c .before .before .before .before .before .if1 .taken)) (c .before .before .put-decimal .ensures .0), omega arith)
 
 returns-2 : tie.Need-returns-2
-returns-2 c = (put-as (index-font (getD (c .before .before .before .args .s .now) (c .before .before .before .args .k) (pos 0)) (c .before .natural-at .ensures) (c .if1 .left)) none, omega arith)
+returns-2 c = (put-as (chosen-none index-is (getD (c .before .before .before .args .s .now) (c .before .before .before .args .k) (pos 0)) (c .before .natural-at .ensures) (c .if1 .left)) none, omega arith)
 
 pub put-index-at-spec : {M : Type 1} → statement M
 put-index-at-spec =
