@@ -49,7 +49,7 @@ def theorem(labels, specs):
     text = open(os.path.join(specs, 'Labels.antt'), encoding='utf-8').read()
     head = text[:text.index('-- ── document 01, labels 1 to 11 ──')]
     end = text[text.index('-- each row\'s label is answered as the row says'):text.index('-- "From `{}flow`')]
-    rows = 'unfoldable pub paperRows : List LabelRow\npaperRows =\n' + '\n'.join(map(row, labels)) + '\n    []\n\n'
+    rows = 'unfoldable pub documentRows : List LabelRow\ndocumentRows =\n' + '\n'.join(map(row, labels)) + '\n    []\n\n'
     none = 'unfoldable pub standardRows : List LabelRow\nstandardRows = []\n\n'
     return head + rows + none + end
 
