@@ -9,9 +9,17 @@ if [ "${1:-}" = --short ]; then relabel=1500 trials=4000 archive=100000; shift; 
 if [ "${1:-}" = --seed ]; then seed=$2; fi
 
 rt check relabel trials > /dev/null
-rt staticlib glyph_label > /dev/null
-"${CC:-cc}" -shared -o target/libglyph_label.so -Wl,--whole-archive target/staticlib/libglyph_label.a -Wl,--no-whole-archive
+archive_file=target/staticlib/libglyph_label.a
+if [ ! -e $archive_file ] || [ -n "$(find crates -newer $archive_file -type f -print -quit)" ]; then rt staticlib glyph_label > /dev/null; fi
+"${CC:-cc}" -shared -o target/libglyph_label.so -Wl,--whole-archive $archive_file -Wl,--no-whole-archive
 compare=tests/independent/compare.py
+
+# the labels that `trials` is kept with, and what it prints, are those of the independent reader
+mkdir -p target/trials
+python3 tests/independent/trials.py target/trials
+cmp target/trials/stdin crates/trials/stdin
+cmp target/trials/stdout crates/trials/stdout
+
 python3 $compare relabel target/bin/relabel --seed "$seed" --count $relabel
 python3 $compare trials target/bin/trials --seed "$seed" --count $trials
 python3 $compare archive target/libglyph_label.so --seed "$seed" --count $archive
