@@ -1,4 +1,5 @@
 pub mod Signed
 pub mod Signs
+pub mod Places
 pub mod Puts
 pub mod Packs
