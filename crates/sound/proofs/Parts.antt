@@ -1,14 +1,16 @@
 -- Clusters and glyphs at a place of their numbers.
 -- Assumes nothing.
-use mathlib.Core.Path.{_≡_, refl, _∙_}
+use mathlib.Core.Path.{_≡_, refl, sym, _∙_}
 use mathlib.Core.Bool.{_&&_}
 use mathlib.Core.List.{List, [], _∷_}
 use Prim.Native.Nat.{ℕ, _+_, _-_, _/_, _<_, _≤_}
 use native.Mathlib.Omega.{arith}
+use borrow.Author.Tests.{eq-eqb, ne-eqb, eqb-true, eqb-false}
 use lib.Dec.{eqb}
 use lib.IntN.{ℤ, pos}
 use lib.ListN.{length, drop, length-drop}
 use Rattle.label.specs.Sound.{natural, choice, wholeClusters, wholeGlyphs, clustersOf, glyphsOf}
+use Rattle.label.proofs.Basics.{cases}
 use Rattle.words.specs.Places.{clusterAt, glyphAt, place}
 use Rattle.words.proofs.Places.{none-at, two-at, four-at}
 
@@ -44,6 +46,11 @@ whole-clusters-short (a ∷ b ∷ l) h = absurd (omega arith)
 
 -- ── at a place ──
 
+pub none-left : {A : Type 0} (l : List A) (k : ℕ) → k ≤ length l → eqb (length (drop k l)) 0 ≡ eqb k (length l)
+none-left l k h =
+    rw (length-drop)
+    (cases (eqb k (length l)) (λ e. let z = eqb-true k (length l) e in eq-eqb (length l - k) 0 (omega arith) ∙ sym e) (λ e. ne-eqb (length l - k) 0 (λ d. eqb-false k (length l) e (omega arith)) ∙ sym e))
+
 module _ (s : List ℤ) (k : ℕ) where
   left : length (drop k s) ≡ length s - k
   left = length-drop k s
@@ -66,12 +73,12 @@ module _ (s : List ℤ) (k : ℕ) where
   unfolding wholeGlyphs
   whole-glyphs-at h = rw (four-at s (pos 0) k h)
 
-  pub whole-glyphs-end : length s - k < 4 → wholeGlyphs (drop k s) ≡ eqb (length s - k) 0
-  whole-glyphs-end h = let e = left in whole-glyphs-short (drop k s) (omega arith) ∙ rw e
+  pub whole-glyphs-end : k ≤ length s → length s - k < 4 → wholeGlyphs (drop k s) ≡ eqb k (length s)
+  whole-glyphs-end b h = whole-glyphs-short (drop k s) (omega (arith, left)) ∙ none-left s k b
 
   pub whole-clusters-at : 2 ≤ length s - k → wholeClusters (drop k s) ≡ (natural (place s k) && natural (place s (k + 1)) && wholeClusters (drop (k + 2) s))
   unfolding wholeClusters
   whole-clusters-at h = rw (two-at s (pos 0) k h)
 
-  pub whole-clusters-end : length s - k < 2 → wholeClusters (drop k s) ≡ eqb (length s - k) 0
-  whole-clusters-end h = let e = left in whole-clusters-short (drop k s) (omega arith) ∙ rw e
+  pub whole-clusters-end : k ≤ length s → length s - k < 2 → wholeClusters (drop k s) ≡ eqb k (length s)
+  whole-clusters-end b h = whole-clusters-short (drop k s) (omega (arith, left)) ∙ none-left s k b
