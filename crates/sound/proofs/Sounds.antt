@@ -5,7 +5,7 @@ use mathlib.Core.Bool.{Bool, true, false, not, _&&_}
 use mathlib.Core.List.{List, [], _∷_}
 use Prim.Native.Nat.{ℕ, zero, suc, _+_, _-_, _/_, _<_, _≤_}
 use native.Mathlib.Omega.{arith}
-use borrow.Author.Tests.{eq-eqb, ne-eqb, leb-true, ltb-true, ltb-false, eqb-true, eqb-false, not-false}
+use borrow.Author.Tests.{ne-eqb, leb-true, ltb-true, ltb-false, eqb-true, not-false}
 use lib.Dec.{leb, ltb, eqb}
 use lib.IntN.{ℤ, pos, negsuc}
 use lib.ListN.{length, drop, length-drop}
@@ -21,10 +21,7 @@ use Rattle.sound.specs.Sounds.{opensAt}
 use Rattle.words.specs.Places.{clusterAt, glyphAt, place}
 use Rattle.words.proofs.Signs.{named-is}
 use Rattle.text_bytes.proofs.Units.{stops, goes}
-use Rattle.sound.proofs.Parts.{glyphs-at, glyphs-end, clusters-at, clusters-end, glyph-count}
-
-pub sub-zero-is : (n i : ℕ) → i ≤ n → eqb i n ≡ eqb (n - i) 0
-sub-zero-is n i h = cases (eqb i n) (λ e. let z = eqb-true i n e in e ∙ sym (eq-eqb (n - i) 0 (omega arith))) (λ e. e ∙ sym (ne-eqb (n - i) 0 (λ d. eqb-false i n e (omega arith))))
+use Rattle.sound.proofs.Parts.{none-left, glyphs-at, glyphs-end, clusters-at, clusters-end, glyph-count}
 
 pub and-of : {r a b a′ b′ : Bool} → r ≡ (a && b) → a ≡ a′ → b ≡ b′ → r ≡ (a′ && b′)
 and-of e p q = cc
@@ -46,7 +43,7 @@ empty-is [] = refl
 empty-is (x ∷ l) = sym (ne-eqb (suc (length l)) 0 (λ e. omega arith))
 
 pub empty-drop : {A : Type 0} (i : ℕ) (l : List A) → i ≤ length l → empty (drop i l) ≡ eqb i (length l)
-empty-drop i l h = empty-is (drop i l) ∙ rw (length-drop) (sym (sub-zero-is (length l) i h))
+empty-drop i l h = empty-is (drop i l) ∙ none-left l i h
 
 pred-suc : (n : ℕ) → suc n - 1 ≡ n
 pred-suc n = omega arith

@@ -142,7 +142,8 @@ pub fn is_sound(units: &[u16], clusters: &[i32], glyphs: &[i32]) -> bool
     if !whole_glyphs(glyphs) {
         return false;
     }
-    if !text_bytes::proper_units(units) {
+    let proper = text_bytes::proper_units(units);
+    if !proper {
         return false;
     }
     let count = glyphs.len() / 4;

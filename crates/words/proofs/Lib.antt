@@ -1,5 +1,5 @@
 pub mod Signed
 pub mod Signs
-pub mod Words
+pub mod Places
 pub mod Puts
 pub mod Packs

@@ -1,22 +1,24 @@
 -- A run's numbers packed into bytes and unpacked from them, one number a turn. Assumes nothing.
-use mathlib.Core.Path.{_≡_, refl, sym, ap, _∙_}
+use mathlib.Core.Path.{_≡_, refl, ap, _∙_}
 use mathlib.Core.List.{List, [], _∷_, _++_}
 use Prim.Native.Nat.{ℕ, suc, _+_, _-_, _*_, _/_, _%_, _<_, _≤_}
-use native.Mathlib.Nat.{add-zero, mod-eq-of-lt}
+use native.Mathlib.Nat.{mod-eq-of-lt}
 use native.Mathlib.Numerals.{add-one, add-two, add-three}
 use native.Mathlib.Omega.{arith}
 use lib.Dec.{ltb}
 use lib.IntN.{ℤ, pos, negsuc}
 use lib.ListN.{length, getD, drop, set, length-set, length-drop, drop-of-length-le}
-use lib.Seq.{sets, sets-eq, drop-cons, drop-drop, getD-drop}
+use lib.Seq.{sets, sets-eq, drop-cons}
 use lib.Signed.{mag}
 use mir.Syntax.{w32}
 use mir.Val.{ofZ, toZ}
 use Rattle.label.specs.Calls.{filled}
 use Rattle.label.specs.Wire.{fromHalves, bitsOf, fourBytes, fromWords, halves, signed, words}
 use Rattle.label.proofs.Basics.{cases}
+use Rattle.label.proofs.Wires.{length-halves, length-words}
 use Rattle.words.specs.Words.{putHalf, halfAt, putWord, wordAt, putInt, intAt}
 use Rattle.words.specs.Puts.{puts, Put}
+use Rattle.words.proofs.Places.{none-at, two-at, four-at}
 use Rattle.words.proofs.Puts.{Left, left-next, left-as, left-end, put-room}
 
 -- ── the machine's numbers are the definitions' ──
@@ -45,16 +47,6 @@ put-word l at n h =
     let m : n / 16777216 % 256 ≡ n / 16777216 = mod-eq-of-lt (omega arith) in
     record { behind = refl; is = rw (m, add-one at, add-two at, add-three at) }
 
-units-length : (us : List ℕ) → length (fromHalves us) ≡ 2 * length us
-unfolding fromHalves
-units-length [] = refl
-units-length (u ∷ us) = omega (arith, units-length us)
-
-numbers-length : (zs : List ℤ) → length (fromWords zs) ≡ 4 * length zs
-unfolding fromWords
-numbers-length [] = refl
-numbers-length (z ∷ zs) = omega (arith, numbers-length zs)
-
 packed : {old whole l rest : List ℕ} {at : ℕ} → Left old whole l 0 at rest → rest ≡ [] → length whole ≤ length old → l ≡ filled whole old
 packed f e h = put-room (left-end (left-as e f)) h
 
@@ -70,7 +62,7 @@ module _ (us : List ℕ) (i : ℕ) {old l : List ℕ} (f : Left old (fromHalves 
   pub units-all : length us ≤ i → 2 * length us ≤ length old → l ≡ filled (fromHalves us) old
   units-all h r =
       let e : fromHalves (drop i us) ≡ [] = unfold fromHalves in (rw (drop-of-length-le us h)) in
-      packed f e (omega (arith, units-length us))
+      packed f e (omega (arith, length-halves us))
 
 module _ (zs : List ℤ) (i : ℕ) {old l : List ℕ} (f : Left old (fromWords zs) l 0 (4 * i) (fromWords (drop i zs))) where
   pub numbers-packed : {z : ℤ} → i < length zs → mag (getD zs i (pos 0)) < 2147483648 → z ≡ getD zs i (pos 0)
@@ -86,7 +78,7 @@ module _ (zs : List ℤ) (i : ℕ) {old l : List ℕ} (f : Left old (fromWords z
   pub numbers-all : length zs ≤ i → 4 * length zs ≤ length old → l ≡ filled (fromWords zs) old
   numbers-all h r =
       let e : fromWords (drop i zs) ≡ [] = unfold fromWords in (rw (drop-of-length-le zs h)) in
-      packed f e (omega (arith, numbers-length zs))
+      packed f e (omega (arith, length-words zs))
 
 -- ── unpacked ──
 
@@ -112,42 +104,11 @@ laid-end {old = old} {whole = whole} f e h =
     let z : 0 + length whole ≡ length whole = omega arith in
     (rw e at (f .gives)) ∙ sets-eq whole old 0 (omega arith) ∙ ap (λ (k : ℕ). whole ++ drop k old) z
 
--- at the front
-halves-front : (s : List ℕ) → 2 ≤ length s → halves s ≡ halfAt s 0 ∷ halves (drop 2 s)
-unfolding halves halfAt
-halves-front [] h = absurd (omega arith)
-halves-front (a ∷ []) h = absurd (omega arith)
-halves-front (a ∷ b ∷ s) h = let e : a + 256 * b ≡ a + b * 256 = omega arith in rw e
-
-halves-short : (s : List ℕ) → length s < 2 → halves s ≡ []
-unfolding halves
-halves-short [] h = refl
-halves-short (a ∷ []) h = refl
-halves-short (a ∷ b ∷ s) h = absurd (omega arith)
-
 pub halves-length : (s : List ℕ) → length (halves s) ≡ length s / 2
 unfolding halves
 halves-length [] = refl
 halves-length (a ∷ []) = refl
 halves-length (a ∷ b ∷ s) = let h = halves-length s in omega arith
-
-words-front : (s : List ℕ) → 4 ≤ length s → words s ≡ intAt s 0 ∷ words (drop 4 s)
-unfolding words wordAt
-words-front [] h = absurd (omega arith)
-words-front (a ∷ []) h = absurd (omega arith)
-words-front (a ∷ b ∷ []) h = absurd (omega arith)
-words-front (a ∷ b ∷ c ∷ []) h = absurd (omega arith)
-words-front (a ∷ b ∷ c ∷ d ∷ s) h =
-    let e : a + 256 * b + 65536 * c + 16777216 * d ≡ a + b * 256 + c * 65536 + d * 16777216 = omega arith in
-    rw e (ap (λ (z : ℤ). z ∷ words s) (sym (signed-is (a + b * 256 + c * 65536 + d * 16777216))))
-
-words-short : (s : List ℕ) → length s < 4 → words s ≡ []
-unfolding words
-words-short [] h = refl
-words-short (a ∷ []) h = refl
-words-short (a ∷ b ∷ []) h = refl
-words-short (a ∷ b ∷ c ∷ []) h = refl
-words-short (a ∷ b ∷ c ∷ d ∷ s) h = absurd (omega arith)
 
 pub words-length : (s : List ℕ) → length (words s) ≡ length s / 4
 unfolding words
@@ -159,25 +120,20 @@ words-length (a ∷ b ∷ c ∷ d ∷ s) = let h = words-length s in omega arith
 
 -- at a place
 module _ (s : List ℕ) (k : ℕ) where
-  left : length (drop k s) ≡ length s - k
-  left = length-drop k s
-
-  half-place : halfAt (drop k s) 0 ≡ halfAt s k
-  unfolding halfAt
-  half-place = simp (getD-drop, add-zero)
-
-  int-place : intAt (drop k s) 0 ≡ intAt s k
-  unfolding wordAt
-  int-place = simp (getD-drop, add-zero)
-
   pub halves-at : {u : ℕ} → 2 ≤ length s - k → u ≡ halfAt s k → halves (drop k s) ≡ u ∷ halves (drop (k + 2) s)
-  halves-at h e = let l = left in rw e (halves-front (drop k s) (omega arith) ∙ rw (half-place, drop-drop))
+  unfolding halves halfAt
+  halves-at h e =
+      let m : getD s k 0 + 256 * getD s (k + 1) 0 ≡ getD s k 0 + getD s (k + 1) 0 * 256 = omega arith in
+      rw (two-at s 0 k h, e, m)
 
   pub halves-end : length s - k < 2 → halves (drop k s) ≡ []
-  halves-end h = let l = left in halves-short (drop k s) (omega arith)
+  halves-end h = none-at (halves (drop k s)) (omega (arith, halves-length (drop k s), length-drop k s))
 
   pub words-at : {v : ℤ} → 4 ≤ length s - k → v ≡ intAt s k → words (drop k s) ≡ v ∷ words (drop (k + 4) s)
-  words-at h e = let l = left in rw e (words-front (drop k s) (omega arith) ∙ rw (int-place, drop-drop))
+  unfolding words wordAt
+  words-at h e =
+      let m : getD s k 0 + 256 * getD s (k + 1) 0 + 65536 * getD s (k + 2) 0 + 16777216 * getD s (k + 3) 0 ≡ wordAt s k = omega arith in
+      rw (four-at s 0 k h, e, m, signed-is (wordAt s k))
 
   pub words-end : length s - k < 4 → words (drop k s) ≡ []
-  words-end h = let l = left in words-short (drop k s) (omega arith)
+  words-end h = none-at (words (drop k s)) (omega (arith, words-length (drop k s), length-drop k s))

@@ -15,7 +15,7 @@ puts-append l i (a ∷ x) y =
     let e : i + suc (length x) ≡ suc i + length x = omega arith in
     rw e (puts-append (set l i a) (suc i) x y)
 
-pub puts-length : (l : List ℕ) (i : ℕ) (w : List ℕ) → length (puts l i w) ≡ length l
+puts-length : (l : List ℕ) (i : ℕ) (w : List ℕ) → length (puts l i w) ≡ length l
 unfolding puts
 puts-length l i w = length-sets l i w
 
@@ -53,9 +53,6 @@ put-room {l} {n} {w} {r} f h = f .is ∙ sets-eq w l 0 (omega arith) ∙ ap (λ 
   where
     zero-plus : (k : ℕ) → 0 + k ≡ k
     zero-plus k = omega arith
-
-pub put-count : {l n w : List ℕ} {r : ℕ} → Put l 0 w r n → r ≡ length w
-put-count f = let e = f .behind in omega arith
 
 -- ── a loop: what is left to store gives the whole ──
 

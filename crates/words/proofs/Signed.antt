@@ -1,11 +1,11 @@
 -- Signed numbers of 32 bits, by their bits: `ofZ w32 v` is a plain number, which `omega` reads. Assumes nothing.
-use mathlib.Core.Path.{_≡_, refl, sym, ap, _∙_, subst⁻¹}
-use mathlib.Core.Bool.{true, false, not}
-use Prim.Native.Nat.{ℕ, zero, suc, _+_, _-_, _%_, _<_, _≤_}
+use mathlib.Core.Path.{_≡_, refl, sym, ap, _∙_}
+use mathlib.Core.Bool.{true, false}
+use Prim.Native.Nat.{ℕ, _+_, _-_, _%_, _<_, _≤_}
 use native.Mathlib.Omega.{arith}
-use borrow.Author.Tests.{ltb-true, le-ltb}
-use lib.IntN.{ℤ, pos, negsuc, negℤ, natAbs, _-ℤ_, +ℤ-idl}
-use lib.Signed.{mag, ltZ, nonNeg}
+use borrow.Author.Tests.{ltb-true}
+use lib.IntN.{ℤ, pos, negsuc, natAbs}
+use lib.Signed.{mag, ltZ}
 use lib.Bits.{bitAnd, and-mask}
 use mir.Syntax.{w32}
 use mir.Val.{SFits, ofZ, toZ}
@@ -35,10 +35,6 @@ pub bits-below : (v : ℤ) → SFits w32 v → ofZ w32 v < 4294967296
 bits-below (pos n) f = omega arith
 bits-below (negsuc n) f = omega arith
 
--- a number is known by its bits
-pub ofZ-inj : (a b : ℤ) → SFits w32 a → SFits w32 b → ofZ w32 a ≡ ofZ w32 b → a ≡ b
-ofZ-inj a b f g e = sym (toZ-ofZ f) ∙ ap (toZ w32) e ∙ toZ-ofZ g
-
 -- its size, by its bits
 pub size-low : (v : ℤ) → SFits w32 v → ofZ w32 v < 2147483648 → ofZ w32 v ≡ natAbs v
 size-low (pos n) f h = refl
@@ -47,24 +43,6 @@ size-low (negsuc n) f h = omega arith
 pub size-high : (v : ℤ) → SFits w32 v → 2147483648 ≤ ofZ w32 v → 4294967295 - ofZ w32 v + 1 ≡ natAbs v
 size-high (pos n) f h = omega arith
 size-high (negsuc n) f h = omega arith
-
-pub sign-is : (v : ℤ) → ltZ v (pos 0) ≡ not (nonNeg v)
-sign-is (pos n) = le-ltb n 0 (omega arith)
-sign-is (negsuc n) = refl
-
-pub neg-fits : (x : ℕ) → x ≤ 2147483648 → SFits w32 (negℤ (pos x))
-neg-fits zero h = record { sfits = omega arith }
-neg-fits (suc n) h = record { sfits = omega arith }
-
--- the machine's `-(x as i32)`
-pub minus-is : (x : ℕ) → x < 2147483648 → pos 0 -ℤ toZ w32 x ≡ negℤ (pos x)
-minus-is x h = ap (λ (z : ℤ). pos 0 -ℤ z) (toZ-pos w32 h) ∙ +ℤ-idl (negℤ (pos x))
-
-pub minus-fits : (x : ℕ) → x < 2147483648 → SFits w32 (pos 0 -ℤ toZ w32 x)
-minus-fits x h = subst⁻¹ (SFits w32) (minus-is x h) (neg-fits x (omega arith))
-
-pub minus-back : (x : ℕ) → x < 2147483648 → toZ w32 (ofZ w32 (pos 0 -ℤ toZ w32 x)) ≡ negℤ (pos x)
-minus-back x h = toZ-ofZ (minus-fits x h) ∙ minus-is x h
 
 -- the round trip that a signed argument, store or test shows
 pub back : (z : ℤ) → mag z < 2147483648 → toZ w32 (ofZ w32 z) ≡ z

@@ -10,7 +10,7 @@ use mir.Syntax.{w32}
 use mir.Val.{ofZ, toZ}
 use Rattle.words.proofs.Signed.{back}
 use Rattle.label.specs.Run.{named}
-use Rattle.label.specs.Sound.{natural, choice, nat, size, indexFits, advanceFits, numberIndex, numberAdvance}
+use Rattle.label.specs.Sound.{natural, choice, nat, size, numberIndex}
 
 natural-by : (z : ℤ) → leZ (pos 0) z ≡ natural z
 natural-by (pos n) = le-leb 0 n (omega arith)
@@ -20,14 +20,6 @@ choice-by : (z : ℤ) → leZ (negsuc 0) z ≡ choice z
 choice-by (pos n) = refl
 choice-by (negsuc zero) = refl
 choice-by (negsuc (suc n)) = lt-leb (suc n) 0 (omega arith) ∙ sym (ne-eqb (suc n) 0 (λ e. omega arith))
-
-index-by : (z : ℤ) → leZ z (pos 65535) ≡ indexFits (numberIndex z)
-index-by (pos n) = refl
-index-by (negsuc n) = refl
-
-advance-by : (z : ℤ) → leZ z (pos 1000000000) ≡ advanceFits (numberAdvance z)
-advance-by (pos n) = refl
-advance-by (negsuc n) = refl
 
 size-by : (z : ℤ) → natAbs z ≡ size z
 size-by (pos n) = refl
@@ -39,12 +31,6 @@ module _ (z : ℤ) (h : mag z < 2147483648) where
 
   pub choice-is : leZ (negsuc 0) (toZ w32 (ofZ w32 z)) ≡ choice z
   choice-is = rw (back z h) (choice-by z)
-
-  pub index-is : leZ (toZ w32 (ofZ w32 z)) (pos 65535) ≡ indexFits (numberIndex z)
-  index-is = rw (back z h) (index-by z)
-
-  pub advance-is : leZ (toZ w32 (ofZ w32 z)) (pos 1000000000) ≡ advanceFits (numberAdvance z)
-  advance-is = rw (back z h) (advance-by z)
 
   pub size-is : natAbs (toZ w32 (ofZ w32 z)) ≡ size z
   size-is = rw (back z h) (size-by z)

@@ -46,7 +46,7 @@ pub fn less_one(n: usize) -> usize
 // ── signed numbers, by their bits ──
 
 // The 32 bits of v, as a number: two's complement. The low 31 by a mask, which is never negative, and the sign's.
-pub fn bits(v: i32) -> u32
+fn bits(v: i32) -> u32
     ensures { λ r. ⌜ r ≡ ofZ w32 v ⌝ }
 {
     let low = (v & 0x7fff_ffff) as u32;
@@ -54,7 +54,7 @@ pub fn bits(v: i32) -> u32
 }
 
 // The number whose bits are n.
-pub fn of_bits(n: u32) -> i32
+fn of_bits(n: u32) -> i32
     ensures { λ r. ⌜ r ≡ toZ w32 n ⌝ }
 {
     if n < 0x8000_0000 {
@@ -118,7 +118,7 @@ pub fn wide(b: u8) -> u32
     b as u32
 }
 
-pub fn put_u32(buf: &mut [u8], at: usize, n: u32)
+fn put_u32(buf: &mut [u8], at: usize, n: u32)
     requires { ⌜ at + 3 < length (now buf) ⌝ }
     ensures { λ _. ⌜ now (buf .exit) ≡ putWord (now (buf .entry)) at n ⌝ }
 {
@@ -128,7 +128,7 @@ pub fn put_u32(buf: &mut [u8], at: usize, n: u32)
     buf[at + 3] = (n >> 24 & 0xff) as u8;
 }
 
-pub fn get_u32(buf: &[u8], at: usize) -> u32
+fn get_u32(buf: &[u8], at: usize) -> u32
     requires { ⌜ at + 3 < length (now buf) ⌝ }
     ensures { λ r. ⌜ r ≡ wordAt (now (buf .entry)) at ⌝ }
 {
@@ -139,14 +139,14 @@ pub fn get_u32(buf: &[u8], at: usize) -> u32
     b0 + b1 * 256 + b2 * 65536 + b3 * 16777216
 }
 
-pub fn put_i32(buf: &mut [u8], at: usize, v: i32)
+fn put_i32(buf: &mut [u8], at: usize, v: i32)
     requires { ⌜ at + 3 < length (now buf) ⌝ }
     ensures { λ _. ⌜ now (buf .exit) ≡ putInt (now (buf .entry)) at v ⌝ }
 {
     put_u32(buf, at, bits(v));
 }
 
-pub fn get_i32(buf: &[u8], at: usize) -> i32
+fn get_i32(buf: &[u8], at: usize) -> i32
     requires { ⌜ at + 3 < length (now buf) ⌝ }
     ensures { λ r. ⌜ r ≡ intAt (now (buf .entry)) at ⌝ }
 {
@@ -154,13 +154,13 @@ pub fn get_i32(buf: &[u8], at: usize) -> i32
 }
 
 // A byte as half of a 16-bit number.
-pub fn half(b: u8) -> u16
+fn half(b: u8) -> u16
     ensures { λ r. ⌜ (r ≡ b) × (r < 256) ⌝ }
 {
     b as u16
 }
 
-pub fn put_u16(buf: &mut [u8], at: usize, n: u16)
+fn put_u16(buf: &mut [u8], at: usize, n: u16)
     requires { ⌜ at + 1 < length (now buf) ⌝ }
     ensures { λ _. ⌜ now (buf .exit) ≡ putHalf (now (buf .entry)) at n ⌝ }
 {
@@ -168,7 +168,7 @@ pub fn put_u16(buf: &mut [u8], at: usize, n: u16)
     buf[at + 1] = (n >> 8) as u8;
 }
 
-pub fn get_u16(buf: &[u8], at: usize) -> u16
+fn get_u16(buf: &[u8], at: usize) -> u16
     requires { ⌜ at + 1 < length (now buf) ⌝ }
     ensures { λ r. ⌜ r ≡ halfAt (now (buf .entry)) at ⌝ }
 {

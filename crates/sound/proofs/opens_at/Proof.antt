@@ -11,7 +11,7 @@ both-requires-2 c κs = search needs
 
 returns : tie.Need-returns
 unfolding opensAt
-returns c = cc
+returns c = rw (c .both2 .ensures, c .before .both .ensures, c .before .before .if1 .taken)
 
 both-requires-3 : tie.Need-both-requires-3
 both-requires-3 c κs = search needs

@@ -5,7 +5,7 @@ use lib.ListN.{length, drop}
 use Rattle.label.specs.Sound.{wholeClusters}
 use Rattle.sound.proofs.Parts.{whole-clusters-at, whole-clusters-end}
 use Rattle.text_bytes.proofs.Units.{stops, goes}
-use Rattle.sound.proofs.Sounds.{and-of, sub-zero-is}
+use Rattle.sound.proofs.Sounds.{and-of}
 use native.Mathlib.Omega.{arith}
 use Rattle.sound.proofs.whole_clusters.Statement.{statement}
 use Rattle.sound.proofs.whole_clusters.Tie as tie
@@ -51,9 +51,7 @@ loop-again c =
     (omega arith, goes _ _ (c .before .before .before .before .before .loop .inv .1) (whole-clusters-at s (c .before .before .before .before .before .loop .i) (c .before .before .before .before .loop-test .taken)) (and-of (c .before .both .ensures) (c .before .before .before .natural-at .ensures) (c .before .before .natural-at2 .ensures)) (c .if1 .left))
 
 returns-2 : tie.Need-returns-2 Inv-loop μ-loop
-returns-2 c =
-    let s = c .before .before .args .s .now in
-    sub-zero-is (length s) (c .before .loop .i) (c .before .loop .inv .0) ∙ sym (c .before .loop .inv .1 ∙ whole-clusters-end s (c .before .loop .i) (c .loop-test .left))
+returns-2 c = sym (c .before .loop .inv .1 ∙ whole-clusters-end _ _ (c .before .loop .inv .0) (c .loop-test .left))
 
 pub whole-clusters-spec : {M : Type 1} → statement M
 whole-clusters-spec =

@@ -5,7 +5,7 @@ use lib.ListN.{length, drop}
 use Rattle.label.specs.Sound.{wholeGlyphs}
 use Rattle.sound.proofs.Parts.{whole-glyphs-at, whole-glyphs-end}
 use Rattle.text_bytes.proofs.Units.{stops, goes}
-use Rattle.sound.proofs.Sounds.{and-of, sub-zero-is}
+use Rattle.sound.proofs.Sounds.{and-of}
 use native.Mathlib.Omega.{arith}
 use Rattle.sound.proofs.whole_glyphs.Statement.{statement}
 use Rattle.sound.proofs.whole_glyphs.Tie as tie
@@ -51,9 +51,7 @@ loop-again c =
     (omega arith, goes _ _ (c .before .before .before .before .before .loop .inv .1) (whole-glyphs-at s (c .before .before .before .before .before .loop .k) (c .before .before .before .before .loop-test .taken)) (and-of (c .before .both .ensures) (c .before .before .before .choice-at .ensures) (c .before .before .choice-at2 .ensures)) (c .if1 .left))
 
 returns-2 : tie.Need-returns-2 Inv-loop μ-loop
-returns-2 c =
-    let s = c .before .before .args .s .now in
-    sub-zero-is (length s) (c .before .loop .k) (c .before .loop .inv .0) ∙ sym (c .before .loop .inv .1 ∙ whole-glyphs-end s (c .before .loop .k) (c .loop-test .left))
+returns-2 c = sym (c .before .loop .inv .1 ∙ whole-glyphs-end _ _ (c .before .loop .inv .0) (c .loop-test .left))
 
 pub whole-glyphs-spec : {M : Type 1} → statement M
 whole-glyphs-spec =
