@@ -1,7 +1,8 @@
 // The text of a label: UTF-8 by the rows of Unicode's Table 3-7 to code units, XML 1.0's Char, and the moves over a text that the reader makes.
 ghost use mathlib.Core.Path.{_≡_};
-ghost use mathlib.Core.Bool.{true, false, cond};
+ghost use mathlib.Core.Bool.{true, cond, _&&_};
 ghost use Prim.Native.Nat.{_+_, _-_, _*_, _/_, _%_, _≤_, _<_};
+ghost use lib.Dec.{ltb};
 ghost use lib.ListN.{length, getD, drop};
 ghost use lib.Seq.{sets};
 ghost use Rattle.label.specs.Limits.{maxTextBytes};
@@ -408,10 +409,11 @@ pub fn move_past(s: &[u8], at: usize, count: usize) -> Moved
     Moved::To(b)
 }
 
-// Whether a character of one byte stands at byte place `at`: a move past one unit then ends behind that byte.
+// Whether a character of U+0020 to U+007F stands at byte place `at`: a move past one unit then ends behind that byte.
 pub fn is_plain(s: &[u8], at: usize) -> bool
     requires { ⌜ decode 0 at (drop at (now s)) ≡ ok (unitsFrom (now s) at) ⌝ }
-    ensures { λ r. ⌜ (r ≡ true → (at < length (now (s .entry))) × Moves (now (s .entry)) at 1 (To (at + 1))) ⌝ }
+    ensures { λ r. ⌜ r ≡ (ltb at (length (now (s .entry))) && within 32 127 (getD (now (s .entry)) at 0)) ⌝ }
+    ensures moves { λ r. ⌜ (r ≡ true → (at < length (now (s .entry))) × Moves (now (s .entry)) at 1 (To (at + 1))) ⌝ }
 {
     if s.len() <= at {
         return false;
