@@ -1,3 +1,4 @@
+-- `text::count_units` meets its contract. Assumes nothing.
 use Rattle.text.specs.Chars.{charAt}
 use Rattle.text.specs.declared.Char.the-variants.{Good, Ill, Outside}
 use Prim.Native.Nat.{_≤_, _-_, _*_}
@@ -8,9 +9,6 @@ use lib.ListN.{length}
 use Rattle.text.proofs.Chars.{Reached, char-plain, plain-small, reached-start, reached-inside, reached-one, reached-two, reached-ill, reached-outside, reached-end}
 use Rattle.text.proofs.count_units.Statement.{statement}
 use Rattle.text.proofs.count_units.Tie as tie
-use Rattle.text.proofs.count_units.Reads as reads
-use Rattle.text.proofs.count_units.Lts as lts
-use Rattle.text.proofs.char_at.Reads as char-at-reads
 
 abbrev Inv-loop : tie.InvT-loop
 Inv-loop s i₀ n₀ i n = (i ≤ length s) × (n ≤ 2 * i) × Reached s i n

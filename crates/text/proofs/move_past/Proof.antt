@@ -1,3 +1,4 @@
+-- `text::move_past` meets its contract. Assumes nothing.
 use Prim.Native.Nat.{_-_}
 use native.Mathlib.Omega.{arith}
 use mathlib.Core.Path.{_≡_, sym, _∙_}
@@ -9,9 +10,6 @@ use Rattle.text.proofs.Chars.{char-plain, plain-small, reached-inside}
 use Rattle.text.proofs.Moves.{Left, left-start, left-one, left-two, left-half, left-past, left-done, left-no-ill, left-no-outside}
 use Rattle.text.proofs.move_past.Statement.{statement}
 use Rattle.text.proofs.move_past.Tie as tie
-use Rattle.text.proofs.move_past.Reads as reads
-use Rattle.text.proofs.move_past.Lts as lts
-use Rattle.text.proofs.char_at.Reads as char-at-reads
 
 abbrev Inv-loop : tie.InvT-loop
 Inv-loop s at count b₀ a₀ b a = Left s at count b a
