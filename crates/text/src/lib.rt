@@ -218,6 +218,14 @@ pub enum Counted {
     Refused(usize, usize),
 }
 
+// How many units a character is.
+fn unit_count(code: u32) -> usize
+    ensures { λ r. ⌜ r ≡ length (unitsOf code) ⌝ }
+    ensures bounds { λ r. ⌜ (1 ≤ r) × (r ≤ 2) ⌝ }
+{
+    if code <= 65535 { 1 } else { 2 }
+}
+
 // How many units the text has, `{}` included, or 2 or 3 with its place.
 fn count_units(s: &[u8]) -> Counted
     requires { ⌜ length (now s) ≤ maxTextBytes ⌝ }
@@ -232,11 +240,7 @@ fn count_units(s: &[u8]) -> Counted
         } else {
             match char_at(s, i) {
                 Char::Good { code, next } => {
-                    if code <= 65535 {
-                        n += 1;
-                    } else {
-                        n += 2;
-                    }
+                    n += unit_count(code);
                     i = next;
                 }
                 Char::Ill => {
@@ -387,14 +391,11 @@ pub fn move_past(s: &[u8], at: usize, count: usize) -> Moved
         } else {
             match char_at(s, b) {
                 Char::Good { code, next } => {
-                    if code <= 65535 {
-                        a -= 1;
-                    } else {
-                        if a == 1 {
-                            return Moved::Half;
-                        }
-                        a -= 2;
+                    let n = unit_count(code);
+                    if a < n {
+                        return Moved::Half;
                     }
+                    a -= n;
                     b = next;
                 }
                 Char::Ill => {
