@@ -119,7 +119,7 @@ fn take_entry(text: &[u8], bare: bool, c: label::Cursor, x: entry::Item) -> Turn
     Turn::Took(advance(c, c.byte, 0, x.glyphs, place))
 }
 
-// The entry where the walk stands: 7 to 13. An index alone at a character of one byte, where no cluster is open, is taken without more reading.
+// The entry where the walk stands: 7 to 13. An index alone at a character of U+0020 to U+007F, where a cluster may open, is taken without more reading.
 fn survey_entry(text: &[u8], indices: &[u8], bare: bool, c: label::Cursor) -> Turn
     requires { ⌜ decode 0 (c .byte) (drop (c .byte) (now text)) ≡ ok (unitsFrom (now text) (c .byte)) ⌝ }
     requires bounds { ⌜ (c .unit + length (unitsFrom (now text) (c .byte)) ≤ maxUnits) × (c .entry ≤ c .place) × (c .clusters ≤ c .entry) × (c .place ≤ length (now indices)) × (length (now indices) ≤ maxIndicesBytes) ⌝ }

@@ -168,9 +168,6 @@ char-plain s i h =
     let k : getD s i 0 ≤ 127 = within-hi 32 127 (getD s i 0) h in
     sym (char-one s i (rw (xml-mid (getD s i 0) l (omega arith))) (omega arith))
 
-pub plain-small : (s : List ℕ) (i : ℕ) → within 32 127 (getD s i 0) ≡ true → getD s i 0 ≤ 65535
-plain-small s i h = let k : getD s i 0 ≤ 127 = within-hi 32 127 (getD s i 0) h in omega arith
-
 pub char-plain-as : (s : List ℕ) (i c : ℕ) → c ≡ getD s i 0 → within 32 127 (getD s i 0) ≡ true → charAt s i ≡ Good c (i + 1)
 char-plain-as s i c e h = rw e (char-plain s i h)
 
@@ -276,15 +273,16 @@ reached-inside s i c j l h =
     let m : b .more ≤ length s - suc i = rw length-drop at (trail-inside (b .more) (b .lo) (b .hi) (drop (suc i) s) t) in
     (omega (arith, g .next), omega (arith, g .next))
 
-unfoldable pub reached-next : (s : List ℕ) (i n c j : ℕ) → i < length s → Reached s i n → charAt s i ≡ Good c j → Reached s j (n + length (unitsOf c))
-reached-next s i n c j l r h =
+-- past a character of k units
+unfoldable pub reached-next : (s : List ℕ) (i n k c j : ℕ) → i < length s → Reached s i n → charAt s i ≡ Good c j → k ≡ length (unitsOf c) → Reached s j (n + k)
+reached-next s i n k c j l r h e =
     let g : GoodAt s i c j = char-is-good s i c j h in
     let d : decode 0 i (drop i s) ≡ onto (unitsOf c) (decode 0 j (drop j s)) =
     rw (g .code, g .next) (decode-good s i l (g .start) (rw (g .code) at (g .xml))) in
     record {
       us = r .us ++ unitsOf c;
       so-far = sym (onto-onto (r .us) (unitsOf c) (decode 0 j (drop j s))) ∙ rw (← d) (r .so-far);
-      count = rw (length-append, r .count);
+      count = rw (length-append, r .count, e);
     }
 
 pub one-is : (c : ℕ) → c ≤ 65535 → unitsOf c ≡ c ∷ []
@@ -295,11 +293,9 @@ pub two-are : (c : ℕ) → 65535 < c → unitsOf c ≡ (55296 + (c - 65536) / 1
 unfolding unitsOf
 two-are c h = rw (lt-leb c 65535 h)
 
-pub reached-one : (s : List ℕ) (i n c j : ℕ) → i < length s → Reached s i n → charAt s i ≡ Good c j → c ≤ 65535 → Reached s j (n + 1)
-reached-one s i n c j l r h k = rw (one-is c k) at (reached-next s i n c j l r h)
-
-pub reached-two : (s : List ℕ) (i n c j : ℕ) → i < length s → Reached s i n → charAt s i ≡ Good c j → 65535 < c → Reached s j (n + 2)
-reached-two s i n c j l r h k = rw (two-are c k) at (reached-next s i n c j l r h)
+-- a byte from space to 127 is one unit
+pub plain-one : (b : ℕ) → within 32 127 b ≡ true → 1 ≡ length (unitsOf b)
+plain-one b h = let k : b ≤ 127 = within-hi 32 127 b h in sym (ap length (one-is b (omega arith)))
 
 pub reached-ill : (s : List ℕ) (i n : ℕ) → i < length s → Reached s i n → charAt s i ≡ Ill → Refused 2 i ≡ counted (decode 0 0 s)
 reached-ill s i n l r h = ap counted (sym (ap (λ (o : Outcome (List ℕ)). onto (r .us) o) (decode-ill s i l (char-is-ill s i h))) ∙ r .so-far)

@@ -1,7 +1,8 @@
 // The text of a label: UTF-8 by the rows of Unicode's Table 3-7 to code units, XML 1.0's Char, and the moves over a text that the reader makes.
 ghost use mathlib.Core.Path.{_≡_};
-ghost use mathlib.Core.Bool.{true, false, cond};
+ghost use mathlib.Core.Bool.{true, cond, _&&_};
 ghost use Prim.Native.Nat.{_+_, _-_, _*_, _/_, _%_, _≤_, _<_};
+ghost use lib.Dec.{ltb};
 ghost use lib.ListN.{length, getD, drop};
 ghost use lib.Seq.{sets};
 ghost use Rattle.label.specs.Limits.{maxTextBytes};
@@ -217,6 +218,14 @@ pub enum Counted {
     Refused(usize, usize),
 }
 
+// How many units a character is.
+fn unit_count(code: u32) -> usize
+    ensures { λ r. ⌜ r ≡ length (unitsOf code) ⌝ }
+    ensures bounds { λ r. ⌜ (1 ≤ r) × (r ≤ 2) ⌝ }
+{
+    if code <= 65535 { 1 } else { 2 }
+}
+
 // How many units the text has, `{}` included, or 2 or 3 with its place.
 fn count_units(s: &[u8]) -> Counted
     requires { ⌜ length (now s) ≤ maxTextBytes ⌝ }
@@ -231,11 +240,7 @@ fn count_units(s: &[u8]) -> Counted
         } else {
             match char_at(s, i) {
                 Char::Good { code, next } => {
-                    if code <= 65535 {
-                        n += 1;
-                    } else {
-                        n += 2;
-                    }
+                    n += unit_count(code);
                     i = next;
                 }
                 Char::Ill => {
@@ -386,14 +391,11 @@ pub fn move_past(s: &[u8], at: usize, count: usize) -> Moved
         } else {
             match char_at(s, b) {
                 Char::Good { code, next } => {
-                    if code <= 65535 {
-                        a -= 1;
-                    } else {
-                        if a == 1 {
-                            return Moved::Half;
-                        }
-                        a -= 2;
+                    let n = unit_count(code);
+                    if a < n {
+                        return Moved::Half;
                     }
+                    a -= n;
                     b = next;
                 }
                 Char::Ill => {
@@ -408,10 +410,11 @@ pub fn move_past(s: &[u8], at: usize, count: usize) -> Moved
     Moved::To(b)
 }
 
-// Whether a character of one byte stands at byte place `at`: a move past one unit then ends behind that byte.
+// Whether a character of U+0020 to U+007F stands at byte place `at`: a move past one unit then ends behind that byte.
 pub fn is_plain(s: &[u8], at: usize) -> bool
     requires { ⌜ decode 0 at (drop at (now s)) ≡ ok (unitsFrom (now s) at) ⌝ }
-    ensures { λ r. ⌜ (r ≡ true → (at < length (now (s .entry))) × Moves (now (s .entry)) at 1 (To (at + 1))) ⌝ }
+    ensures { λ r. ⌜ r ≡ (ltb at (length (now (s .entry))) && within 32 127 (getD (now (s .entry)) at 0)) ⌝ }
+    ensures moves { λ r. ⌜ (r ≡ true → (at < length (now (s .entry))) × Moves (now (s .entry)) at 1 (To (at + 1))) ⌝ }
 {
     if s.len() <= at {
         return false;

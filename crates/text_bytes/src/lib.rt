@@ -1,7 +1,7 @@
 // The code units of a run: whether they are those of a text, and the text's bytes in UTF-8.
 ghost use mathlib.Core.Path.{_≡_};
 ghost use mathlib.Core.Bool.{false};
-ghost use Prim.Native.Nat.{_+_, _-_, _*_, _/_, _%_, _≤_, _<_};
+ghost use Prim.Native.Nat.{_+_, _-_, _%_, _≤_, _<_};
 ghost use lib.ListN.{length, getD};
 ghost use Rattle.label.specs.Text.{isHigh, isLow};
 ghost use Rattle.label.specs.Sound.{properUnits};

@@ -1,8 +1,7 @@
+-- `lines::answer` meets its contract. Assumes nothing.
 use borrow.Author.Needs.{needs}
 use Rattle.lines.proofs.answer.Statement.{statement}
 use Rattle.lines.proofs.answer.Tie as tie
-use Rattle.lines.proofs.answer.Reads as reads
-use Rattle.lines.proofs.answer.Lts as lts
 
 enum-known-w : tie.Need-enum-known-w
 enum-known-w c = search needs

@@ -1,3 +1,4 @@
+-- `lines::line_end` meets its contract. Assumes nothing.
 use Rattle.lines.proofs.Ends.{end-here, end-next, end-last}
 use Rattle.lines.specs.Lines.{lineEnd}
 use lib.ListN.{length}
@@ -7,8 +8,6 @@ use native.Mathlib.Omega.{arith}
 use Prim.Native.Nat.{_-_, _≤_}
 use Rattle.lines.proofs.line_end.Statement.{statement}
 use Rattle.lines.proofs.line_end.Tie as tie
-use Rattle.lines.proofs.line_end.Reads as reads
-use Rattle.lines.proofs.line_end.Lts as lts
 
 abbrev Inv-loop : tie.InvT-loop
 Inv-loop s from i₀ i = (from ≤ i) × (i ≤ length s) × (lineEnd s i ≡ lineEnd s from)

@@ -1,11 +1,10 @@
+-- `lines::next_line` meets its contract. Assumes nothing.
 use Rattle.lines.specs.Lines.{lineBehind}
 use borrow.Author.Tests.{lt-ltb, le-ltb}
 use native.Mathlib.Omega.{arith}
 use borrow.Author.Needs.{needs}
 use Rattle.lines.proofs.next_line.Statement.{statement}
 use Rattle.lines.proofs.next_line.Tie as tie
-use Rattle.lines.proofs.next_line.Reads as reads
-use Rattle.lines.proofs.next_line.Lts as lts
 
 add-result : tie.Need-add-result
 add-result c = search needs

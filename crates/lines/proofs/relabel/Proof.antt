@@ -1,11 +1,9 @@
+-- `lines::relabel` meets its contract. Assumes nothing.
 use Rattle.lines.proofs.Relabels.{long-line}
 use mathlib.Core.Path.{refl}
 use borrow.Author.Needs.{needs}
 use Rattle.lines.proofs.relabel.Statement.{statement}
 use Rattle.lines.proofs.relabel.Tie as tie
-use Rattle.lines.proofs.relabel.Reads as reads
-use Rattle.lines.proofs.relabel.Lts as lts
-use Rattle.lines.proofs.relabel_in.Reads as relabel-in-reads
 
 returns : tie.Need-returns
 returns c = rw (← long-line (c .before .before .before .before .before .args .text .now) (c .before .before .before .before .before .args .indices .now) (c .if1 .taken)) (refl, (refl, refl))

@@ -1,3 +1,4 @@
+-- `lines::relabel_in` meets its contract. Assumes nothing.
 use Rattle.lines.proofs.Relabels.{line-refused, line-room, line-written}
 use Rattle.label.specs.Calls.{readingOutcome}
 use mathlib.Core.Path.{sym, _∙_, ap}
@@ -5,10 +6,6 @@ use mathlib.Core.List.{[]}
 use borrow.Author.Needs.{needs}
 use Rattle.lines.proofs.relabel_in.Statement.{statement}
 use Rattle.lines.proofs.relabel_in.Tie as tie
-use Rattle.lines.proofs.relabel_in.Reads as reads
-use Rattle.lines.proofs.relabel_in.Lts as lts
-use Rattle.lines.proofs.write_places.Reads as write-places-reads
-use Rattle.reader.proofs.read.Reads as read-reads
 
 read-requires : tie.Need-read-requires
 read-requires c κs = search needs

@@ -1,12 +1,9 @@
+-- `lines::two_lines` meets its contract. Assumes nothing.
 use Rattle.lines.specs.Lines.{twoLines}
 use native.Mathlib.Omega.{arith}
 use borrow.Author.Needs.{needs}
 use Rattle.lines.proofs.two_lines.Statement.{statement}
 use Rattle.lines.proofs.two_lines.Tie as tie
-use Rattle.lines.proofs.two_lines.Reads as reads
-use Rattle.lines.proofs.two_lines.Lts as lts
-use Rattle.lines.proofs.line_end.Reads as line-end-reads
-use Rattle.lines.proofs.next_line.Reads as next-line-reads
 
 line-end-requires : tie.Need-line-end-requires
 line-end-requires c κs = search needs

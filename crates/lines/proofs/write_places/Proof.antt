@@ -1,13 +1,10 @@
+-- `lines::write_places` meets its contract. Assumes nothing.
 use Rattle.lines.specs.Lines.{answered}
 use lib.Seq.{length-take-le}
 use mathlib.Core.Path.{sym, _∙_, ap}
 use borrow.Author.Needs.{needs}
 use Rattle.lines.proofs.write_places.Statement.{statement}
 use Rattle.lines.proofs.write_places.Tie as tie
-use Rattle.lines.proofs.write_places.Reads as reads
-use Rattle.lines.proofs.write_places.Lts as lts
-use Rattle.lines.proofs.answer.Reads as answer-reads
-use Rattle.writer.proofs.write.Reads as write-reads
 
 mul-c : tie.Need-mul-c
 mul-c c = search needs

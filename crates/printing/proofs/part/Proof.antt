@@ -1,10 +1,9 @@
+-- `printing::part` meets its contract. Assumes nothing.
 use lib.Seq.{length-take-le}
 use mathlib.Core.Path.{sym}
 use borrow.Author.Needs.{needs}
 use Rattle.printing.proofs.part.Statement.{statement}
 use Rattle.printing.proofs.part.Tie as tie
-use Rattle.printing.proofs.part.Reads as reads
-use Rattle.printing.proofs.part.Lts as lts
 
 slice-aggregate-result : tie.Need-slice-aggregate-result
 slice-aggregate-result c = sym (length-take-le _ _ (c .before .if1 .taken))

@@ -28,7 +28,7 @@ both-requires-3 c κs = search needs
 add-advance : tie.Need-add-advance
 add-advance c =
     let q = plain-is (c .before .before .before .before .before .both .result) (c .before .before .before .before .is-plain .result) (c .before .before .is-index .result) (c .before .before .before .both2 .ensures) (c .before .both3 .ensures) (c .if1 .taken) in
-    let m = c .before .before .before .before .is-plain .ensures (q .1) in record { fits = omega (arith, m .0) }
+    let m = c .before .before .before .before .is-plain .ensures .1 (q .1) in record { fits = omega (arith, m .0) }
 
 add-advance-2 : tie.Need-add-advance-2
 add-advance-2 c = search needs
@@ -40,7 +40,7 @@ advance-requires : tie.Need-advance-requires
 advance-requires c κs =
     let a = c .before .before .before .before .before .before .before .before .before .before .before in
     let q = plain-is (c .before .before .before .before .before .before .both .result) (c .before .before .before .before .before .is-plain .result) (c .before .before .before .is-index .result) (c .before .before .before .before .both2 .ensures) (c .before .before .both3 .ensures) (c .before .if1 .taken) in
-    let m = c .before .before .before .before .before .is-plain .ensures (q .1) in
+    let m = c .before .before .before .before .before .is-plain .ensures .1 (q .1) in
     let n = moves-fit (a .args .text .now) (a .args .c) 1 0 0 _ _ (m .1) refl in
     (omega (arith, a .pre .1 .1, a .pre .1 .3, a .pre .1 .4), omega (arith, n, a .pre .1 .0), a .pre .1 .2)
 
@@ -48,7 +48,7 @@ returns : tie.Need-returns
 returns c =
     let a = c .before .before .before .before .before .before .before .before .before .before .before .before in
     let q = plain-is (c .before .before .before .before .before .before .before .both .result) (c .before .before .before .before .before .before .is-plain .result) (c .before .before .before .before .is-index .result) (c .before .before .before .before .before .both2 .ensures) (c .before .before .before .both3 .ensures) (c .before .before .if1 .taken) in
-    let m = c .before .before .before .before .before .before .is-plain .ensures (q .1) in
+    let m = c .before .before .before .before .before .before .is-plain .ensures .1 (q .1) in
     let i = c .before .before .before .before .is-index .ensures .1 (q .2) in
     steps-read _ _ _ _ _ _ (i .1 (a .args .c .entry)) (turn-plain _ _ _ _ _ (sym (c .before .before .before .before .before .before .before .both .ensures) ∙ q .0) (m .1) (c .advance .ensures))
 

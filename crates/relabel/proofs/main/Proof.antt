@@ -1,14 +1,9 @@
+-- `relabel::main` meets its contract. Assumes nothing.
 use lib.Seq.{length-take-le}
 use mathlib.Core.Path.{sym}
 use borrow.Author.Needs.{needs}
 use Rattle.relabel.proofs.main.Statement.{statement}
 use Rattle.relabel.proofs.main.Tie as tie
-use Rattle.relabel.proofs.main.Reads as reads
-use Rattle.relabel.proofs.main.Lts as lts
-use Rattle.io.proofs.large_buffer.Reads as large-buffer-reads
-use Rattle.io.proofs.read_full.Reads as read-full-reads
-use Rattle.lines.proofs.two_lines.Reads as two-lines-reads
-use Rattle.printing.proofs.print_label.Reads as print-label-reads
 
 large-buffer-requires : tie.Need-large-buffer-requires
 large-buffer-requires c κs = search needs

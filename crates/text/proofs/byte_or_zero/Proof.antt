@@ -1,11 +1,10 @@
+-- `text::byte_or_zero` meets its contract. Assumes nothing.
 use mathlib.Core.Path.{sym}
 use denote.Ref.{now}
 use lib.ListN.{List·getD-eq-default}
 use borrow.Author.Needs.{needs}
 use Rattle.text.proofs.byte_or_zero.Statement.{statement}
 use Rattle.text.proofs.byte_or_zero.Tie as tie
-use Rattle.text.proofs.byte_or_zero.Reads as reads
-use Rattle.text.proofs.byte_or_zero.Lts as lts
 
 shared-slice-read-result : tie.Need-shared-slice-read-result
 shared-slice-read-result c = search needs

@@ -1,3 +1,4 @@
+-- `text::char_at` meets its contract. Assumes nothing.
 use Rattle.text.proofs.Chars.{char-one, char-unfit, char-cut, char-good, char-outside, trail-fits}
 use native.Mathlib.Omega.{arith}
 use borrow.Author.Tests.{not-true, not-false}
@@ -5,13 +6,6 @@ use mathlib.Core.Path.{sym, _∙_}
 use borrow.Author.Needs.{needs}
 use Rattle.text.proofs.char_at.Statement.{statement}
 use Rattle.text.proofs.char_at.Tie as tie
-use Rattle.text.proofs.char_at.Reads as reads
-use Rattle.text.proofs.char_at.Lts as lts
-use Rattle.text.proofs.follows.Reads as follows-reads
-use Rattle.text.proofs.is_xml.Reads as is-xml-reads
-use Rattle.text.proofs.one_byte.Reads as one-byte-reads
-use Rattle.text.proofs.row_of.Reads as row-of-reads
-use Rattle.text.proofs.scalar_at.Reads as scalar-at-reads
 
 shared-slice-read-if1 : tie.Need-shared-slice-read-if1
 shared-slice-read-if1 c = search needs

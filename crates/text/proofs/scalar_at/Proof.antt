@@ -1,13 +1,10 @@
+-- `text::scalar_at` meets its contract. Assumes nothing.
 use Rattle.text.proofs.Chars.{scalar-one, scalar-two, scalar-three, scalar-four}
 use lib.Bits.{mask-lt}
 use native.Mathlib.Omega.{arith}
 use borrow.Author.Needs.{needs}
 use Rattle.text.proofs.scalar_at.Statement.{statement}
 use Rattle.text.proofs.scalar_at.Tie as tie
-use Rattle.text.proofs.scalar_at.Reads as reads
-use Rattle.text.proofs.scalar_at.Lts as lts
-use Rattle.text.proofs.with_six.Reads as with-six-reads
-use Rattle.words.proofs.wide.Reads as wide-reads
 
 shared-slice-read-wide : tie.Need-shared-slice-read-wide
 shared-slice-read-wide c = search needs

@@ -1,14 +1,10 @@
+-- `text::survey_text` meets its contract. Assumes nothing.
 use native.Mathlib.Omega.{arith}
 use Rattle.text.proofs.Texts.{survey-refused, survey-plain, survey-braced, survey-marked, marked-two}
 use mathlib.Core.Path.{sym, _∙_}
 use borrow.Author.Needs.{needs}
 use Rattle.text.proofs.survey_text.Statement.{statement}
 use Rattle.text.proofs.survey_text.Tie as tie
-use Rattle.text.proofs.survey_text.Reads as reads
-use Rattle.text.proofs.survey_text.Lts as lts
-use Rattle.text.proofs.byte_or_zero.Reads as byte-or-zero-reads
-use Rattle.text.proofs.count_units.Reads as count-units-reads
-use Rattle.text.proofs.limited.Reads as limited-reads
 
 count-units-requires : tie.Need-count-units-requires
 count-units-requires c κs = search needs

@@ -1,9 +1,8 @@
+-- `text::with_six` meets its contract. Assumes nothing.
 use Rattle.text.proofs.Chars.{shifted-or}
 use lib.Dec.{lit≤}
 use Rattle.text.proofs.with_six.Statement.{statement}
 use Rattle.text.proofs.with_six.Tie as tie
-use Rattle.text.proofs.with_six.Reads as reads
-use Rattle.text.proofs.with_six.Lts as lts
 
 returns : tie.Need-returns
 returns c = shifted-or 15 6 32 (c .args .c) (c .args .b) (c .pre) (lit≤ tt)

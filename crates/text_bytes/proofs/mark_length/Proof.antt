@@ -1,11 +1,9 @@
+-- `text_bytes::mark_length` meets its contract. Assumes nothing.
 use native.Mathlib.Omega.{arith}
 use Rattle.text_bytes.proofs.Utf8.{mark-two, mark-none}
 use borrow.Author.Needs.{needs}
 use Rattle.text_bytes.proofs.mark_length.Statement.{statement}
 use Rattle.text_bytes.proofs.mark_length.Tie as tie
-use Rattle.text_bytes.proofs.mark_length.Reads as reads
-use Rattle.text_bytes.proofs.mark_length.Lts as lts
-use Rattle.text_bytes.proofs.unit_or_zero.Reads as unit-or-zero-reads
 
 unit-or-zero-requires : tie.Need-unit-or-zero-requires
 unit-or-zero-requires c κs = search needs

@@ -1,10 +1,8 @@
+-- `text_bytes::next_half` meets its contract. Assumes nothing.
 use Rattle.text_bytes.specs.Units.{nextHalf}
 use borrow.Author.Needs.{needs}
 use Rattle.text_bytes.proofs.next_half.Statement.{statement}
 use Rattle.text_bytes.proofs.next_half.Tie as tie
-use Rattle.text_bytes.proofs.next_half.Reads as reads
-use Rattle.text_bytes.proofs.next_half.Lts as lts
-use Rattle.text_bytes.proofs.is_high.Reads as is-high-reads
 
 is-high-requires : tie.Need-is-high-requires
 is-high-requires c κs = search needs

@@ -1,3 +1,4 @@
+-- `text_bytes::proper_units` meets its contract. Assumes nothing.
 use Rattle.text_bytes.proofs.Units.{stops, goes, proper-at, proper-end}
 use mathlib.Core.Bool.{false}
 use Rattle.label.specs.Sound.{properUnits}
@@ -7,10 +8,6 @@ use Prim.Native.Nat.{_-_}
 use borrow.Author.Needs.{needs}
 use Rattle.text_bytes.proofs.proper_units.Statement.{statement}
 use Rattle.text_bytes.proofs.proper_units.Tie as tie
-use Rattle.text_bytes.proofs.proper_units.Reads as reads
-use Rattle.text_bytes.proofs.proper_units.Lts as lts
-use Rattle.text_bytes.proofs.next_half.Reads as next-half-reads
-use Rattle.text_bytes.proofs.unit_ok.Reads as unit-ok-reads
 
 abbrev Inv-loop : tie.InvT-loop
 Inv-loop us half₀ i₀ half i = properUnits false us ≡ properUnits half (drop i us)

@@ -1,13 +1,9 @@
+-- `text_bytes::put_text` meets its contract. Assumes nothing.
 use Rattle.text_bytes.proofs.Utf8.{text-braced, text-plain}
 use Rattle.words.proofs.Puts.{then, put-as}
 use borrow.Author.Needs.{needs}
 use Rattle.text_bytes.proofs.put_text.Statement.{statement}
 use Rattle.text_bytes.proofs.put_text.Tie as tie
-use Rattle.text_bytes.proofs.put_text.Reads as reads
-use Rattle.text_bytes.proofs.put_text.Lts as lts
-use Rattle.words.proofs.put_byte.Reads as put-byte-reads
-use Rattle.text_bytes.proofs.put_units.Reads as put-units-reads
-use Rattle.text_bytes.proofs.unit_or_zero.Reads as unit-or-zero-reads
 
 unit-or-zero-requires : tie.Need-unit-or-zero-requires
 unit-or-zero-requires c κs = search needs

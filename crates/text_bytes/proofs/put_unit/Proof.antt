@@ -1,3 +1,4 @@
+-- `text_bytes::put_unit` meets its contract. Assumes nothing.
 use Rattle.label.specs.Write.{paired}
 use mathlib.Core.Path.{_≡_, ap, _∙_}
 use Rattle.text_bytes.proofs.Utf8.{unit-low, unit-high, unit-plain, high-range}
@@ -8,13 +9,6 @@ use Prim.Native.Nat.{_+_}
 use borrow.Author.Needs.{needs}
 use Rattle.text_bytes.proofs.put_unit.Statement.{statement}
 use Rattle.text_bytes.proofs.put_unit.Tie as tie
-use Rattle.text_bytes.proofs.put_unit.Reads as reads
-use Rattle.text_bytes.proofs.put_unit.Lts as lts
-use Rattle.text_bytes.proofs.is_high.Reads as is-high-reads
-use Rattle.text_bytes.proofs.is_low.Reads as is-low-reads
-use Rattle.text_bytes.proofs.pair_of.Reads as pair-of-reads
-use Rattle.text_bytes.proofs.put_utf8.Reads as put-utf8-reads
-use Rattle.text_bytes.proofs.unit_or_zero.Reads as unit-or-zero-reads
 
 mul-u : tie.Need-mul-u
 mul-u c = search needs

@@ -1,3 +1,4 @@
+-- `text_bytes::put_units` meets its contract. Assumes nothing.
 use borrow.Author.Needs.{needs}
 use Rattle.text_bytes.proofs.Utf8.{units-at, units-end}
 use Rattle.words.proofs.Puts.{Left, left-start, left-next, left-as, left-end}
@@ -7,9 +8,6 @@ use native.Mathlib.Omega.{arith}
 use Prim.Native.Nat.{_+_, _-_, _*_, _≤_}
 use Rattle.text_bytes.proofs.put_units.Statement.{statement}
 use Rattle.text_bytes.proofs.put_units.Tie as tie
-use Rattle.text_bytes.proofs.put_units.Reads as reads
-use Rattle.text_bytes.proofs.put_units.Lts as lts
-use Rattle.text_bytes.proofs.put_unit.Reads as put-unit-reads
 
 abbrev Inv-loop : tie.InvT-loop
 Inv-loop out₀ from us at₀ i₀ out at i = Left out₀ (unitsBytes us) out from at (unitsBytes (drop i us)) × (at ≤ from + 4 * i)

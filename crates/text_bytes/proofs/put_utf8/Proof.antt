@@ -1,13 +1,10 @@
+-- `text_bytes::put_utf8` meets its contract. Assumes nothing.
 use Rattle.text_bytes.proofs.Utf8.{utf-one, utf-two, utf-three, utf-four}
 use Rattle.words.proofs.Puts.{then, put-as, put-digit}
 use native.Mathlib.Omega.{arith}
 use borrow.Author.Needs.{needs}
 use Rattle.text_bytes.proofs.put_utf8.Statement.{statement}
 use Rattle.text_bytes.proofs.put_utf8.Tie as tie
-use Rattle.text_bytes.proofs.put_utf8.Reads as reads
-use Rattle.text_bytes.proofs.put_utf8.Lts as lts
-use Rattle.words.proofs.put_byte.Reads as put-byte-reads
-use Rattle.text_bytes.proofs.tail_byte.Reads as tail-byte-reads
 
 cast-put-byte : tie.Need-cast-put-byte
 cast-put-byte c = search needs

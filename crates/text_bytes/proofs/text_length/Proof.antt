@@ -1,3 +1,4 @@
+-- `text_bytes::text_length` meets its contract. Assumes nothing.
 use borrow.Author.Needs.{needs}
 use Rattle.text_bytes.proofs.Utf8.{length-start, length-next, length-end}
 use Rattle.label.specs.Write.{unitsBytes, textOf}
@@ -7,10 +8,6 @@ use native.Mathlib.Omega.{arith}
 use Prim.Native.Nat.{_+_, _-_, _*_, _≤_}
 use Rattle.text_bytes.proofs.text_length.Statement.{statement}
 use Rattle.text_bytes.proofs.text_length.Tie as tie
-use Rattle.text_bytes.proofs.text_length.Reads as reads
-use Rattle.text_bytes.proofs.text_length.Lts as lts
-use Rattle.text_bytes.proofs.mark_length.Reads as mark-length-reads
-use Rattle.text_bytes.proofs.unit_length.Reads as unit-length-reads
 
 abbrev Inv-loop : tie.InvT-loop
 Inv-loop us n₀ i₀ n i = (n ≤ 2 + 4 * i) × (n + length (unitsBytes (drop i us)) ≡ length (textOf us))

@@ -1,3 +1,4 @@
+-- `text_bytes::unit_length` meets its contract. Assumes nothing.
 use native.Mathlib.Omega.{arith}
 use mathlib.Core.Path.{sym, _∙_}
 use borrow.Author.Tests.{le-leb, lt-leb}
@@ -5,10 +6,6 @@ use Rattle.text_bytes.specs.Units.{unitLength}
 use borrow.Author.Needs.{needs}
 use Rattle.text_bytes.proofs.unit_length.Statement.{statement}
 use Rattle.text_bytes.proofs.unit_length.Tie as tie
-use Rattle.text_bytes.proofs.unit_length.Reads as reads
-use Rattle.text_bytes.proofs.unit_length.Lts as lts
-use Rattle.text_bytes.proofs.is_high.Reads as is-high-reads
-use Rattle.text_bytes.proofs.is_low.Reads as is-low-reads
 
 returns : tie.Need-returns
 unfolding unitLength

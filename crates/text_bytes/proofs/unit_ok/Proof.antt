@@ -1,13 +1,8 @@
+-- `text_bytes::unit_ok` meets its contract. Assumes nothing.
 use Rattle.text_bytes.specs.Units.{unitOk}
 use borrow.Author.Needs.{needs}
 use Rattle.text_bytes.proofs.unit_ok.Statement.{statement}
 use Rattle.text_bytes.proofs.unit_ok.Tie as tie
-use Rattle.text_bytes.proofs.unit_ok.Reads as reads
-use Rattle.text_bytes.proofs.unit_ok.Lts as lts
-use Rattle.text.proofs.is_xml.Reads as is-xml-reads
-use Rattle.words.proofs.either.Reads as either-reads
-use Rattle.text_bytes.proofs.is_high.Reads as is-high-reads
-use Rattle.text_bytes.proofs.is_low.Reads as is-low-reads
 
 is-low-requires : tie.Need-is-low-requires
 is-low-requires c κs = search needs

@@ -1,11 +1,10 @@
+-- `text_bytes::unit_or_zero` meets its contract. Assumes nothing.
 use lib.ListN.{List·getD-eq-default}
 use denote.Ref.{now}
 use mathlib.Core.Path.{sym}
 use borrow.Author.Needs.{needs}
 use Rattle.text_bytes.proofs.unit_or_zero.Statement.{statement}
 use Rattle.text_bytes.proofs.unit_or_zero.Tie as tie
-use Rattle.text_bytes.proofs.unit_or_zero.Reads as reads
-use Rattle.text_bytes.proofs.unit_or_zero.Lts as lts
 
 mul-result : tie.Need-mul-result
 mul-result c = search needs

@@ -1,12 +1,10 @@
+-- `trials::print_all` meets its contract. Assumes nothing.
 use borrow.Author.Needs.{needs}
 use lib.ListN.{length}
 use native.Mathlib.Omega.{arith}
 use Prim.Native.Nat.{_-_, _≤_}
 use Rattle.trials.proofs.print_all.Statement.{statement}
 use Rattle.trials.proofs.print_all.Tie as tie
-use Rattle.trials.proofs.print_all.Reads as reads
-use Rattle.trials.proofs.print_all.Lts as lts
-use Rattle.trials.proofs.print_next.Reads as print-next-reads
 
 abbrev Inv-loop : tie.InvT-loop
 Inv-loop s at₀ at = at ≤ length s

@@ -1,10 +1,7 @@
+-- `trials::print_next` meets its contract. Assumes nothing.
 use borrow.Author.Needs.{needs}
 use Rattle.trials.proofs.print_next.Statement.{statement}
 use Rattle.trials.proofs.print_next.Tie as tie
-use Rattle.trials.proofs.print_next.Reads as reads
-use Rattle.trials.proofs.print_next.Lts as lts
-use Rattle.lines.proofs.two_lines.Reads as two-lines-reads
-use Rattle.printing.proofs.print_label.Reads as print-label-reads
 
 two-lines-requires : tie.Need-two-lines-requires
 two-lines-requires c κs = search needs

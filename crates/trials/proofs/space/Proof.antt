@@ -1,3 +1,4 @@
+-- `trials::space` meets its contract. Assumes nothing.
 use Prim.Native.Nat.{ℕ}
 use mathlib.Core.Path.{sym}
 use lib.ListN.{length-replicate}
