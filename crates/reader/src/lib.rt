@@ -2,7 +2,8 @@
 // nothing is stored before 18 has been judged.
 ghost use Prim.Native.Nat.{_+_, _-_, _*_, _≤_, _<_};
 ghost use mathlib.Core.Path.{_≡_};
-ghost use mathlib.Core.Bool.{true};
+ghost use mathlib.Core.Bool.{true, not, _&&_};
+ghost use lib.Dec.{eqb};
 ghost use lib.ListN.{length, drop};
 ghost use lib.Seq.{sets};
 ghost use Rattle.label.specs.Limits.{maxUnits, maxIndicesBytes};
@@ -96,7 +97,14 @@ fn open_cluster(text: &[u8], c: label::Cursor, units: usize, glyphs: usize, plac
     }
 }
 
-// An entry's checks 10 to 13, where the walk stands; `bare`: the text has no units.
+// Whether an entry opens a cluster here: none is open, and the text has units, which is not `bare`.
+fn opens_here(bare: bool, c: label::Cursor) -> bool
+    ensures { λ r. ⌜ r ≡ (eqb (c .lack) 0 && not bare) ⌝ }
+{
+    words::both(c.lack == 0, !bare)
+}
+
+// An entry's checks 10 to 13, where the walk stands.
 fn take_entry(text: &[u8], bare: bool, c: label::Cursor, x: entry::Item) -> Turn
     requires { ⌜ decode 0 (c .byte) (drop (c .byte) (now text)) ≡ ok (unitsFrom (now text) (c .byte)) ⌝ }
     requires bounds { ⌜ (c .unit + length (unitsFrom (now text) (c .byte)) ≤ maxUnits) × (c .entry ≤ maxIndicesBytes) × (c .clusters ≤ c .entry) × (c .place + x .used ≤ maxIndicesBytes) ⌝ }
@@ -105,15 +113,15 @@ fn take_entry(text: &[u8], bare: bool, c: label::Cursor, x: entry::Item) -> Turn
     if !words::both(1 <= x.units, 1 <= x.glyphs) {
         return stopped(10, c.entry);
     }
-    let free = words::both(c.lack == 0, !bare);
+    let opens = opens_here(bare, c);
     let glyph = x.glyph;
     let index = glyph.index;
     let plain = words::both(!x.mapped, is_named(index));
-    if !words::either(free, plain) {
+    if !words::either(opens, plain) {
         return stopped(11, c.entry);
     }
     let place = c.place + x.used + 1;
-    if free {
+    if opens {
         return open_cluster(text, c, x.units, x.glyphs, place);
     }
     Turn::Took(advance(c, c.byte, 0, x.glyphs, place))
@@ -128,9 +136,8 @@ fn survey_entry(text: &[u8], indices: &[u8], bare: bool, c: label::Cursor) -> Tu
     let place = c.place;
     let byte = c.byte;
     let digits = entry::digits_at(indices, place, 0);
-    let shut = words::both(c.lack == 0, !bare);
-    let plain = words::both(shut, text::is_plain(text, byte));
-    if words::both(plain, entry::is_index(indices, place, digits)) {
+    let easy = words::both(opens_here(bare, c), text::is_plain(text, byte));
+    if words::both(easy, entry::is_index(indices, place, digits)) {
         return Turn::Took(advance(c, byte + 1, 1, 1, place + digits.count + 1));
     }
     match entry::read_entry(&indices[place..], digits, c.entry) {

@@ -15,14 +15,14 @@ stopped-requires c κs = search needs
 returns : tie.Need-returns
 returns c = turn-ten _ _ _ _ _ (c .stopped .ensures) (sym (c .before .before .both .ensures) ∙ not-true _ (c .before .if1 .taken))
 
-both-requires-2 : tie.Need-both-requires-2
-both-requires-2 c κs = search needs
+opens-here-requires : tie.Need-opens-here-requires
+opens-here-requires c κs = search needs
 
 is-named-requires : tie.Need-is-named-requires
 is-named-requires c κs = search needs
 
-both-requires-3 : tie.Need-both-requires-3
-both-requires-3 c κs = search needs
+both-requires-2 : tie.Need-both-requires-2
+both-requires-2 c κs = search needs
 
 either-requires : tie.Need-either-requires
 either-requires c κs = search needs
@@ -32,8 +32,8 @@ stopped-requires-2 c κs = search needs
 
 returns-2 : tie.Need-returns-2
 returns-2 c =
-    let allowed = allowed-is _ _ _ _ _ (not (c .before .before .before .before .before .before .before .before .before .before .before .before .before .before .args .x .mapped)) _ (c .before .before .either .ensures) (c .before .before .before .before .before .before .before .both2 .ensures) (c .before .before .before .both3 .ensures) (c .before .before .before .before .is-named .ensures) in
-    turn-eleven _ _ _ _ _ (c .stopped2 .ensures) (sym (c .before .before .before .before .before .before .before .before .before .before .both .ensures) ∙ not-false _ (c .before .before .before .before .before .before .before .before .before .if1 .left)) (sym allowed ∙ not-true _ (c .before .if2 .taken))
+    let allowed = allowed-is _ _ _ _ _ (not (c .before .before .before .before .before .before .before .before .before .before .before .before .before .args .x .mapped)) _ (c .before .before .either .ensures) (c .before .before .before .before .before .before .before .opens-here .ensures) (c .before .before .before .both2 .ensures) (c .before .before .before .before .is-named .ensures) in
+    turn-eleven _ _ _ _ _ (c .stopped2 .ensures) (sym (c .before .before .before .before .before .before .before .before .before .both .ensures) ∙ not-false _ (c .before .before .before .before .before .before .before .before .if1 .left)) (sym allowed ∙ not-true _ (c .before .if2 .taken))
 
 add-place : tie.Need-add-place
 add-place c = search needs
@@ -43,20 +43,20 @@ add-place-2 c = search needs
 
 open-cluster-requires : tie.Need-open-cluster-requires
 open-cluster-requires c κs =
-    let a = c .before .before .before .before .before .before .before .before .before .before .before .before .before .before .before .before in
+    let a = c .before .before .before .before .before .before .before .before .before .before .before .before .before .before .before in
     (a .pre .0, (a .pre .1 .0, a .pre .1 .1, a .pre .1 .2))
 
 returns-3 : tie.Need-returns-3
-returns-3 c = turn-opens _ _ _ _ _ (c .open-cluster .ensures) (sym (c .before .before .before .before .before .before .before .before .before .before .before .before .before .both .ensures) ∙ not-false _ (c .before .before .before .before .before .before .before .before .before .before .before .before .if1 .left)) (sym (c .before .before .before .before .before .before .before .before .before .before .both2 .ensures) ∙ c .before .if3 .taken)
+returns-3 c =
+    turn-opens _ _ _ _ _ (c .open-cluster .ensures) (sym (c .before .before .before .before .before .before .before .before .before .before .before .before .both .ensures) ∙ not-false _ (c .before .before .before .before .before .before .before .before .before .before .before .if1 .left)) (sym (c .before .before .before .before .before .before .before .before .before .before .opens-here .ensures) ∙ c .before .if3 .taken)
 
 advance-requires : tie.Need-advance-requires
 advance-requires c κs = search needs
 
 returns-4 : tie.Need-returns-4
 returns-4 c =
-    let a = c .before .before .before .before .before .before .before .before .before .before .before .before .before .before .before .before .before in
-    let allowed = allowed-is _ _ _ _ _ (not (a .args .x .mapped)) _ (c .before .before .before .before .before .either .ensures) (c .before .before .before .before .before .before .before .before .before .before .both2 .ensures) (c .before .before .before .before .before .before .both3 .ensures) (c .before .before .before .before .before .before .before .is-named .ensures) in
-    turn-further _ _ _ _ _ (c .advance .ensures) (a .pre .0) (sym (c .before .before .before .before .before .before .before .before .before .before .before .before .before .both .ensures) ∙ not-false _ (c .before .before .before .before .before .before .before .before .before .before .before .before .if1 .left)) (sym allowed ∙ not-false _ (c .before .before .before .before .if2 .left)) (sym (c .before .before .before .before .before .before .before .before .before .before .both2 .ensures) ∙ c .before .if3 .left)
+    let allowed = allowed-is _ _ _ _ _ (not (c .before .before .before .before .before .before .before .before .before .before .before .before .before .before .before .before .args .x .mapped)) _ (c .before .before .before .before .before .either .ensures) (c .before .before .before .before .before .before .before .before .before .before .opens-here .ensures) (c .before .before .before .before .before .before .both2 .ensures) (c .before .before .before .before .before .before .before .is-named .ensures) in
+    turn-further _ _ _ _ _ (c .advance .ensures) (c .before .before .before .before .before .before .before .before .before .before .before .before .before .before .before .before .pre .0) (sym (c .before .before .before .before .before .before .before .before .before .before .before .before .both .ensures) ∙ not-false _ (c .before .before .before .before .before .before .before .before .before .before .before .if1 .left)) (sym allowed ∙ not-false _ (c .before .before .before .before .if2 .left)) (sym (c .before .before .before .before .before .before .before .before .before .before .opens-here .ensures) ∙ c .before .if3 .left)
 
 pub take-entry-spec : {M : Type 1} → statement M
 take-entry-spec =
@@ -65,9 +65,9 @@ take-entry-spec =
     both-requires
     stopped-requires
     returns
-    both-requires-2
+    opens-here-requires
     is-named-requires
-    both-requires-3
+    both-requires-2
     either-requires
     stopped-requires-2
     returns-2
