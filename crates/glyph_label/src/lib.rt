@@ -507,7 +507,7 @@ pub extern "C" fn glyph_label_read(
 
 // ── writing ──
 
-// The answer of a writing.
+// The answer of a writing; the other tasks give none, and do not come here.
 fn written(d: Done) -> label::Writing
     ensures { λ r. ⌜ r ≡ writingOf d ⌝ }
 {
@@ -587,7 +587,7 @@ pub extern "C" fn glyph_label_write(
 
 // ── picks ──
 
-// The answer of a pick.
+// The answer of a pick; the other tasks give none, and do not come here.
 fn picked(d: Done) -> label::Pick
     ensures { λ r. ⌜ r ≡ pickOf d ⌝ }
 {

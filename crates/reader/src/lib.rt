@@ -411,6 +411,7 @@ pub fn fill(
 {
     let count = counts.units;
     text::fill_units(text, units_start(text), units);
+    // This pass stores the clusters and the glyphs and does not look at the text again: the cursor's byte stays 0.
     let mut at = first_cursor(indices, 0);
     while at.place <= indices.len() {
         let place = at.place;

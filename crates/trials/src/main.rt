@@ -24,7 +24,7 @@ fn print_all(s: &[u8]) {
     }
 }
 
-// Room for the labels of a run.
+// Room for the input.
 fn space() -> [u8; 1048576]
     ensures { λ r. ⌜ 1048576 ≡ length r ⌝ }
 {
