@@ -2,14 +2,13 @@
 -- Assumes nothing.
 use Prim.Native.Nat.{ℕ, suc, _+_, _-_, _≤_, _<_}
 use native.Mathlib.Omega.{arith}
-use native.Mathlib.Numerals.{add-one}
 use mathlib.Core.Path.{_≡_, refl, sym, _∙_, ap}
 use mathlib.Core.Bool.{true, false, cond}
 use mathlib.Core.List.{List, [], _∷_}
-use borrow.Author.Tests.{eq-eqb, ne-eqb, le-leb, lt-leb, leb-true, leb-false}
+use borrow.Author.Tests.{le-leb, lt-leb, leb-true, leb-false}
 use lib.Dec.{eqb, leb, eqb·suc-zero, leb·zero, leb·suc-suc}
-use lib.ListN.{length, getD, drop, length-drop, drop-of-length-le}
-use lib.Seq.{drop-cons, drop-drop}
+use lib.ListN.{length, getD, drop, length-drop}
+use lib.Seq.{drop-drop}
 use Rattle.label.specs.Bytes.{empty, split, Cut, more, cut}
 use Rattle.label.specs.Entry.{entries}
 use Rattle.label.proofs.Basics.{cases}
@@ -71,19 +70,6 @@ here-short (b ∷ bs) =
     cases (eqb b 59)
     (λ t. let e : length (here (b ∷ bs)) ≡ 0 = ap length (here-hit b bs t) in omega arith)
     (λ t. let e : length (here (b ∷ bs)) ≡ suc (length (here bs)) = ap length (here-miss b bs t) in omega (arith, here-short bs))
-
--- the entry at place i, by the byte there
-pub here-semi : (s : List ℕ) (i : ℕ) → i < length s → getD s i 0 ≡ 59 → length (here (drop i s)) ≡ 0
-here-semi s i h e = ap (λ (l : List ℕ). length (here l)) (drop-cons s i 0 h) ∙ ap length (here-hit (getD s i 0) (drop (suc i) s) (eq-eqb (getD s i 0) 59 e))
-
-pub here-other : (s : List ℕ) (i : ℕ) → i < length s → (getD s i 0 ≡ 59 → ⊥) → length (here (drop i s)) ≡ suc (length (here (drop (i + 1) s)))
-here-other s i h n =
-    ap (λ (l : List ℕ). length (here l)) (drop-cons s i 0 h)
-    ∙ ap length (here-miss (getD s i 0) (drop (suc i) s) (ne-eqb (getD s i 0) 59 n))
-    ∙ ap (λ (k : ℕ). suc (length (here (drop k s)))) (sym (add-one i))
-
-pub here-end : (s : List ℕ) (i : ℕ) → length s ≤ i → length (here (drop i s)) ≡ 0
-here-end s i h = ap (λ (l : List ℕ). length (here l)) (drop-of-length-le s h) ∙ unfold cut in refl
 
 -- the entries from place i on; none past the end, so that behind the last entry is a place like any other
 unfoldable pub leftFrom : List ℕ → ℕ → List (List ℕ)

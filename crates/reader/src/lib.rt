@@ -472,14 +472,7 @@ fn entry_end(s: &[u8], place: usize) -> usize
     ensures { λ r. ⌜ r ≡ place + length (here (drop place (now (s .entry)))) ⌝ }
     ensures bounds { λ r. ⌜ (place ≤ r) × (r ≤ length (now (s .entry))) ⌝ }
 {
-    let mut i = place;
-    while i < s.len() {
-        if s[i] == 0x3b {
-            return i;
-        }
-        i += 1;
-    }
-    i
+    words::find_byte(s, place, 0x3b)
 }
 
 // A part that starts at `start` and ends at `end`.

@@ -3,3 +3,4 @@ pub mod Signs
 pub mod Places
 pub mod Puts
 pub mod Packs
+pub mod Finds

@@ -5,9 +5,11 @@ ghost use mathlib.Core.Bool.{_&&_, _||_};
 ghost use mathlib.Core.List.{[], _∷_};
 ghost use Prim.Native.Nat.{_+_, _-_, _*_, _/_, _<_, _≤_};
 ghost use lib.IntN.{natAbs};
-ghost use lib.ListN.{length};
+ghost use lib.Dec.{eqb};
+ghost use lib.ListN.{length, drop};
 ghost use mir.Syntax.{w32};
 ghost use mir.Val.{ofZ, toZ};
+ghost use Rattle.label.specs.Bytes.{cut};
 ghost use Rattle.label.specs.Sound.{natural, choice, nat, size};
 ghost use Rattle.label.specs.Calls.{filled};
 ghost use Rattle.label.specs.Wire.{fromHalves, fromWords, halves, words};
@@ -175,6 +177,22 @@ fn get_u16(buf: &[u8], at: usize) -> u16
     let a = half(buf[at]);
     let b = half(buf[at + 1]);
     a + b * 256
+}
+
+// Where the first byte b from `from` on stands, or the end.
+pub fn find_byte(s: &[u8], from: usize, b: u8) -> usize
+    requires { ⌜ from ≤ length (now s) ⌝ }
+    ensures { λ r. ⌜ r ≡ from + length (cut (λ x. eqb x b) (drop from (now (s .entry))) .before) ⌝ }
+    ensures bounds { λ r. ⌜ (from ≤ r) × (r ≤ length (now (s .entry))) ⌝ }
+{
+    let mut i = from;
+    while i < s.len() {
+        if s[i] == b {
+            return i;
+        }
+        i += 1;
+    }
+    i
 }
 
 // ── a run's numbers as bytes and back; what stands behind them stays ──

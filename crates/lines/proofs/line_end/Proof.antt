@@ -1,51 +1,15 @@
 -- `lines::line_end` meets its contract. Assumes nothing.
-use Rattle.lines.proofs.Ends.{end-here, end-next, end-last}
-use Rattle.lines.specs.Lines.{lineEnd}
-use lib.ListN.{length}
 use borrow.Author.Needs.{needs}
-use mathlib.Core.Path.{_≡_, refl, _∙_}
-use native.Mathlib.Omega.{arith}
-use Prim.Native.Nat.{_-_, _≤_}
+use Rattle.lines.specs.Lines.{lineEnd}
 use Rattle.lines.proofs.line_end.Statement.{statement}
 use Rattle.lines.proofs.line_end.Tie as tie
 
-abbrev Inv-loop : tie.InvT-loop
-Inv-loop s from i₀ i = (from ≤ i) × (i ≤ length s) × (lineEnd s i ≡ lineEnd s from)
+find-byte-requires : tie.Need-find-byte-requires
+find-byte-requires c κs = search needs
 
-abbrev μ-loop : tie.MeasureT-loop
-μ-loop s from i₀ i = length s - i
-
-loop-holds : tie.Need-loop-holds Inv-loop μ-loop
-loop-holds c = (omega arith, c .pre, refl)
-
-shared-slice-read-if1 : tie.Need-shared-slice-read-if1 Inv-loop μ-loop
-shared-slice-read-if1 c = search needs
-
-returns : tie.Need-returns Inv-loop μ-loop
-returns c = (end-here _ _ (c .before .before .loop-test .taken) (c .if1 .taken) ∙ c .before .before .before .loop .inv .2, (c .before .before .before .loop .inv .0, c .before .before .before .loop .inv .1))
-
-add-i : tie.Need-add-i Inv-loop μ-loop
-add-i c = search needs
-
-loop-less : tie.Need-loop-less Inv-loop μ-loop
-loop-less c = omega arith
-
-loop-again : tie.Need-loop-again Inv-loop μ-loop
-loop-again c = (omega (arith, c .before .before .before .loop .inv .0), omega (arith, c .before .before .loop-test .taken), end-next _ _ (c .before .before .loop-test .taken) (c .if1 .left) ∙ c .before .before .before .loop .inv .2)
-
-returns-2 : tie.Need-returns-2 Inv-loop μ-loop
-returns-2 c = (end-last _ _ (c .loop-test .left) ∙ c .before .loop .inv .2, (c .before .loop .inv .0, c .before .loop .inv .1))
+returns : tie.Need-returns
+unfolding lineEnd
+returns c = c .find-byte .ensures
 
 pub line-end-spec : {M : Type 1} → statement M
-line-end-spec =
-    tie.close
-    (tie.spec
-    Inv-loop
-    μ-loop
-    loop-holds
-    shared-slice-read-if1
-    returns
-    add-i
-    loop-less
-    loop-again
-    returns-2)
+line-end-spec = tie.close (tie.spec find-byte-requires returns)
