@@ -1,5 +1,6 @@
 /* Reading and writing through the C calls beside a plain loop of the kind that viewers use: digits by hand, strtof for the rest, no checks, no clusters
    tied to the text. Both in one run, best of several rounds; the ratio is what counts. Then the growth with the label, and the stack that the calls take. */
+#include <alloca.h>
 #include <pthread.h>
 #include <stdio.h>
 #include <stdlib.h>
@@ -121,17 +122,26 @@ static double now(void)
 static glyph_label_reading last;
 static volatile int sink;
 
+/* Each round has the label at other addresses and the calls at another depth of the stack, so that no row depends on how they happen to lie. */
+#define ROUNDS 9
+#define STEP 208
+
+static char text_at[sizeof text + ROUNDS * STEP], indices_at[sizeof indices + ROUNDS * STEP];
+
 static double best(int what, int n, int rounds)
 {
     size_t tl = strlen(text), il = strlen(indices);
     double least = 1e30;
-    for (int k = 0; k < 9; k++) {
+    for (int k = 0; k < ROUNDS; k++) {
+        char *t0 = memcpy(text_at + k * STEP, text, tl + 1), *i0 = memcpy(indices_at + (ROUNDS - k) * STEP, indices, il + 1);
+        volatile char *deeper = alloca(STEP);
+        deeper[0] = 0;
         double start = now();
         for (int r = 0; r < rounds; r++) {
             switch (what) {
-            case 0: sink += plain_read(text, tl, indices); break;
+            case 0: sink += plain_read(t0, tl, i0); break;
             case 1:
-                last = glyph_label_read((uint8_t *)text, tl, (uint8_t *)indices, il, units, sizeof units, clusters, sizeof clusters, glyphs, sizeof glyphs);
+                last = glyph_label_read((uint8_t *)t0, tl, (uint8_t *)i0, il, units, sizeof units, clusters, sizeof clusters, glyphs, sizeof glyphs);
                 sink += (int)last.glyphs;
                 break;
             case 2: sink += plain_write(n); break;
