@@ -22,6 +22,7 @@ fn print_refusal(x: Refusal) {
     print_line(b"");
 }
 
+// The first n bytes, or all where there are fewer.
 fn part(s: &[u8], n: usize) -> &[u8] {
     if n <= s.len() { &s[..n] } else { s }
 }
@@ -38,6 +39,7 @@ fn print_run(x: Relabelled, text: &[u8], indices: &[u8]) {
     print_line(part(indices, written.indices));
 }
 
+// Prints a label's lines. It has no result and fills no buffer; what it prints is held to the programs' files `stdout` and to the independent reader.
 pub fn print_label(text: &[u8], indices: &[u8]) {
     let mut out_text = [0u8; Limits::TEXT_BYTES];
     let mut out_indices = [0u8; Limits::INDICES_BYTES];
