@@ -142,7 +142,7 @@ def result_type(name, **fields):
 
 U32, SIZE = ctypes.c_uint32, ctypes.c_size_t
 SLICE = ctypes.c_void_p, SIZE
-Reading = result_type('Reading', number=U32, place=U32, units=U32, clusters=U32, glyphs=U32)
+Reading = result_type('Reading', number=U32, place=U32, units=U32, clusters=U32, glyphs=U32, rounded=U32)
 Writing = result_type('Writing', number=U32, place=U32, text=U32, indices=U32)
 Stretch = result_type('Stretch', number=U32, place=U32, first=U32, end=U32)
 Part = result_type('Part', in_indices=U32, start=SIZE, length=SIZE)
@@ -222,9 +222,10 @@ class Archive:
     def read(self, text, indices, answer, sizes):
         """The reader, with buffers of these sizes in bytes; `answer` is that of large enough ones."""
         answer = labels.fit_reading(answer, sizes[0] // 2, sizes[1] // 4, sizes[2] // 4)
-        stored, expected = (b'', b'', b''), (*answer[1:], 0, 0, 0)
+        stored, expected = (b'', b'', b''), (*answer[1:], 0, 0, 0, 0)
         if answer[0] == 'ok':
-            stored, expected = as_bytes(labels.flat(answer[1])), (0, 0, *map(len, answer[1]))
+            stored = as_bytes(labels.flat(answer[1]))
+            expected = (0, 0, *map(len, answer[1]), labels.rounded(indices, answer))
         self.call('read', answer, expected, [('text', text), ('indices', indices)], list(zip(RUN, sizes, stored)))
 
     def needed(self, answer):

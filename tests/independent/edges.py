@@ -174,8 +174,47 @@ def number_edges():
         for before in '5,+ 5,- 5,, 5,,+ 5,,- 5,,, 5,,,- 5,0,0,+ , ,,-'.split():
             yield b'A', (before + number).encode()
 
-def label_edges():
-    for part in (slips, text_edges, entry_edges, number_edges, count_edges, size_edges):
+def in_digits(m, f, e):
+    """The digits m, f of them behind the point and zeros put before them where there are fewer, with exponent e."""
+    digits = m.rjust(f, '0')
+    before, behind = digits[:len(digits) - f], digits[len(digits) - f:]
+    return before + ('.' + behind if f else '') + (f'e{e}' if e else '')
+
+def rounding_edges():
+    """The count of rounded fields: both sides of the border between exact and rounded, zeros, the limit of size, and
+    labels of several counted fields, accepted and refused."""
+    # the last digit that isn't 0 counts tenths of a thousandth, thousandths or tens of them, in turn in each field
+    for f in range(19):
+        for zeros in (0, 1, 2, 3, 6, 11, 14, 17):
+            m = ('1', '25', '1024', '4999')[(f + zeros) % 4][:18 - zeros] + '0' * zeros
+            fields = [in_digits(m, f, f - 3 - zeros + (f + zeros + k) % 3 - 1) for k in range(3)]
+            yield b'A', ('5,' + ','.join(fields)).encode()
+    # zeros are exact, in any count of digits and with any exponent
+    for e in range(-99, 100, 3):
+        counts = [1 + (e + k) % 18 for k in range(3)]
+        fields = [in_digits('0' * count, (e + 7 * k) % (count + 1), e) for k, count in enumerate(counts)]
+        yield b'A', ('5,' + ',-'.join(fields)).encode()
+    for number in '''
+            1000000 1e6 1000000.0000 1000000.0004 1000000.0005 1000000.00000000000 1000000.00000000001 1000000.00049999999
+            999999.999 999999.9990 999999.9994 999999.9995 999999999999999999e-12 10000000004e-4 10000000005e-4
+            1000000000000e-6 100000000000000000e-11 100000000000000001e-11 .1e7 .10000000004e7 .100000000000000000e7
+            .000001e12 1.5000 100e-5 10e-5 5e-3 5E-04 1000e-6 100e-6 123000000000000e-12 123000000000000e-16 1e-99'''.split():
+        for before in ('5,', '5,,-', '5,,,+'):
+            yield b'A', (before + number).encode()
+    for text, indices in (
+            ('A', '5,.0005,,1e-4 5,1.5,.0005,-1e-4 5,.0005,-.0005,+.0005 ,.0005 ,,.0005 5,,,.0001 5,+.0001,, 5,.0005,x 65536,.0005'),
+            ('A', '5,.0005,1e7 5,1e7,.0005 5,1000000.0004,1000000.0005 (0)5,.0005 (2)5,.0005 (1:2)5,.0005 5,.0005;6,.0005'),
+            ('A', '(1:3)5,.0005;6,1e-4,1.0000;7,,.0004,-.0005 (1:2)5;6,.0005 (1:2)5,.0005;,.0005 (1:2)5;(1)6,.0005'),
+            ('ABC', '5,.0005 ;6,.0005;, (2:2)5,.5;6,.0005,.5;7,.0005 5,.0005;6;x 5,.0005;(1:3)6,.0005;7,.0005 5,.0005;65536;x'),
+            ('', '5,.0005 5,.0005;6,1;7,.0001,,.0001 5,.0005; ,.0005'), ('A' + GRIN, '5,.0005 5,.0005;6,.0005 5,.0005;(2)6,.0005')):
+        for one in indices.split():
+            yield text.encode(), one.encode()
+    for count in (4096, 4097):
+        yield b'', b';'.join([b'5,.0001,.0001,-.0001'] * count)                 # no label has more rounded fields
+        yield b'A' * count, b';'.join([b',.0005'] * 4096)
+
+def label_edges(rounding=True):
+    for part in (slips, text_edges, entry_edges, number_edges, count_edges, size_edges) + ((rounding_edges,) if rounding else ()):
         yield from part()
 
 def line_edges():

@@ -66,6 +66,18 @@ def spelling(rng, size):
     noise = rng.choice((0, half - 1, -half, rng.randint(-half, half - 1))) if half else 0
     return decimal(rng, max(0, size * 10 ** extra + noise), -3 - extra)
 
+def near_whole(rng):
+    """A number without a sign, exact about as often as rounded: its last digit that isn't 0 counts about thousandths, or
+    far less; or it is zero. In any count of digits."""
+    r = rng.random()
+    if r < .1:
+        return decimal(rng, 0, rng.randint(-99, 82))
+    if r < .15:
+        return decimal(rng, rng.randint(1, 10 ** 18 - 1), rng.randint(-99, -14))
+    trailing = rng.choice((0, 0, 1, 2, 3, 8, 14, rng.randint(0, 17)))
+    m = rng.choice((1, 2, 4, 5, 15, 25, 123, 1001, 4999, rng.randint(1, 10 ** rng.randint(1, 9)))) % 10 ** (18 - trailing) or 1
+    return decimal(rng, m * 10 ** trailing, rng.choice((-2, -1, -1, -1, 0, 0, 0, 0, 1)) - 3 - trailing)
+
 def zeros(rng):
     return '0' * rng.randint(1, 25) if rng.random() < .1 else ''
 
@@ -244,6 +256,23 @@ def number_label(rng):
             number += rng.choice('eE') + rng.choice(('', '+', '-')) + exponent
     return b'A', ('5,' + ',' * rng.randint(0, 2) + rng.choice(('', '', '+', '-')) + number).encode()
 
+def rounded_label(rng):
+    """Exact and rounded fields in clusters of one and of several glyphs; a tail; now and then a refusal behind them."""
+    text, entries = '', []
+    shapes = ((1, 1), (1, 1), (1, 1), (2, 1), (1, 2), (2, 3)) if rng.random() < .9 else ((0, 1),)
+    for _ in range(1 + int(rng.expovariate(.5))):
+        a, b = rng.choice(shapes)
+        text += 'A' * a
+        for k in range(b):
+            head = '6' if k or not a else rng.choice(('', '5')) if (a, b) == (1, 1) else f'({a}:{b})5'
+            fields = ['' if rng.random() < .3 else rng.choice(signs) + near_whole(rng)
+                      for signs in (('', '+'), ('', '+', '-'), ('', '+', '-'))]
+            entries.append(','.join([head] + fields[:rng.choice((1, 2, 3, 3, 3))]))
+    text, indices = text + 'B' * rng.randrange(3) if text else '', ';'.join(entries).encode()
+    if rng.random() < .15:
+        indices = damaged(rng, indices, INDICES_BYTES) if rng.random() < .5 else indices + b';' + rng.choice(BAD_ENTRIES)
+    return text.encode(), indices
+
 def utf8_label(rng):
     """Texts whose bytes lie at and around the borders of Table 3-7."""
     text = b''.join(character(rng).encode() for _ in range(rng.randint(0, 3)))
@@ -326,7 +355,8 @@ def around(rng, needed, step):
 # ---- Kinds, with their weights -----------------------------------------------------------------------
 
 LABEL_KINDS = {'valid': (30, valid_label), 'damaged': (25, damaged_label), 'mixed': (30, mixed_label),
-               'numbers': (8, number_label), 'utf8': (7, utf8_label), 'large': (.05, large_label)}
+               'numbers': (8, number_label), 'rounded': (8, rounded_label), 'utf8': (7, utf8_label),
+               'large': (.05, large_label)}
 RUN_KINDS = {'sound': (15, sound_run), 'nearly': (30, nearly_run), 'random': (10, random_run), 'large-runs': (.05, large_run)}
 PICK_KINDS = {'picks': (25, pick_case)}
 FAULT_KINDS = {'faults': (20, fault_case)}

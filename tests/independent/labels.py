@@ -6,6 +6,7 @@ An answer is ('ok', ...) or ('no', number, place).
 
 import re
 from collections import namedtuple
+from fractions import Fraction
 
 class Limits:
     TEXT_BYTES, INDICES_BYTES, LINE_BYTES = 16_384, 262_144, 32_768
@@ -212,6 +213,20 @@ def fit_reading(answer, unit_places, cluster_numbers, glyph_numbers):
             if needed > places:
                 return 'no', number, needed
     return answer
+
+# "whether its exact value was a whole count of thousandths", of a field that is a number: Fraction takes every such
+# spelling, and neither the reading nor the rounding above is asked.
+def is_whole(field):
+    return (Fraction(field.decode('ascii')) * 1000).denominator == 1
+
+# "An accepted label returns the count of given fields that were not, beside the run; an offset not given counts as
+# exact, a refusal as 0. The count is defined from the entries and is no part of the run". `answer` is that of read,
+# read_into or fit_reading for these indices.
+def rounded(indices, answer):
+    if answer[0] == 'no':
+        return 0
+    fields = [field for entry in split_entries(indices) for field in entry.split(b',')[1:]]
+    return sum(field != b'' and not is_whole(field) for field in fields)
 
 # The run as its places: units, cluster numbers, glyph numbers.
 def flat(run):

@@ -1,4 +1,4 @@
-"""Prints short labels with the reference's answers as JSON lines.
+"""Prints short labels with the reference's answers, and the counts of their rounded fields, as JSON lines.
 
     rows.py [--seed N] [--count N]
 
@@ -24,7 +24,7 @@ def row(text, indices, answer):
         units, clusters, glyphs = labels.flat(answer[1])
         normal = labels.write(units, clusters, glyphs)
         said = {'units': units, 'clusters': clusters, 'glyphs': glyphs, 'text': normal[1].hex(), 'indices': normal[2].hex()}
-    return json.dumps({'text': text.hex(), 'indices': indices.hex(), 'answer': said})
+    return json.dumps({'text': text.hex(), 'indices': indices.hex(), 'answer': said, 'rounded': labels.rounded(indices, answer)})
 
 def rows(seed, count):
     """Distinct rows, as many of each outcome as its share."""

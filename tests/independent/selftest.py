@@ -133,6 +133,56 @@ def choices_of_entries():
     accepted(g, 'A', '(01:001)5', [(1, 1)], named(5), '5')
     accepted(g, 'A', ',40', [(1, 1)], [(-1, 40000, 0, 0)], ',40')
 
+def choices_of_rounding():
+    """The count of rounded fields: of one number in each field, of labels, of refusals."""
+    g = 'choices: rounded fields'
+
+    def counted(text, indices, count, number=None):
+        text, indices = as_bytes(text), as_bytes(indices)
+        answer = labels.read(text, indices)
+        check(g, (answer[1] if answer[0] == 'no' else None) == number, text, indices, answer, number)
+        check(g, labels.rounded(indices, answer) == count, text, indices, labels.rounded(indices, answer), count)
+
+    for count, numbers in (
+            (0, '''1.0000 0e-99 0.0000 0 1 1.5 .001 12345e-2 1.5000 100e-5 5e-3 1000e-6 1e-3 1E-03 10e-04 123000000000000e-12
+                   123000000000000e-15 1e6 1000000 1000000.0000 .1e7 1000000.00000000000 1000000000000e-6
+                   100000000000000000e-11 999999.999 000000000000000001 000000000000000001e-3 .001000000000000000
+                   .000000000000000001e15 .000000000000000001e24 000000000000000000 .000000000000000000 0e99 .000e+99 000E-99
+                   000000000.000000000e-99 1e00 1e-0'''),
+            (1, '''.0005 .0004 1e-4 1.0005 12345e-5 5e-4 10e-5 100e-6 15e-4 1.2345 123000000000000e-16 1000000.0004 999999.9995
+                   999999.9994 1000000.00000000001 10000000004e-4 100000000000000001e-11 .10000000004e7 .000999999999999999
+                   .000000000000000001 .000000000000000001e14 000000000000000001e-4 123456789012345678e-18 999999999999999999e-12
+                   1e-99 999999999999999999e-99 1E-04 .0005e0''')):
+        for number in numbers.split():
+            for before in ('5,', '5,+', ',', '5,,', '5,,-', '5,,,', '5,,,+'):
+                counted('A', before + number, count)
+    for text, indices, count in (
+            ('A', '5,+1.5', 0), ('A', '5,,-.0005', 1), ('A', '5,.0005,,1e-4', 2), ('A', '5,.0005,-.0005,1e-4', 3),
+            ('A', '5,1.5,.0005,-1e-4', 2), ('A', '5,.0005,1.5,-1e-4', 2), ('A', '5,.0005,-1e-4,1.5', 2), ('A', '5,1.5,0,-2', 0),
+            # an empty field counts nothing, nor does the tail
+            ('A', '', 0), ('A', '5', 0), ('A', '5,', 0), ('A', '5,,,', 0), ('A', ',,,', 0), ('A', '5,,.0005,', 1), ('ABC', '5,.0005', 1),
+            ('ABC', ';,.0005;', 1), ('ABCD', '5,.0005;6,1;,,.0005', 2),
+            # a cluster's further glyphs count
+            ('A', '(1:3)5,.0005;6,1e-4,1.0000;7,,.0004,-.0005', 4), ('A', '(1:2)5;6,.0005', 1), ('AB', '(2:2)5,1;6,1,.0005', 1),
+            ('', '5,.0005;6,1;7,.0001', 2), (GRIN, '(2)5,.0005', 1), ('A' * 4096, ';'.join(['5,.0001,.0001,.0001'] * 4096), 12288)):
+        counted(text, indices, count)
+    for number, text, indices in (
+            (1, 'A' * 16385, '5,.0005'), (2, b'\xff', '5,.0005'), (3, '\1', '5,.0005'), (4, '{A', '5,.0005'), (5, 'A' * 4097, '5,.0005'),
+            (6, '', ''), (7, 'AB', '5,.0005;x'), (7, 'A', '5,.0005,x'), (7, 'A', '5,-.0005'), (8, 'AB', '5,.0005;65536'), (8, 'A', '65536,.0005'),
+            (9, 'A', '5,1000000.0005'), (9, 'A', '5,.0005,1000000.0005'), (9, 'A', '5,1000000.0005,.0005'), (9, 'A', '5,1000000.0004,,-1e7'),
+            (9, 'AB', '5,.0005;6,1e99'), (9, 'A', '5,1e-100'), (9, 'A', '5,.' + '0' * 18 + '1'), (9, 'A', '5,1e-4,1e-004'), (10, 'A', '(0)5,.0005'),
+            (10, 'AB', '5,.0005;(1:0)5'), (11, 'A', '(1:2)5,.0005;,.0005'), (11, '', ',.0005'), (12, 'A', '5,.0005;6,.0005'),
+            (12, 'A', '(2)5,.0005'), (13, GRIN, '5,.0005'), (13, 'A' + GRIN, '5,.0005'), (14, 'A', '(1:2)5,.0005'),
+            (15, '', ';'.join(['5,.0005'] * 4097))):
+        counted(text, indices, 0, number)
+    indices = b'5,.0005,,1e-4;6,1.0005'
+    for sizes, number, count in (((3, 6, 12), None, 3), ((9, 9, 19), None, 3), ((2, 6, 12), 16, 0), ((3, 5, 12), 17, 0), ((3, 6, 11), 18, 0),
+                                 ((0, 0, 0), 16, 0)):
+        answer = labels.read_into(b'ABC', indices, *sizes)
+        check(g, (answer[1] if answer[0] == 'no' else None) == number and labels.rounded(indices, answer) == count, sizes, answer)
+    # no part of the run
+    check(g, labels.read(b'A', b'5,.0005,,1e-4') == labels.read(b'A', b'5,.001'))
+
 def choices_of_runs():
     g, five = 'choices: runs', [5, -1, 0, 0]
     for sizes, answer in (((3, 6, 12), 'ok'), ((2, 6, 12), ('no', 16, 3)), ((3, 5, 12), ('no', 17, 3)), ((3, 4, 0), ('no', 17, 3)),
@@ -219,16 +269,24 @@ def grammar():
             check('grammar of short entries', well_formed == (entry.fullmatch(text) is not None), text)
 
 def rounding(rng, count):
-    """Values against the decimal module; its ROUND_HALF_UP takes a half away from zero."""
+    """Values, and whether they are exact, against the decimal module; its ROUND_HALF_UP takes a half away from zero."""
     context = Context(prec=300)
-    numbers = [indices.split(b',')[-1] for _, indices in edges.number_edges()]
+    numbers = [indices.split(b',')[-1] for _, indices in itertools.chain(edges.number_edges(), edges.rounding_edges())]
     numbers += [generate.number_label(rng)[1].split(b',')[-1] for _ in range(count)]
+    numbers += [generate.near_whole(rng).encode() for _ in range(count)]
     for field in numbers:
         number = labels.read_number(labels.OFFSET, field)
         if number and len(number.exponent) <= 3:
             exact = Decimal(field.decode()).scaleb(3, context)
             rounded = int(exact.quantize(Decimal(1), ROUND_HALF_UP, context))
             check('rounding against decimal', labels.thousandths(number) == rounded, field)
+            check('exact against decimal', labels.is_whole(field) == (exact == rounded), field)
+
+def has_lower_digit(number):
+    """Whether a digit that isn't 0 counts less than a thousandth."""
+    last = int(number.exponent_sign + (number.exponent or b'0')) - len(number.behind)
+    digits = reversed(number.before + number.behind)
+    return any(digit != ord('0') and last + k < -3 for k, digit in enumerate(digits))
 
 def reads_back(run):
     """Whether the run's writing, made without asking for soundness, reads as the run."""
@@ -245,11 +303,15 @@ def round_trips(rng, count):
         answer = labels.read(text, indices)
         checks['labels accepted' if answer[0] == 'ok' else f'labels refused with {answer[1]:2}'] += 1
         if answer[0] == 'ok':
-            run = answer[1]
+            run, rounded = answer[1], labels.rounded(indices, answer)
+            checks['labels accepted, with rounded fields'] += rounded > 0
+            numbers = [number for entry in labels.split_entries(indices) for number in labels.read_entry(entry).numbers if number]
+            check('rounded fields against digits', rounded == sum(map(has_lower_digit, numbers)), text, indices, rounded)
             counts = sum(a for a, b in run.clusters), sum(b for a, b in run.clusters)
             check('every unit and glyph in one cluster', counts == (len(run.units), len(run.glyphs)), text, indices)
             normal = labels.write(*labels.flat(run))
             check('written, read back', normal[0] == 'ok' and labels.read(*normal[1:]) == answer, text, indices, normal)
+            check('nothing rounded in a normal writing', labels.rounded(normal[2], answer) == 0, text, indices, normal)
             check('written back unchanged', labels.write(*labels.flat(labels.read(*normal[1:])[1])) == normal, text, indices)
     for _ in range(count):
         run = generate.sound_run(rng)
@@ -295,7 +357,8 @@ def main():
     parser.add_argument('--count', type=int, default=5000)
     options = parser.parse_args()
     rng = Random(options.seed)
-    for part in (paper_labels, standard_examples, choices_of_text, choices_of_entries, choices_of_runs, choices_of_writing, choices_of_calls, utf8, grammar):
+    for part in (paper_labels, standard_examples, choices_of_text, choices_of_entries, choices_of_rounding, choices_of_runs, choices_of_writing,
+                 choices_of_calls, utf8, grammar):
         part()
     for part in (rounding, round_trips, picks, faults):
         part(rng, options.count)
