@@ -49,7 +49,7 @@ static void print_glyph(size_t i) {
 /* One line a cluster: its code units, and its glyphs. */
 static void print_run(glyph_label_reading r) {
     size_t u = 0, g = 0;
-    printf("%u code units, %u clusters, %u glyphs\n", r.units, r.clusters, r.glyphs);
+    printf("%u code units, %u clusters, %u glyphs, %u values rounded\n", r.units, r.clusters, r.glyphs, r.rounded);
     printf("cluster  units / glyphs\n");
     for (size_t c = 0; c < r.clusters; c++) {
         size_t u_end = u + (size_t)number(clusters, 2 * c), g_end = g + (size_t)number(clusters, 2 * c + 1);

@@ -71,9 +71,11 @@
 extern "C" {
 #endif
 
-/* What was read: counts of code units, clusters and glyphs, at most 4,096 each. */
+/* What was read: counts of code units, clusters and glyphs, at most 4,096 each. `rounded` tells how often the label is
+ * finer than thousandths: it counts the advances and offsets given in it, at most 12,288, whose exact value is no whole
+ * number of thousandths. It is no part of the run. */
 typedef struct {
-    uint32_t number, place, units, clusters, glyphs;
+    uint32_t number, place, units, clusters, glyphs, rounded;
 } glyph_label_reading;
 
 /* Bytes that were written: at most 16,384 of text and 262,144 of indices. */

@@ -19,6 +19,7 @@ ${CXX:-c++} -x c++ -Wall -Wextra -Werror -fsyntax-only include/glyph_label.h
 passed=$("$out/test_calls")
 checked=$(valgrind -q --error-exitcode=9 "$out/test_calls" 2000)
 "$out/plotter" '{}flow' '(2:1)192;07,+55.50,,0' 1 2 > "$out/plotter.out"
+"$out/plotter" A '5,.0005,1.5,-1e-4' >> "$out/plotter.out"
 "$out/plotter" AB '(2:2)5' >> "$out/plotter.out" && exit 1
 diff tests/c/plotter.expected "$out/plotter.out"
 echo "tests/c: $passed"

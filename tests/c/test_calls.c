@@ -155,7 +155,7 @@ static glyph_label_reading read_into(const char *what, const uint8_t *text, size
     run got = {NULL, NULL, NULL, 2 * (size_t)r.units, 8 * (size_t)r.clusters, 16 * (size_t)r.glyphs};
     int stays = stays_behind(&us, got.units_len) && stays_behind(&cs, got.clusters_len) && stays_behind(&gs, got.glyphs_len);
     check(stays, "%s: a reading into %zu %zu %zu changed other bytes", what, u, c, g);
-    check(r.number == 0 || (r.units == 0 && r.clusters == 0 && r.glyphs == 0), "%s: counts of a refusal", what);
+    check(r.number == 0 || (r.units == 0 && r.clusters == 0 && r.glyphs == 0 && r.rounded == 0), "%s: counts of a refusal", what);
     if (out) {
         if (stays) {
             got.units = new_input(us.bytes, got.units_len);
@@ -200,6 +200,7 @@ static int try_run(const char *what, const run *r) {
         run back;
         glyph_label_reading a = read_into(what, text, w.text, indices, w.indices, r->units_len, r->clusters_len, r->glyphs_len, &back);
         check(a.number == 0 && same_run(r, &back), "%s: not read back (%u %u)", what, a.number, a.place);
+        check(a.rounded == 0, "%s: %u fields of a normal writing rounded", what, a.rounded);
         check(to_units.number == 0 && to_units.first == 0, "%s: the first glyph's units", what);
         check(r->units_len == 0 ? is_stretch(to_glyphs, 22, 0, 0) : to_glyphs.number == 0 && to_glyphs.first == 0,
               "%s: the first unit's glyphs", what);
@@ -487,6 +488,59 @@ static void test_beyond(void) {
     }
 }
 
+/* ---- Rounded fields ---- */
+
+typedef struct {
+    const char *text, *indices;
+    uint32_t number, rounded;
+} rounded_row;
+
+static const rounded_row rounded_rows[] = {
+    {"A", "5,.0005", 0, 1},
+    {"A", "5,1.0000", 0, 0},
+    {"A", "5,0e-99", 0, 0},
+    {"A", "5,1e-4", 0, 1},
+    {"A", "5,.0005,1.5,-1e-4", 0, 2},
+    {"A", "5,.0005,.0005,-.0005", 0, 3},
+    {"A", "(1:2)5,1.5;6,.0005,,-1e-4", 0, 2},
+    {"A", "5,,,.0004", 0, 1},
+    {"A", "5,,,", 0, 0},
+    {"ABC", ",+.0004,", 0, 1},
+    {"A", "5,1000000.0004", 0, 1},
+    {"A", "5,1000000.0005", 9, 0},
+    {"A", "5,.0005;6", 12, 0},
+    {"", "5,.0005;6,12345e-5", 0, 2},
+};
+
+static void test_rounded(void) {
+    for (size_t k = 0; k < sizeof rounded_rows / sizeof rounded_rows[0]; k++) {
+        const rounded_row *w = &rounded_rows[k];
+        size_t tn = strlen(w->text), in = strlen(w->indices);
+        uint8_t *t = new_input(w->text, tn), *i = new_input(w->indices, in);
+        glyph_label_reading a = read_into(w->indices, t, tn, i, in, 64, 64, 64, NULL);
+        check(a.number == w->number && a.rounded == w->rounded, "%s: %u, %u rounded", w->indices, a.number, a.rounded);
+        read_into(w->indices, t, tn, i, in, 2 * tn - (tn != 0), 64, 64, NULL);
+        read_into(w->indices, t, tn, i, in, 64, 7, 64, NULL);
+        read_into(w->indices, t, tn, i, in, 64, 64, 15, NULL);
+        free(t);
+        free(i);
+    }
+}
+
+/* n glyphs with three rounded fields each. */
+static void test_all_rounded(size_t n) {
+    uint8_t *text = new_bytes(n), *indices = new_bytes(24 * n);
+    size_t length = 0;
+    for (size_t k = 0; k < n; k++) {
+        text[k] = 'a';
+        length += (size_t)sprintf((char *)indices + length, "%s5,.0001,.0009,-1e-9", k ? ";" : "");
+    }
+    glyph_label_reading a = read_into("all rounded", text, n, indices, length, 2 * n, 8 * n, 16 * n, NULL);
+    check(is_reading(a, 0, 0, (uint32_t)n, (uint32_t)n, (uint32_t)n) && a.rounded == 3 * n, "all rounded: %u", a.rounded);
+    free(text);
+    free(indices);
+}
+
 /* ---- Random cases ---- */
 
 /* A run of small numbers, most of them plausible, some of them any. */
@@ -527,7 +581,7 @@ static run wild_run(void) {
 /* A label from pieces: it is refused and nothing changes, or its run is sound. */
 static int random_label(void) {
     static const char *const texts[] = {"", "A", "AB", "{}", "{}{", "{", "\xF0\x9F\x98\x80", "fl", "ow", "\xE0\xB8\xB3", "\xC3", "\x01", "ABCDEFGH"};
-    static const char *const pieces[] = {"5", ";", ";", ";", ",", "(2)", "(1:2)", "(2:3)7;8;9", "65535", "70000", ".5", "-1", "12.25", "1e3", "e", "(0)", "6,1,2,3", "x"};
+    static const char *const pieces[] = {"5", ";", ";", ";", ",", "(2)", "(1:2)", "(2:3)7;8;9", "65535", "70000", ".5", "-1", "12.25", "1e3", "1e-4", ".00050", "e", "(0)", "6,1,2,3", "x"};
     char text[64] = "", indices[256] = "";
     run r;
     for (uint32_t k = random_below(4); k > 0; k--)
@@ -558,6 +612,8 @@ int main(int argc, char **argv) {
     for (size_t k = 0; k < sizeof sizes / sizeof sizes[0]; k++)
         test_size(sizes[k]);
     test_beyond();
+    test_rounded();
+    test_all_rounded(4096);
     for (unsigned long k = 0; k < rounds; k++) {
         run r = random_run(), w = wild_run();
         written += (unsigned long)try_run("random run", &r);

@@ -44,14 +44,20 @@ def row(label):
     return f"    row {bytes_of(label['text'])} {bytes_of(label['indices'])} ({said}) ∷"
 
 
+def counted(label):
+    return f"    counts {bytes_of(label['text'])} {bytes_of(label['indices'])} {label['rounded']} ∷"
+
+
 def theorem(labels, specs):
-    """specs/Labels.antt with these rows in place of its own."""
+    """specs/Labels.antt with these rows, and the counts of their rounded fields, in place of its own."""
     text = open(os.path.join(specs, 'Labels.antt'), encoding='utf-8').read()
     head = text[:text.index('-- ── document 01, labels 1 to 11 ──')]
+    kind = text[text.index('-- a label and the count that is returned for it'):text.index('-- a row for each way to count')]
     end = text[text.index('-- each row\'s label is answered as the row says'):text.index('-- "From `{}flow`')]
     rows = 'unfoldable pub documentRows : List LabelRow\ndocumentRows =\n' + '\n'.join(map(row, labels)) + '\n    []\n\n'
     none = 'unfoldable pub standardRows : List LabelRow\nstandardRows = []\n\n'
-    return head + rows + none + end
+    counts = 'unfoldable pub roundedRows : List RoundedRow\nroundedRows =\n' + '\n'.join(map(counted, labels)) + '\n    []\n\n'
+    return head + rows + none + kind + counts + end
 
 
 def main():
@@ -76,8 +82,9 @@ def main():
     if done.returncode != 0:
         print((done.stdout + done.stderr)[-4000:])
         sys.exit(f'definitions: the theorem of {len(labels)} labels was refused')
+    rounded = sum(l['rounded'] for l in labels)
     print(f'definitions: {len(labels)} labels computed by the prover agree with the independent reader'
-          f' ({accepted} accepted; refusals {" ".join(map(str, numbers_seen))})')
+          f' ({accepted} accepted, {rounded} fields rounded; refusals {" ".join(map(str, numbers_seen))})')
 
 
 main()

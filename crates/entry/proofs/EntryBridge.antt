@@ -13,14 +13,15 @@ use Rattle.label.specs.Limits.{maxIndex}
 use Rattle.label.specs.Outcome.{Outcome, ok, need, _>>_}
 use Rattle.label.specs.Bytes.{empty, Cut, split, value}
 use Rattle.label.specs.Entry.{Entry, entry, part, minus, unsigned, numberFits, hasMap, mapUnits, mapGlyphs, isIndexPart, indexDigits, isAdvance, isOffset, fieldFits, wellFormed, indexOf, advanceOf, offsetOf, entryOf}
+use Rattle.label.specs.Rounded.{roundedField, roundedEntry}
 use Rattle.label.specs.declared.Index.the-variants.{Named, Font}
 use Rattle.label.proofs.Basics.{and-l, and-r, clash, cases}
 use Rattle.label.proofs.Splits.{none, empty-nil}
 use Rattle.label.proofs.Cursors.{split-rest, split-all}
-use Rattle.entry.specs.Items.{isSemi, here, entryRead}
+use Rattle.entry.specs.Items.{isSemi, here, entryRead, entryHere}
 use Rattle.entry.specs.Digits.{ends, isBreak}
 use Rattle.entry.specs.Numbers.{within}
-use Rattle.entry.specs.Parts.{Parts, partsOf, mapOf, indexAt, frontOk, fieldOf, wellParted, indexChoice, advanceChoice, offsetBy, scanned}
+use Rattle.entry.specs.Parts.{Parts, partsOf, mapOf, indexAt, frontOk, fieldOf, wellParted, indexChoice, advanceChoice, offsetBy, roundedBy, roundedParts, scanned}
 use Rattle.entry.proofs.Scan.{Cutting, whole, parted, cutting, none-or, none-left, none-right}
 use Rattle.entry.proofs.FieldBridge.{fieldSize, Fielded, field-is, field-stuck, advance-field, or-right}
 use Rattle.entry.proofs.FrontBridge.{Headed, head-is}
@@ -287,6 +288,11 @@ unfolding fieldFits offsetOf
 offset-is [] h = refl
 offset-is (b ∷ x) h = rw h (cases (minus (b ∷ x)) (λ e. rw e) (λ e. rw e))
 
+rounded-is : (x : List ℕ) → fieldFits x ≡ true → roundedBy (fieldSize x) ≡ roundedField x
+unfolding fieldFits roundedField
+rounded-is [] h = refl
+rounded-is (b ∷ x) h = rw h
+
 -- 8 and 9, and what the entry then says
 abbrev checked : ℕ → Bool → Bool → Entry → Outcome Entry
 checked k a b e = need a 8 k >> (need b 9 k >> ok e)
@@ -315,18 +321,20 @@ definedBy p0 p1 p2 p3 =
       glyph = record { index = indexOf p0; advance = advanceOf p1; u = offsetOf p2; v = offsetOf p3 };
     }
 
-answer : (k : ℕ) (p0 p1 p2 p3 : List ℕ)
-    → checked k (leb (value (indexDigits p0)) maxIndex) (within (fieldSize p1) && within (fieldSize p2) && within (fieldSize p3)) (scannedBy p0 p1 p2 p3)
-    ≡ checked k (leb (value (indexDigits p0)) maxIndex) (fieldFits p1 && fieldFits p2 && fieldFits p3) (definedBy p0 p1 p2 p3)
+answer : (n k : ℕ) (p0 p1 p2 p3 : List ℕ)
+    → entryRead n (roundedBy (fieldSize p1) + roundedBy (fieldSize p2) + roundedBy (fieldSize p3))
+    (checked k (leb (value (indexDigits p0)) maxIndex) (within (fieldSize p1) && within (fieldSize p2) && within (fieldSize p3)) (scannedBy p0 p1 p2 p3))
+    ≡ entryRead n (roundedField p1 + roundedField p2 + roundedField p3)
+    (checked k (leb (value (indexDigits p0)) maxIndex) (fieldFits p1 && fieldFits p2 && fieldFits p3) (definedBy p0 p1 p2 p3))
 unfolding indexOf
-answer k p0 p1 p2 p3 =
+answer n k p0 p1 p2 p3 =
     rw (index-is (indexDigits p0), within-is p1, within-is p2, within-is p3)
     (cases (fieldFits p1 && fieldFits p2 && fieldFits p3)
     (λ m. let a : fieldFits p1 ≡ true = and-l (fieldFits p1) (fieldFits p2) (and-l (fieldFits p1 && fieldFits p2) (fieldFits p3) m) in
     let b : fieldFits p2 ≡ true = and-r (fieldFits p1) (fieldFits p2) (and-l (fieldFits p1 && fieldFits p2) (fieldFits p3) m) in
     let d : fieldFits p3 ≡ true = and-r (fieldFits p1 && fieldFits p2) (fieldFits p3) m in
-    rw (advance-is p1 a, offset-is p2 b, offset-is p3 d))
-    (λ m. rw m))
+    rw (advance-is p1 a, offset-is p2 b, offset-is p3 d, rounded-is p1 a, rounded-is p2 b, rounded-is p3 d))
+    (λ m. cases (leb (value (indexDigits p0)) maxIndex) (λ l. rw (l, m)) (λ l. rw l)))
 
 module _ (k : ℕ) (t en r0 : List ℕ) (te : t ≡ en ++ r0) (k0 : ends isSemi r0 ≡ true) (c : Comma en) (x : Next (c .r) r0) (y : Next (x .r') r0) (z : Next (y .r') r0)
     (bound : partsOf t .used ≤ length t) where
@@ -398,8 +406,8 @@ module _ (k : ℕ) (t en r0 : List ℕ) (te : t ≡ en ++ r0) (k0 : ends isSemi 
     unfolding partsOf
     digits-same = refl
 
-    well-bridge : entryRead (partsOf t .used) (scanned k t) ≡ entryRead (length en) (entry k en)
-    unfolding scanned entry entryOf
+    well-bridge : entryRead (partsOf t .used) (roundedParts (partsOf t)) (scanned k t) ≡ entryRead (length en) (roundedEntry en) (entry k en)
+    unfolding scanned entry entryOf roundedEntry
     well-bridge =
         rw (
           well-same t en r0 te k0 c x y z,
@@ -425,15 +433,15 @@ module _ (k : ℕ) (t en r0 : List ℕ) (te : t ≡ en ++ r0) (k0 : ends isSemi 
           part-2 t en r0 te k0 c x y z,
           part-3 t en r0 te k0 c x y z,
         )
-        (ap (entryRead (length en)) (answer k (c .p) (x .p) (y .p) (z .p)))
+        (answer (length en) k (c .p) (x .p) (y .p) (z .p))
 
-  bridge-parts : entryRead (partsOf t .used) (scanned k t) ≡ entryRead (length en) (entry k en)
+  bridge-parts : entryRead (partsOf t .used) (roundedParts (partsOf t)) (scanned k t) ≡ entryRead (length en) (roundedEntry en) (entry k en)
   unfolding scanned entry entryRead
   bridge-parts = cases (wellFormed en) well-bridge (λ e. rw (well-same t en r0 te k0 c x y z, e))
 
 -- an entry en and what follows it
 bridge-entry : (k : ℕ) (t en r0 : List ℕ) → t ≡ en ++ r0 → none isSemi en ≡ true → ends isSemi r0 ≡ true → partsOf t .used ≤ length t
-    → entryRead (partsOf t .used) (scanned k t) ≡ entryRead (length en) (entry k en)
+    → entryRead (partsOf t .used) (roundedParts (partsOf t)) (scanned k t) ≡ entryRead (length en) (roundedEntry en) (entry k en)
 bridge-entry k t en r0 te n k0 b =
     let c : Comma en = comma en n in
     let x : Next (c .r) r0 = next (c .r) r0 (c .end) (c .semi) k0 in
@@ -441,10 +449,10 @@ bridge-entry k t en r0 te n k0 b =
     bridge-parts k t en r0 te k0 c x y (next (y .r') r0 (y .end) (y .semi) k0) b
 
 -- for every list of bytes: what the scan answers is what the definitions answer of the entry in front
-pub bridge : (k : ℕ) (t : List ℕ) → partsOf t .used ≤ length t → entryRead (partsOf t .used) (scanned k t) ≡ entryRead (length (here t)) (entry k (here t))
+pub bridge : (k : ℕ) (t : List ℕ) → partsOf t .used ≤ length t → entryRead (partsOf t .used) (roundedParts (partsOf t)) (scanned k t) ≡ entryHere k t
 unfolding here
 bridge k t b = go (cutting isSemi t)
   where
-    go : Cutting isSemi t → entryRead (partsOf t .used) (scanned k t) ≡ entryRead (length (here t)) (entry k (here t))
-    go (whole n c) = subst (λ (v : Cut). entryRead (partsOf t .used) (scanned k t) ≡ entryRead (length (v .before)) (entry k (v .before))) (sym c) (bridge-entry k t t [] (sym (append-nil t)) n refl b)
-    go (parted u s w q n e c) = subst (λ (v : Cut). entryRead (partsOf t .used) (scanned k t) ≡ entryRead (length (v .before)) (entry k (v .before))) (sym c) (bridge-entry k t u (s ∷ w) q n e b)
+    go : Cutting isSemi t → entryRead (partsOf t .used) (roundedParts (partsOf t)) (scanned k t) ≡ entryHere k t
+    go (whole n c) = subst (λ (v : Cut). entryRead (partsOf t .used) (roundedParts (partsOf t)) (scanned k t) ≡ entryRead (length (v .before)) (roundedEntry (v .before)) (entry k (v .before))) (sym c) (bridge-entry k t t [] (sym (append-nil t)) n refl b)
+    go (parted u s w q n e c) = subst (λ (v : Cut). entryRead (partsOf t .used) (roundedParts (partsOf t)) (scanned k t) ≡ entryRead (length (v .before)) (roundedEntry (v .before)) (entry k (v .before))) (sym c) (bridge-entry k t u (s ∷ w) q n e b)

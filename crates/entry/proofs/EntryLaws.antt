@@ -12,7 +12,8 @@ use lib.Seq.{drop-drop}
 use borrow.Author.Tests.{eq-eqb, ne-eqb, eqb-true, eqb-false, le-leb, lt-leb, lt-ltb, leb-true, ltb-true}
 use Rattle.label.specs.Limits.{maxIndex, maxThousandths}
 use Rattle.label.specs.Bytes.{value}
-use Rattle.label.specs.Entry.{entry, scaled}
+use Rattle.label.specs.Entry.{scaled}
+use Rattle.label.specs.Rounded.{isWhole}
 use Rattle.label.specs.Calls.{refusal}
 use Rattle.label.specs.declared.Index.{Index}
 use Rattle.label.specs.declared.Index.the-variants.{Named}
@@ -26,10 +27,10 @@ use Rattle.entry.specs.declared.MapPart.{MapPart}
 use Rattle.entry.specs.declared.Front.{Front}
 use Rattle.entry.specs.declared.Field.{Field}
 use Rattle.entry.specs.declared.EntryRead.the-variants.{Read, Refused}
-use Rattle.entry.specs.Items.{cap, isSemi, here, entryRead, IsIndex}
+use Rattle.entry.specs.Items.{cap, isSemi, entryRead, entryHere, IsIndex}
 use Rattle.entry.specs.Digits.{headOf, ends, isBreak, lead, digitsFrom}
 use Rattle.entry.specs.Numbers.{sized, within, signLength, numberOf, Mant, Expo, mantissaOf, exponentOf, sizeOf}
-use Rattle.entry.specs.Parts.{Map, mapOf, mapBy, mapWith, noMap, badMap, leadAt, cutMap, indexAt, frontWith, frontOf, fieldOf, fieldWith, headAt, notGiven, givenBy, Small, Parts, partsOf, wellParted, indexChoice, advanceChoice, offsetBy, judged, scanned}
+use Rattle.entry.specs.Parts.{Map, mapOf, mapBy, mapWith, noMap, badMap, leadAt, cutMap, indexAt, frontWith, frontOf, fieldOf, fieldWith, headAt, notGiven, givenBy, Small, Parts, partsOf, wellParted, indexChoice, advanceChoice, offsetBy, roundedBy, roundedParts, judged, scanned}
 use Rattle.entry.proofs.EntryBridge.{bridge}
 
 -- ── the map ──
@@ -103,14 +104,14 @@ module _ (s : List ℕ) (at : ℕ) (p : headOf (drop at s) ≡ 44) where
   code-given b eb h k ek n en = rw (field-some (drop at s) p, drop-drop 1 at s, h, ← eb, ← ek, drop-drop, ← en)
 
 -- a size is within its limit
-sized-small : (v : ℕ) → Small (sized v)
-sized-small v = cases (leb v maxThousandths) (λ e. rw e (leb-true v maxThousandths e)) (λ e. rw e tt)
+sized-small : (v : ℕ) (x : Bool) → Small (sized v x)
+sized-small v x = cases (leb v maxThousandths) (λ e. rw e (leb-true v maxThousandths e)) (λ e. rw e tt)
 
 size-small : (m : Mant) (x : Expo) → Small (sizeOf m x)
 size-small m x = go (leb (length (m .digits)) 18 && leb (length (x .digits)) 2) refl
   where
     go : (b : Bool) → (leb (length (m .digits)) 18 && leb (length (x .digits)) 2) ≡ b → Small (sizeOf m x)
-    go true e = rw e (sized-small (scaled (value (m .digits)) (m .behind) (x .negative) (value (x .digits))))
+    go true e = rw e (sized-small (scaled (value (m .digits)) (m .behind) (x .negative) (value (x .digits))) (isWhole (value (m .digits)) (m .behind) (x .negative) (value (x .digits))))
     go false e = rw e tt
 
 number-small : (t : List ℕ) → Small (numberOf t .size)
@@ -164,15 +165,15 @@ module _ (k : ℕ) (s : List ℕ) (f : Front) (ef : f ≡ frontOf s)
   value-is = ap (λ (r : Front). r .index) front-is
 
   -- the answer of the definitions, told by the parts
-  said : entryRead (f .used + x .used + y .used + z .used) (judged k parts s) ≡ entryRead (length (here s)) (entry k (here s))
+  said : entryRead (f .used + x .used + y .used + z .used) (roundedParts parts) (judged k parts s) ≡ entryHere k s
   said = rw (parts-are, scanned-is) at (bridge k s (rw parts-are bound))
 
-  pub code-wrong : Well s f x y z ≡ false → Refused (refusal 7 k) ≡ entryRead (length (here s)) (entry k (here s))
+  pub code-wrong : Well s f x y z ≡ false → Refused (refusal 7 k) ≡ entryHere k s
   unfolding entryRead
   code-wrong h = rw (well-is, h) at said
 
   module _ (h : Well s f x y z ≡ true) where
-    pub code-index : maxIndex < f .index → Refused (refusal 8 k) ≡ entryRead (length (here s)) (entry k (here s))
+    pub code-index : maxIndex < f .index → Refused (refusal 8 k) ≡ entryHere k s
     unfolding entryRead
     code-index l = rw (well-is, h, lt-leb (value (indexAt s)) maxIndex (omega (arith, value-is))) at said
 
@@ -183,22 +184,23 @@ module _ (k : ℕ) (s : List ℕ) (f : Front) (ef : f ≡ frontOf s)
       exact : min (value (indexAt s)) cap ≡ value (indexAt s)
       exact = omega (arith, value-is)
 
-      pub code-limits : Fit (x .size) (y .size) (z .size) ≡ false → Refused (refusal 9 k) ≡ entryRead (length (here s)) (entry k (here s))
+      pub code-limits : Fit (x .size) (y .size) (z .size) ≡ false → Refused (refusal 9 k) ≡ entryHere k s
       unfolding entryRead Fit
       code-limits n = rw (well-is, h, small, n) at said
 
       pub code-read : Fit (x .size) (y .size) (z .size) ≡ true
           → (i : Index) → i ≡ indexChoice (f .named) (f .index) → (a : Advance) → a ≡ advanceChoice (x .given) (x .size)
-          → (u v : ℤ) → u ≡ offsetBy (y .negative) (y .size) → v ≡ offsetBy (z .negative) (z .size)
+          → (u v : ℤ) → u ≡ offsetBy (y .negative) (y .size) → v ≡ offsetBy (z .negative) (z .size) → (n : ℕ) → n ≡ roundedBy (x .size) + roundedBy (y .size) + roundedBy (z .size)
           → Read (record {
             mapped = f .mapped;
             units = f .units;
             glyphs = f .glyphs;
             glyph = record { index = i; advance = a; u = u; v = v };
             used = f .used + x .used + y .used + z .used;
-          }) ≡ entryRead (length (here s)) (entry k (here s))
+            rounded = n;
+          }) ≡ entryHere k s
       unfolding entryRead Fit
-      code-read n i ei a ea u v eu ev = rw (ei, ea, eu, ev, front-is, exact) (rw (well-is, h, small, n, front-is) at said)
+      code-read w i ei a ea u v eu ev n en = rw (ei, ea, eu, ev, en, front-is, exact) (rw (well-is, h, small, w, front-is) at said)
 
 -- the flags that lead to a test, put together
 pub well-chain : (s : List ℕ) (f : Front) (x y z : Field) {a b fields g e r : Bool}
@@ -241,30 +243,31 @@ module _ (k : ℕ) (s : List ℕ) (f : Front) (ef : f ≡ frontOf s) (x : Field)
   unfolding Well OneWell
   one-well = rw (one-sum, and-true)
 
-  pub one-wrong : OneWell s f x ≡ false → Refused (refusal 7 k) ≡ entryRead (length (here s)) (entry k (here s))
+  pub one-wrong : OneWell s f x ≡ false → Refused (refusal 7 k) ≡ entryHere k s
   one-wrong w = code-wrong k s f ef x ex (notGiven 0) one-y (notGiven 0) one-z one-bound (one-well ∙ w)
 
   module _ (w : OneWell s f x ≡ true) where
-    pub one-index : maxIndex < f .index → Refused (refusal 8 k) ≡ entryRead (length (here s)) (entry k (here s))
+    pub one-index : maxIndex < f .index → Refused (refusal 8 k) ≡ entryHere k s
     one-index l = code-index k s f ef x ex (notGiven 0) one-y (notGiven 0) one-z one-bound (one-well ∙ w) l
 
     module _ (l : f .index ≤ maxIndex) where
-      pub one-limit : within (x .size) ≡ false → Refused (refusal 9 k) ≡ entryRead (length (here s)) (entry k (here s))
+      pub one-limit : within (x .size) ≡ false → Refused (refusal 9 k) ≡ entryHere k s
       unfolding Fit
       one-limit n = code-limits k s f ef x ex (notGiven 0) one-y (notGiven 0) one-z one-bound (one-well ∙ w) l (rw n)
 
-      pub one-read : within (x .size) ≡ true → (i : Index) → i ≡ indexChoice (f .named) (f .index) → (a : Advance) → a ≡ advanceChoice (x .given) (x .size)
+      pub one-read : within (x .size) ≡ true → (i : Index) → i ≡ indexChoice (f .named) (f .index) → (a : Advance) → a ≡ advanceChoice (x .given) (x .size) → (n : ℕ) → n ≡ roundedBy (x .size)
           → Read (record {
             mapped = f .mapped;
             units = f .units;
             glyphs = f .glyphs;
             glyph = record { index = i; advance = a; u = pos 0; v = pos 0 };
             used = f .used + x .used;
-          }) ≡ entryRead (length (here s)) (entry k (here s))
+            rounded = n;
+          }) ≡ entryHere k s
       unfolding Fit
-      one-read n i ei a ea =
+      one-read q i ei a ea n en =
           rw (← one-sum)
-          (code-read k s f ef x ex (notGiven 0) one-y (notGiven 0) one-z one-bound (one-well ∙ w) l (rw n) i ei a ea (pos 0) (pos 0) refl refl)
+          (code-read k s f ef x ex (notGiven 0) one-y (notGiven 0) one-z one-bound (one-well ∙ w) l (rw q) i ei a ea (pos 0) (pos 0) refl refl n (omega (arith, en)))
 
 -- ── an index alone ──
 
@@ -287,7 +290,7 @@ index-alone t d ed bound some l w =
     let ef : f ≡ frontOf t = rw (zero-add n) at (code-front t (cutMap noMap) (ap cutMap (sym plain)) d ed true true (sym (or-true (ltb 0 n))) refl) in
     let i : Named (d .value) ≡ indexChoice (ltb 0 n) (d .value) = ap (λ (b : Bool). indexChoice b (d .value)) (sym (lt-ltb 0 n some)) in (
       l,
-      λ k. sym (rw z at (one-read k t f ef (notGiven 0) (code-absent t n (no-comma (drop n t) w)) (rw z (no-comma (drop n t) w)) (rw z bound) (rw z w) l refl (Named (d .value)) i Own refl)),
+      λ k. sym (rw z at (one-read k t f ef (notGiven 0) (code-absent t n (no-comma (drop n t) w)) (rw z (no-comma (drop n t) w)) (rw z bound) (rw z w) l refl (Named (d .value)) i Own refl 0 refl)),
     )
 
 -- two flags put together

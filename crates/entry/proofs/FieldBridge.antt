@@ -30,7 +30,7 @@ or-right false b h = h
 
 -- the size that a field says
 abbrev pub fieldSize : List ℕ → Thousandths
-fieldSize x = cond (empty x) (Of 0) (sizedAs (unsigned x))
+fieldSize x = cond (empty x) (Of 0 true) (sizedAs (unsigned x))
 
 pub data Fielded (x r t : List ℕ) : Type 0 where
   good : isOffset x ≡ true → fieldOf t .ok ≡ true → drop (fieldOf t .used) t ≡ r → fieldOf t .given ≡ not (empty x) → fieldOf t .negative ≡ minus x

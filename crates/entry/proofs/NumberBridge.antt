@@ -12,6 +12,7 @@ use borrow.Author.Tests.{eqb-true}
 use Rattle.label.specs.Limits.{maxDigits, maxExponentDigits, maxThousandths}
 use Rattle.label.specs.Bytes.{cut, isDigit, allDigits, value}
 use Rattle.label.specs.Entry.{minus, plus, unsigned, isE, isPoint, atExponent, isDecimals, isNumber, mantissaDigits, fractionDigits, exponentDigits, scaled, thousandths, numberFits}
+use Rattle.label.specs.Rounded.{isExact}
 use Rattle.label.proofs.Basics.{and-r, clash, cases}
 use Rattle.label.proofs.Splits.{none}
 use Rattle.entry.specs.declared.Thousandths.{Thousandths}
@@ -124,9 +125,9 @@ none-unsigned (b ∷ w) h = cases (minus (b ∷ w) || plus (b ∷ w)) (λ e. rw 
 
 -- ── the value ──
 
--- the size of a part that is a number
+-- the size of a part that is a number, and whether it is exact
 abbrev pub sizedAs : List ℕ → Thousandths
-sizedAs x = cond (numberFits x) (Of (thousandths x)) Over
+sizedAs x = cond (numberFits x) (Of (thousandths x) (isExact x)) Over
 
 cond-three : (a b c : Bool) (z : Thousandths) → cond (a && b) (cond c z Over) Over ≡ cond (a && b && c) z Over
 cond-three true true c z = refl
@@ -135,12 +136,12 @@ cond-three false b c z = refl
 
 size-same : (x : List ℕ) (m : Mant) (e : Expo) → m .digits ≡ mantissaDigits x → m .behind ≡ length (fractionDigits x) → e .negative ≡ minus (atExponent x .after) → e .digits ≡ exponentDigits x
     → sizeOf m e ≡ sizedAs x
-unfolding numberFits thousandths
+unfolding numberFits thousandths isExact
 size-same x m e d b n p =
     rw (d, b, n, p)
     (cond-three (leb (length (mantissaDigits x)) maxDigits) (leb (length (exponentDigits x)) maxExponentDigits)
     (leb (scaled (value (mantissaDigits x)) (length (fractionDigits x)) (minus (atExponent x .after)) (value (exponentDigits x))) maxThousandths)
-    (Of (scaled (value (mantissaDigits x)) (length (fractionDigits x)) (minus (atExponent x .after)) (value (exponentDigits x)))))
+    (Of (thousandths x) (isExact x)))
 
 -- ── numbers ──
 

@@ -12,6 +12,7 @@ use borrow.Author.Tests.{le-leb, lt-leb, eq-eqb, ne-eqb}
 use lib.Seq.{drop-drop}
 use Rattle.label.specs.Bytes.{isDigit, valueFrom, value}
 use Rattle.label.specs.Entry.{isE, scaled}
+use Rattle.label.specs.Rounded.{isWhole}
 use Rattle.label.proofs.Decimals.{value-append}
 use Rattle.entry.specs.declared.Thousandths.{Thousandths}
 use Rattle.entry.specs.declared.Thousandths.the-variants.{Over}
@@ -82,7 +83,7 @@ module _ (m : Mant) (x : Expo) where
   size-far h k = rw (le-leb (length (m .digits)) 18 h, lt-leb (length (x .digits)) 2 k)
 
   size-is : length (m .digits) ≤ 18 → length (x .digits) ≤ 2
-      → sizeOf m x ≡ sized (scaled (value (m .digits)) (m .behind) (x .negative) (value (x .digits)))
+      → sizeOf m x ≡ sized (scaled (value (m .digits)) (m .behind) (x .negative) (value (x .digits))) (isWhole (value (m .digits)) (m .behind) (x .negative) (value (x .digits)))
   size-is h k = rw (le-leb (length (m .digits)) 18 h, le-leb (length (x .digits)) 2 k)
 
 mant-pointed : (t : List ℕ) → headOf (drop (length (lead t)) t) ≡ 46 → mantissaOf t ≡ pointed (lead t) (lead (drop (length (lead t) + 1) t))
@@ -192,7 +193,7 @@ module _ (s : List ℕ) (at : ℕ) (m : Mantissa) (em : m ≡ cutMantissa (manti
   pub code-far : m .count ≤ 18 → 2 < x .count → _≡_ {A = Number} (record { ok = ok; used = m .used + x .used; size = Over }) (numberOf (drop at s))
   code-far h k = code-number Over (sym (size-far (mantissaOf (drop at s)) (exponentOf (drop (at + m .used) s)) (rw em at h) (rw ex at k)))
 
-  pub code-sized : m .count ≤ 18 → x .count ≤ 2 → (z : Thousandths) → z ≡ sized (scaled (m .value) (m .behind) (x .negative) (x .value))
+  pub code-sized : m .count ≤ 18 → x .count ≤ 2 → (z : Thousandths) → z ≡ sized (scaled (m .value) (m .behind) (x .negative) (x .value)) (isWhole (m .value) (m .behind) (x .negative) (x .value))
       → _≡_ {A = Number} (record { ok = ok; used = m .used + x .used; size = z }) (numberOf (drop at s))
   code-sized h k z e =
       code-number z

@@ -3,15 +3,17 @@ use mathlib.Core.Path.{_≡_, refl, ap, _∙_}
 use mathlib.Core.Bool.{Bool, true, false, cond, not}
 use Prim.Native.Nat.{ℕ, suc, zero, _+_, _-_, _*_, _/_, _%_, _^_, _≤_, _<_}
 use native.Mathlib.Omega.{arith}
-use native.Mathlib.Nat.{add-zero, div-eq-of-lt-le, mul-div-mul-right, div-eq-of-lt, mul-assoc, one-le-pow, mod-lt, div-add-mod', pow-le-pow-right, mul-le-mul, mul-le-mul-right}
+use native.Mathlib.Nat.{add-zero, zero-mul, div-eq-of-lt-le, mul-div-mul-right, mul-div-cancel, mul-mod-left, div-eq-of-lt, mul-assoc, one-le-pow, mod-lt, mod-eq-of-lt, lt-of-lt-of-le, div-add-mod', pow-le-pow-right, mul-le-mul, mul-le-mul-right}
+use lib.Arith.{mod-mul}
 use lib.Pow.{pow-add}
-use lib.Dec.{ltb, lit<}
+use lib.Dec.{ltb, eqb, lit<}
 use lib.IntN.{pos, negℤ}
 use mir.Syntax.{w32}
 use mir.Val.{SFits}
-use borrow.Author.Tests.{le-leb, lt-leb, ltb-true, ltb-false}
+use borrow.Author.Tests.{le-leb, lt-leb, ltb-true, ltb-false, ne-eqb}
 use Rattle.label.specs.Limits.{maxThousandths}
 use Rattle.label.specs.Entry.{nearest, scaled}
+use Rattle.label.specs.Rounded.{isWhole}
 use Rattle.label.proofs.Basics.{cases}
 use Rattle.entry.specs.declared.Thousandths.the-variants.{Of, Over}
 use Rattle.entry.specs.Items.{cap}
@@ -89,13 +91,36 @@ unfolding scaled
 scaled-is m f true e = refl
 scaled-is m f false e = rw (add-zero f)
 
+-- ── exactness ──
+
+product-zero : (a c : ℕ) → 0 < c → eqb (a * c) 0 ≡ eqb a 0
+product-zero zero c h = rw (zero-mul c)
+product-zero (suc a) c h = rw (ne-eqb (suc a * c) 0 (λ e. omega (arith, e)), ne-eqb (suc a) 0 (λ e. omega (arith, e)))
+
+pub grow-whole : (m up down : ℕ) → down ≤ up → eqb (m * 10 ^ up % 10 ^ down) 0 ≡ true
+grow-whole m up down h = rw (ten-split up down h, ← mul-assoc m (10 ^ (up - down)) (10 ^ down), mul-mod-left (m * 10 ^ (up - down)) (10 ^ down))
+
+pub shrink-whole : (m up down : ℕ) → up ≤ down → eqb (m * 10 ^ up % 10 ^ down) 0 ≡ eqb (m % 10 ^ (down - up)) 0
+shrink-whole m up down h =
+    rw (ten-split down up h, mod-mul (m * 10 ^ up) (ten-pos (down - up)) (ten-pos up), mul-div-cancel m (ten-pos up), mul-mod-left m (10 ^ up), add-zero)
+    (product-zero (m % 10 ^ (down - up)) (10 ^ up) (ten-pos up))
+
+pub none-whole : (m k : ℕ) → m < cap → 18 < k → eqb (m % 10 ^ k) 0 ≡ eqb m 0
+none-whole m k h b =
+    let l : m < 10 ^ k = lt-of-lt-of-le h (ten-mono 18 k (omega arith)) in rw (mod-eq-of-lt l)
+
+pub whole-is : (m f : ℕ) (n : Bool) (e : ℕ) → eqb (m * 10 ^ (cond n 0 e + 3) % 10 ^ (f + cond (not n) 0 e)) 0 ≡ isWhole m f n e
+unfolding isWhole
+whole-is m f true e = refl
+whole-is m f false e = rw (add-zero f)
+
 -- ── the limit ──
 
-pub sized-of : (v : ℕ) → v ≤ maxThousandths → sized v ≡ Of v
-sized-of v h = rw (le-leb v maxThousandths h)
+pub sized-of : (v : ℕ) (x : Bool) → v ≤ maxThousandths → sized v x ≡ Of v x
+sized-of v x h = rw (le-leb v maxThousandths h)
 
-pub sized-over : (v : ℕ) → maxThousandths < v → sized v ≡ Over
-sized-over v h = rw (lt-leb v maxThousandths h)
+pub sized-over : (v : ℕ) (x : Bool) → maxThousandths < v → sized v x ≡ Over
+sized-over v x h = rw (lt-leb v maxThousandths h)
 
 pub grow-over : (m k : ℕ) → 0 < m → 9 < k → maxThousandths < m * 10 ^ k
 grow-over m k h b = omega (arith, ten-mono 10 k b, mul-le-mul-right (10 ^ k) h)

@@ -8,6 +8,7 @@ use lib.Dec.{leb, ltb, eqb}
 use Rattle.label.specs.Limits.{maxDigits, maxExponentDigits, maxThousandths}
 use Rattle.label.specs.Bytes.{value}
 use Rattle.label.specs.Entry.{isE, scaled}
+use Rattle.label.specs.Rounded.{isWhole}
 use Rattle.entry.specs.declared.Thousandths.{Thousandths}
 use Rattle.entry.specs.declared.Thousandths.the-variants.{Of, Over}
 use Rattle.entry.specs.declared.Mantissa.{Mantissa}
@@ -16,12 +17,12 @@ use Rattle.entry.specs.declared.Number.{Number}
 use Rattle.entry.specs.Items.{cap}
 use Rattle.entry.specs.Digits.{headOf, lead}
 
--- a size, where it is within the limit
-abbrev pub sized : ℕ → Thousandths
-sized v = cond (leb v maxThousandths) (Of v) Over
+-- a size, where it is within the limit, and whether it is exact
+abbrev pub sized : ℕ → Bool → Thousandths
+sized v x = cond (leb v maxThousandths) (Of v x) Over
 
 abbrev pub within : Thousandths → Bool
-within (Of v) = true
+within (Of v x) = true
 within Over = false
 
 -- the part before any exponent: whether it is well formed, how many bytes it has, all its digits, and how many of them stand behind the point
@@ -75,7 +76,7 @@ exponentOf t = cond (isE (headOf t)) (raisedBy (headOf (drop 1 t)) t) unraised
 abbrev pub sizeOf : Mant → Expo → Thousandths
 sizeOf m x =
     cond (leb (length (m .digits)) maxDigits && leb (length (x .digits)) maxExponentDigits)
-    (sized (scaled (value (m .digits)) (m .behind) (x .negative) (value (x .digits))))
+    (sized (scaled (value (m .digits)) (m .behind) (x .negative) (value (x .digits))) (isWhole (value (m .digits)) (m .behind) (x .negative) (value (x .digits))))
     Over
 
 abbrev pub numberWith : Mant → Expo → Number

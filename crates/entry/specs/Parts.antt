@@ -98,7 +98,7 @@ frontOf t = frontWith (mapOf t) (indexAt t)
 
 -- nothing is given in n bytes
 abbrev pub notGiven : ℕ → Field
-notGiven n = record { ok = true; used = n; given = false; negative = false; size = Of 0 }
+notGiven n = record { ok = true; used = n; given = false; negative = false; size = Of 0 true }
 
 -- a number behind the comma and the sign, k bytes; b is the byte behind the comma
 abbrev pub givenBy : ℕ → ℕ → Number → Field
@@ -113,7 +113,7 @@ fieldOf t = cond (eqb (headOf t) 44) (fieldWith (headAt 1 t) t) (notGiven 0)
 
 -- a size of at most 1,000,000,000
 abbrev pub Small : Thousandths → Type 0
-Small (Of v) = v ≤ maxThousandths
+Small (Of v x) = v ≤ maxThousandths
 Small Over = Unit {0}
 
 -- ── the entry ──
@@ -152,9 +152,9 @@ indexChoice true n = Named n
 indexChoice false n = Font
 
 abbrev pub advanceChoice : Bool → Thousandths → Advance
-advanceChoice true (Of v) = Given v
+advanceChoice true (Of v x) = Given v
 advanceChoice true Over = Own
-advanceChoice false (Of v) = Own
+advanceChoice false (Of v x) = Own
 advanceChoice false Over = Own
 
 abbrev pub signedBy : Bool → ℕ → ℤ
@@ -162,8 +162,17 @@ signedBy true v = negℤ (pos v)
 signedBy false v = pos v
 
 abbrev pub offsetBy : Bool → Thousandths → ℤ
-offsetBy s (Of v) = signedBy s v
+offsetBy s (Of v x) = signedBy s v
 offsetBy s Over = pos 0
+
+-- 1 where the exact value was another one
+abbrev pub roundedBy : Thousandths → ℕ
+roundedBy (Of v x) = cond x 0 1
+roundedBy Over = 0
+
+-- how many fields were rounded
+abbrev pub roundedParts : Parts → ℕ
+roundedParts p = roundedBy (p .x .size) + roundedBy (p .y .size) + roundedBy (p .z .size)
 
 -- what the parts say
 abbrev pub saidBy : Parts → Entry

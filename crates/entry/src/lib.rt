@@ -1,31 +1,34 @@
 // One entry of the indices, read in one pass over its bytes.
 ghost use mathlib.Core.Path.{_≡_};
 ghost use mathlib.Core.Bool.{true, cond, _&&_};
-ghost use Prim.Native.Nat.{_+_, _*_, _^_, _≤_, _<_};
-ghost use lib.Dec.{leb, ltb};
+ghost use Prim.Native.Nat.{_+_, _*_, _%_, _^_, _≤_, _<_};
+ghost use lib.Dec.{leb, ltb, eqb};
 ghost use lib.ListN.{length, drop};
 ghost use Rattle.label.specs.Limits.{maxIndex, maxThousandths};
 ghost use Rattle.label.specs.Calls.{refusal};
 ghost use Rattle.label.specs.Bytes.{isDigit};
-ghost use Rattle.label.specs.Entry.{isE, nearest, scaled, entry};
+ghost use Rattle.label.specs.Entry.{isE, nearest, scaled};
+ghost use Rattle.label.specs.Rounded.{isWhole};
 ghost use Rattle.entry.specs.declared.EntryRead.the-variants.{Refused};
-ghost use Rattle.entry.specs.Items.{cap, isSemi, here, entryRead, indexItem, IsIndex};
+ghost use Rattle.entry.specs.Items.{cap, isSemi, entryHere, indexItem, IsIndex};
 ghost use Rattle.entry.specs.Digits.{headOf, ends, isBreak, pushed, digitsFrom};
 ghost use Rattle.entry.specs.Numbers.{sized, within, mantissaOf, cutMantissa, signLength, exponentOf, cutExponent, numberOf};
-ghost use Rattle.entry.specs.Parts.{mapOf, noMap, badMap, cutMap, frontOf, notGiven, fieldOf, indexChoice, advanceChoice, signedBy, offsetBy, Small};
+ghost use Rattle.entry.specs.Parts.{mapOf, noMap, badMap, cutMap, frontOf, notGiven, fieldOf, indexChoice, advanceChoice, signedBy, offsetBy, roundedBy, Small};
 use label::Advance;
 use label::Glyph;
 use label::Index;
 use label::Limits;
 use label::Refusal;
 
-// What an entry says: whether it has a map, the map's two counts (1 and 1 without one; cut at 10^18), its glyph record, and how many bytes it has.
+// What an entry says: whether it has a map, the map's two counts (1 and 1 without one; cut at 10^18), its glyph record, how many bytes it has, and how
+// many of its fields were rounded.
 pub struct Item {
     pub mapped: bool,
     pub units: usize,
     pub glyphs: usize,
     pub glyph: Glyph,
     pub used: usize,
+    pub rounded: usize,
 }
 
 pub enum EntryRead {
@@ -118,9 +121,9 @@ pub fn digits_at(s: &[u8], at: usize, start: u64) -> Digits
 
 // ── values ──
 
-// Whole thousandths, where they are within the limit.
+// Whole thousandths, where they are within the limit, and whether the exact value is this one.
 enum Thousandths {
-    Of(u32),
+    Of { size: u32, exact: bool },
     Over,
 }
 
@@ -152,11 +155,14 @@ fn power(k: usize) -> u64
     }
 }
 
-fn limited(v: u64) -> Thousandths
-    ensures { λ r. ⌜ r ≡ sized v ⌝ }
+fn limited(v: u64, exact: bool) -> Thousandths
+    ensures { λ r. ⌜ r ≡ sized v exact ⌝ }
 {
     if v <= Limits::THOUSANDTHS {
-        Thousandths::Of(v as u32)
+        Thousandths::Of {
+            size: v as u32,
+            exact,
+        }
     } else {
         Thousandths::Over
     }
@@ -164,10 +170,13 @@ fn limited(v: u64) -> Thousandths
 
 // m × 10^k
 fn grown(m: u64, k: usize) -> Thousandths
-    ensures { λ r. ⌜ r ≡ sized (m * 10 ^ k) ⌝ }
+    ensures { λ r. ⌜ r ≡ sized (m * 10 ^ k) true ⌝ }
 {
     if m == 0 {
-        return Thousandths::Of(0);
+        return Thousandths::Of {
+            size: 0,
+            exact: true,
+        };
     }
     if 9 < k {
         return Thousandths::Over;
@@ -175,31 +184,35 @@ fn grown(m: u64, k: usize) -> Thousandths
     if Limits::THOUSANDTHS < m {
         return Thousandths::Over;
     }
-    limited(m * power(k))
+    limited(m * power(k), true)
 }
 
-// m / 10^k, rounded: the one place where a value is rounded, by its quotient and its remainder.
+// m / 10^k, rounded: the one place where a value is rounded, by its quotient and its remainder. It is exact where nothing remains.
 fn shrunk(m: u64, k: usize) -> Thousandths
     requires { ⌜ m < cap ⌝ }
-    ensures { λ r. ⌜ r ≡ sized (nearest m (10 ^ k)) ⌝ }
+    ensures { λ r. ⌜ r ≡ sized (nearest m (10 ^ k)) (eqb (m % 10 ^ k) 0) ⌝ }
 {
     if 18 < k {
-        return Thousandths::Of(0);
+        return Thousandths::Of {
+            size: 0,
+            exact: m == 0,
+        };
     }
     let d = power(k);
     let q = m / d;
     let r = m % d;
+    let exact = r == 0;
     if d <= r * 2 {
-        limited(q + 1)
+        limited(q + 1, exact)
     } else {
-        limited(q)
+        limited(q, exact)
     }
 }
 
 // m × 10^up / 10^down, rounded.
 fn shifted(m: u64, up: usize, down: usize) -> Thousandths
     requires { ⌜ m < cap ⌝ }
-    ensures { λ r. ⌜ r ≡ sized (nearest (m * 10 ^ up) (10 ^ down)) ⌝ }
+    ensures { λ r. ⌜ r ≡ sized (nearest (m * 10 ^ up) (10 ^ down)) (eqb (m * 10 ^ up % 10 ^ down) 0) ⌝ }
 {
     if down <= up {
         grown(m, up - down)
@@ -219,7 +232,7 @@ fn unless(test: bool, n: usize) -> usize
 // m × 10^(e − f) × 1000, rounded; `negative` where e has a minus.
 fn to_thousandths(m: u64, f: usize, negative: bool, e: usize) -> Thousandths
     requires { ⌜ (m < cap) × (f ≤ 18) × (e ≤ 99) ⌝ }
-    ensures { λ r. ⌜ r ≡ sized (scaled m f negative e) ⌝ }
+    ensures { λ r. ⌜ r ≡ sized (scaled m f negative e) (isWhole m f negative e) ⌝ }
 {
     let up = unless(negative, e) + 3;
     let down = f + unless(!negative, e);
@@ -482,16 +495,17 @@ struct Field {
     size: Thousandths,
 }
 
-// A field of n bytes that gives nothing.
+// A field of n bytes that gives nothing, and so counts as exact.
 fn not_given(n: usize) -> Field
     ensures { λ r. ⌜ r ≡ notGiven n ⌝ }
 {
+    let exact = true;
     Field {
         ok: true,
         used: n,
         given: false,
         negative: false,
-        size: Thousandths::Of(0),
+        size: Thousandths::Of { size: 0, exact },
     }
 }
 
@@ -523,8 +537,19 @@ fn is_within(z: Thousandths) -> bool
     ensures { λ r. ⌜ r ≡ within z ⌝ }
 {
     match z {
-        Thousandths::Of(_) => true,
+        Thousandths::Of { size: _, exact: _ } => true,
         Thousandths::Over => false,
+    }
+}
+
+// 1 where the exact value was another one.
+fn rounded_of(z: Thousandths) -> usize
+    ensures { λ r. ⌜ r ≡ roundedBy z ⌝ }
+    ensures bounds { λ r. ⌜ r ≤ 1 ⌝ }
+{
+    match z {
+        Thousandths::Of { size: _, exact } => unless(exact, 1),
+        Thousandths::Over => 0,
     }
 }
 
@@ -546,7 +571,7 @@ fn advance_of(given: bool, z: Thousandths) -> Advance
 {
     if given {
         match z {
-            Thousandths::Of(v) => Advance::Given(v),
+            Thousandths::Of { size, exact: _ } => Advance::Given(size),
             Thousandths::Over => Advance::Own,
         }
     } else {
@@ -567,7 +592,7 @@ fn offset_of(negative: bool, z: Thousandths) -> i32
     ensures { λ r. ⌜ r ≡ offsetBy negative z ⌝ }
 {
     match z {
-        Thousandths::Of(v) => signed_of(negative, v),
+        Thousandths::Of { size, exact: _ } => signed_of(negative, size),
         Thousandths::Over => 0,
     }
 }
@@ -578,7 +603,7 @@ fn offset_of(negative: bool, z: Thousandths) -> i32
 fn read_advance(s: &[u8], k: usize, f: Front, x: Field) -> EntryRead
     requires { ⌜ (f ≡ frontOf (now s)) × (x ≡ fieldOf (drop (f .used) (now s))) × (f .used + x .used ≤ length (now s)) ⌝ }
     requires no_more { ⌜ (headOf (drop (f .used + x .used) (now s)) ≡ 44 → ⊥) ⌝ }
-    ensures { λ r. ⌜ r ≡ entryRead (length (here (now (s .entry)))) (entry k (here (now (s .entry)))) ⌝ }
+    ensures { λ r. ⌜ r ≡ entryHere k (now (s .entry)) ⌝ }
 {
     let end = f.used + x.used;
     let field = words::both(x.ok, !x.negative);
@@ -605,13 +630,14 @@ fn read_advance(s: &[u8], k: usize, f: Front, x: Field) -> EntryRead
         glyphs: f.glyphs,
         glyph,
         used: end,
+        rounded: rounded_of(advance),
     })
 }
 
 // An entry with up to three fields behind its front.
 fn read_fields(s: &[u8], k: usize, f: Front) -> EntryRead
     requires { ⌜ (f ≡ frontOf (now s)) × (f .used ≤ length (now s)) ⌝ }
-    ensures { λ r. ⌜ r ≡ entryRead (length (here (now (s .entry)))) (entry k (here (now (s .entry)))) ⌝ }
+    ensures { λ r. ⌜ r ≡ entryHere k (now (s .entry)) ⌝ }
 {
     let x = field_at(s, f.used);
     let i = f.used + x.used;
@@ -642,19 +668,21 @@ fn read_fields(s: &[u8], k: usize, f: Front) -> EntryRead
         u: offset_of(y.negative, u),
         v: offset_of(z.negative, v),
     };
+    let rounded = rounded_of(advance) + rounded_of(u) + rounded_of(v);
     EntryRead::Read(Item {
         mapped: f.mapped,
         units: f.units,
         glyphs: f.glyphs,
         glyph,
         used: end,
+        rounded,
     })
 }
 
 // Entry number k, where s is the indices from its start on, and `first` the digits there: 7, 8 and 9 in order, or what it says.
 pub fn read_entry(s: &[u8], first: Digits, k: usize) -> EntryRead
     requires { ⌜ (first ≡ digitsFrom 0 (now s)) × (first .count ≤ length (now s)) ⌝ }
-    ensures { λ r. ⌜ r ≡ entryRead (length (here (now (s .entry)))) (entry k (here (now (s .entry)))) ⌝ }
+    ensures { λ r. ⌜ r ≡ entryHere k (now (s .entry)) ⌝ }
 {
     read_fields(s, k, front_of(s, first))
 }
@@ -687,5 +715,6 @@ pub fn index_item(d: Digits) -> Item
             v: 0,
         },
         used: d.count,
+        rounded: 0,
     }
 }

@@ -13,6 +13,7 @@ use Rattle.label.specs.Outcome.{Outcome, ok, no, need, _>>=_, _>>_}
 use Rattle.label.specs.Bytes.{empty, value}
 use Rattle.label.specs.Text.{lead, starts, scalar, xmlChar, decode, braced, marked, unmarked, textUnits}
 use Rattle.label.specs.Entry.{part, indexDigits, wellFormed, fieldFits, Entry, entry, entries}
+use Rattle.label.specs.Rounded.{rounded, beside}
 use Rattle.label.specs.Run.{Run, whole, tail, State, start, opens, takes, allowed, next, placed, step, walk, runFrom, read}
 use Rattle.label.specs.Sound.{clustersOf, glyphsOf, wholeClusters, wholeGlyphs, soundRun, runOf, sound}
 use Rattle.label.specs.Write.{Label, normal, write}
@@ -23,13 +24,13 @@ use Rattle.label.specs.declared.Cluster.{Cluster}
 use Rattle.label.specs.declared.Counts.{Counts}
 use Rattle.label.specs.declared.Stretch.{Stretch}
 use Rattle.label.proofs.Basics.{and-l, and-r, cases, no-ok}
-use Rattle.label.proofs.Splits.{split-length}
+use Rattle.label.proofs.Rounded.{entries-length, rounded-most, beside-few}
 use Rattle.label.proofs.Walks.{step-ok, ok-path}
 use Rattle.label.proofs.Sizes.{sound-roomy, sound-short}
 use Rattle.label.proofs.Sounds.{text-ok, read-sound}
 use Rattle.sound.specs.Sounds.{unitSum}
 use Rattle.sound.proofs.Facts.{few-units, few-glyphs, units-add-up, glyphs-add-up}
-use Rattle.glyph_label.specs.Runs.{pickBytes, ReadingFits, WritingFits, StretchFits}
+use Rattle.glyph_label.specs.Runs.{pickBytes, Small32, ReadingFits, WritingFits, StretchFits}
 
 -- ── the places of 1 to 15 ──
 
@@ -112,11 +113,6 @@ module _ (k : ℕ) where
       (λ _. bind-placed (walk (empty us) (start us) (entries indices)) _ (walk-placed (entries indices) (empty us) (start us) (omega arith) (omega arith) (omega arith))
       (λ p _. need-placed (leb (length (p .glyphs)) maxGlyphs) 15 0 _ (omega arith) (omega arith) (λ _. fine)))
 
-entries-length : (s : List ℕ) → length (entries s) ≤ suc (length s)
-unfolding entries
-entries-length [] = omega arith
-entries-length (b ∷ s) = split-length 59 (b ∷ s)
-
 -- the units of an accepted text
 text-few : (text us : List ℕ) → textUnits text ≡ ok us → length us ≤ 4096
 text-few text us h = leb-true (length us) 4096 (text-ok text us h .fifth)
@@ -157,6 +153,16 @@ reading-fits u c g text indices = go (read text indices) refl (read-placed text 
         (λ s. cases (leb (4 * length (r .glyphs)) (g / 4)) (λ q. rw (t, s, q) (omega arith, omega arith, omega arith)) (λ q. rw (t, s, q) (omega arith, omega arith)))
         (λ s. rw (t, s) (omega arith, omega arith)))
         (λ t. rw t (omega arith, omega arith))
+
+-- the count of rounded fields
+bind-fits : (n : ℕ) (o : Outcome Run) (f : Run → Outcome Run) → ((r : Run) → o ≡ ok r → Small32 n) → Small32 (beside n (o >>= f))
+bind-fits n (ok r) f h = omega (arith, beside-few n (f r), h r refl)
+bind-fits n (no i p) f h = omega arith
+
+pub rounded-fits : (u c g : ℕ) (text indices : List ℕ) → Small32 (beside (rounded indices) (readBytes u c g text indices))
+unfolding readBytes readInto
+rounded-fits u c g text indices =
+    bind-fits (rounded indices) (read text indices) _ (λ r e. omega (arith, rounded-most text indices r e))
 
 -- ── a writing ──
 

@@ -12,7 +12,8 @@ use lib.Seq.{take-at, length-take-le}
 use Rattle.label.specs.Outcome.{Outcome, ok, no, need, _>>=_, _>>_}
 use Rattle.label.specs.Run.{Run, read}
 use Rattle.label.specs.Sound.{flatClusters, flatGlyphs}
-use Rattle.label.specs.Calls.{refusal, readingOutcome, readInto, counts, counted, filled, unitsAfter, clustersAfter, glyphsAfter}
+use Rattle.label.specs.Rounded.{rounded, beside}
+use Rattle.label.specs.Calls.{refusal, readingOutcome, readingRounded, readInto, counts, counted, filled, unitsAfter, clustersAfter, glyphsAfter}
 use Rattle.label.specs.Wire.{fromHalves, fromWords, readBytes, unitBytesAfter, clusterBytesAfter, glyphBytesAfter}
 use Rattle.label.specs.declared.Counts.{Counts}
 use Rattle.label.specs.declared.Refusal.{Refusal}
@@ -21,6 +22,7 @@ use Rattle.label.specs.declared.Reading.the-variants.{Read, Refused}
 use Rattle.label.proofs.Parts.{length-clusters, length-glyphs}
 use Rattle.label.proofs.Basics.{no-ok}
 use Rattle.label.proofs.Walks.{ok-path}
+use Rattle.glyph_label.specs.Answers.{readingAnswer}
 use Rattle.glyph_label.specs.Runs.{Accepted, ReadBytes}
 
 -- ── the numbers of an accepted label, packed ──
@@ -104,10 +106,19 @@ module _ (text indices U C G : List ℕ) where
   R = readBytes (length U) (length C) (length G) text indices
 
   abbrev Answer : Reading → List ℕ → List ℕ → List ℕ → Type 0
-  Answer a U′ C′ G′ = (readingOutcome a ≡ counted R) × ReadBytes R U C G U′ C′ G′
+  Answer a U′ C′ G′ = (readingOutcome a ≡ counted R) × ((readingRounded a ≡ beside (rounded indices) R) × ReadBytes R U C G U′ C′ G′)
+
+  -- the answer for C: a refusal's count is 0 there too
+  pub answer-beside : (a : Reading) → readingOutcome a ≡ counted R → readingRounded a ≡ beside (rounded indices) R
+      → readingAnswer (readingOutcome a) (readingRounded a) ≡ readingAnswer (counted R) (rounded indices)
+  answer-beside a e h = rw (e, h) (go R)
+    where
+      go : (o : Outcome Run) → readingAnswer (counted o) (beside (rounded indices) o) ≡ readingAnswer (counted o) (rounded indices)
+      go (ok r) = refl
+      go (no n p) = refl
 
   refuses : (x : Refusal) {a : Reading} → a ≡ Refused x → R ≡ no (x .number) (x .place) → Answer a U C G
-  refuses x q e = rw (q, e) (refl, record { units = refl; clusters = refl; glyphs = refl })
+  refuses x q e = rw (q, e) (refl, (refl, record { units = refl; clusters = refl; glyphs = refl }))
 
   module _ {s : Reading} (h : readingOutcome s ≡ counted (read text indices)) where
     pub first-refused : {x : Refusal} → s ≡ Refused x → Answer (Refused x) U C G
@@ -116,7 +127,7 @@ module _ (text indices U C G : List ℕ) where
         (read-into (length U) (length C) (length G) text indices
         ∙ into-refused (length U / 2) (length C / 4) (length G / 4) (read text indices) x (sym h ∙ ap readingOutcome e))
 
-    module _ {n : Counts} (e : s ≡ Read n) where
+    module _ {n : Counts} {m : ℕ} (e : s ≡ Read n m) where
       pub accepted : counted (read text indices) ≡ ok n
       accepted = sym h ∙ ap readingOutcome e
 
@@ -141,7 +152,7 @@ module _ (text indices U C G : List ℕ) where
             pub roomy : Accepted text indices n (length U) (length C) (length G)
             roomy = record { counts = accepted; units = omega arith; clusters = omega arith; glyphs = omega arith }
 
-            pub reads-all : {U′ C′ G′ : List ℕ} → ReadBytes (read text indices) U C G U′ C′ G′ → Answer (Read n) U′ C′ G′
-            reads-all f =
+            pub reads-all : {U′ C′ G′ : List ℕ} → readingRounded s ≡ beside (rounded indices) (read text indices) → ReadBytes (read text indices) U C G U′ C′ G′ → Answer (Read n m) U′ C′ G′
+            reads-all l f =
                 rw (read-into (length U) (length C) (length G) text indices ∙ into-all (length U / 2) (length C / 4) (length G / 4) (read text indices) n accepted k j i)
-                (sym accepted, f)
+                (sym accepted, (ap readingRounded (sym e) ∙ l, f))

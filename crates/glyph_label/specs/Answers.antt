@@ -1,5 +1,6 @@
 -- The answers for C: number 0 and the values, or a refusal's number and place with the other fields 0.
 -- Assumes nothing.
+use Prim.Native.Nat.{ℕ}
 use mathlib.Core.Bool.{cond}
 use Rattle.label.specs.Outcome.{Outcome, ok, no}
 use Rattle.label.specs.declared.Counts.{Counts}
@@ -11,10 +12,10 @@ use Rattle.glyph_label.specs.declared.GlyphLabelWriting.{GlyphLabelWriti
 use Rattle.glyph_label.specs.declared.GlyphLabelStretch.{GlyphLabelStretch}
 use Rattle.glyph_label.specs.declared.GlyphLabelPart.{GlyphLabelPart}
 
--- how many units, clusters and glyphs were read
-abbrev pub readingAnswer : Outcome Counts → GlyphLabelReading
-readingAnswer (ok n) = record { number = 0; place = 0; units = n .units; clusters = n .clusters; glyphs = n .glyphs }
-readingAnswer (no n p) = record { number = n; place = p; units = 0; clusters = 0; glyphs = 0 }
+-- how many units, clusters and glyphs were read, and beside them how many fields were rounded
+abbrev pub readingAnswer : Outcome Counts → ℕ → GlyphLabelReading
+readingAnswer (ok n) k = record { number = 0; place = 0; units = n .units; clusters = n .clusters; glyphs = n .glyphs; rounded = k }
+readingAnswer (no n p) k = record { number = n; place = p; units = 0; clusters = 0; glyphs = 0; rounded = 0 }
 
 -- how many bytes were written
 abbrev pub writingAnswer : Outcome Lengths → GlyphLabelWriting

@@ -5,7 +5,8 @@ ghost use Prim.Native.Nat.{_*_, _/_, _≤_};
 ghost use lib.ListN.{length};
 ghost use Rattle.label.specs.Limits.{maxGlyphs};
 ghost use Rattle.label.specs.Run.{read as readLabel};
-ghost use Rattle.label.specs.Calls.{refusal, readingOutcome, writingOutcome, pickOutcome, counted, lengths, textAfter, indicesAfter};
+ghost use Rattle.label.specs.Rounded.{rounded as roundedIn, beside};
+ghost use Rattle.label.specs.Calls.{refusal, readingOutcome, readingRounded, writingOutcome, pickOutcome, counted, lengths, textAfter, indicesAfter};
 ghost use Rattle.label.specs.Wire.{readBytes, unitBytesAfter, clusterBytesAfter, glyphBytesAfter, writeBytes, pickUnitsBytes, pickGlyphsBytes};
 ghost use Rattle.label.specs.Fault.{faultPart};
 ghost use Rattle.label.specs.declared.Reading.the-variants.{Refused as RefusedReading};
@@ -13,12 +14,12 @@ ghost use Rattle.label.specs.declared.Writing.the-variants.{Refused as RefusedW
 ghost use Rattle.label.specs.declared.Pick.the-variants.{Refused as RefusedPick};
 ghost use Rattle.picks.specs.Ways.{pickBy};
 ghost use Rattle.glyph_label.specs.Answers.{readingAnswer, writingAnswer, stretchAnswer, partAnswer};
-ghost use Rattle.glyph_label.specs.Runs.{within, wholeBytes, mayBeSound, Holds, Unpacked, Accepted, ReadBytes, WrittenBytes, pickBytes, ReadingFits, WritingFits, StretchFits};
+ghost use Rattle.glyph_label.specs.Runs.{within, wholeBytes, mayBeSound, Holds, Unpacked, Accepted, ReadBytes, WrittenBytes, pickBytes, Small32, ReadingFits, WritingFits, StretchFits};
 ghost use Rattle.glyph_label.specs.Tasks.{unitPlaces, clusterPlaces, glyphPlaces, Asks, writingOf, pickOf, Does};
 
 // ── answers ──
 
-// What was read: how many units, clusters and glyphs. In each answer `number` is 0, or a refusal's number, and then `place` is its place and
+// What was read: how many units, clusters and glyphs, and how many given fields were rounded. In each answer `number` is 0, or a refusal's number, and then `place` is its place and
 // all else 0.
 #[repr(C)]
 pub struct GlyphLabelReading {
@@ -27,6 +28,7 @@ pub struct GlyphLabelReading {
     pub units: u32,
     pub clusters: u32,
     pub glyphs: u32,
+    pub rounded: u32,
 }
 
 // How many bytes were written.
@@ -56,16 +58,17 @@ pub struct GlyphLabelPart {
 }
 
 fn reading_answer(r: label::Reading) -> GlyphLabelReading
-    requires { ⌜ ReadingFits (readingOutcome r) ⌝ }
-    ensures { λ a. ⌜ a ≡ readingAnswer (readingOutcome r) ⌝ }
+    requires { ⌜ ReadingFits (readingOutcome r) × Small32 (readingRounded r) ⌝ }
+    ensures { λ a. ⌜ a ≡ readingAnswer (readingOutcome r) (readingRounded r) ⌝ }
 {
     match r {
-        label::Reading::Read(n) => GlyphLabelReading {
+        label::Reading::Read { counts: n, rounded } => GlyphLabelReading {
             number: 0,
             place: 0,
             units: n.units as u32,
             clusters: n.clusters as u32,
             glyphs: n.glyphs as u32,
+            rounded: rounded as u32,
         },
         label::Reading::Refused(x) => GlyphLabelReading {
             number: x.number as u32,
@@ -73,6 +76,7 @@ fn reading_answer(r: label::Reading) -> GlyphLabelReading
             units: 0,
             clusters: 0,
             glyphs: 0,
+            rounded: 0,
         },
     }
 }
@@ -468,10 +472,11 @@ fn read_bytes(
     glyphs: &mut [u8],
 ) -> label::Reading
     ensures result { λ r. ⌜ readingOutcome r ≡ counted (readBytes (length (now (units .entry))) (length (now (clusters .entry))) (length (now (glyphs .entry))) (now (text .entry)) (now (indices .entry))) ⌝ }
+    ensures rounded { λ r. ⌜ readingRounded r ≡ beside (roundedIn (now (indices .entry))) (readBytes (length (now (units .entry))) (length (now (clusters .entry))) (length (now (glyphs .entry))) (now (text .entry)) (now (indices .entry))) ⌝ }
     ensures { λ _. ⌜ ReadBytes (readBytes (length (now (units .entry))) (length (now (clusters .entry))) (length (now (glyphs .entry))) (now (text .entry)) (now (indices .entry))) (now (units .entry)) (now (clusters .entry)) (now (glyphs .entry)) (now (units .exit)) (now (clusters .exit)) (now (glyphs .exit)) ⌝ }
 {
     match reader::survey(text, indices) {
-        label::Reading::Read(n) => {
+        label::Reading::Read { counts: n, rounded } => {
             if units.len() / 2 < n.units {
                 return refused(16, n.units);
             }
@@ -482,7 +487,7 @@ fn read_bytes(
                 return refused(18, n.glyphs);
             }
             fill_bytes(text, indices, n, units, clusters, glyphs);
-            label::Reading::Read(n)
+            label::Reading::Read { counts: n, rounded }
         }
         label::Reading::Refused(r) => label::Reading::Refused(r),
     }
@@ -497,7 +502,7 @@ pub extern "C" fn glyph_label_read(
     clusters: &mut [u8],
     glyphs: &mut [u8],
 ) -> GlyphLabelReading
-    ensures result { λ r. ⌜ r ≡ readingAnswer (counted (readBytes (length (now (units .entry))) (length (now (clusters .entry))) (length (now (glyphs .entry))) (now (text .entry)) (now (indices .entry)))) ⌝ }
+    ensures result { λ r. ⌜ r ≡ readingAnswer (counted (readBytes (length (now (units .entry))) (length (now (clusters .entry))) (length (now (glyphs .entry))) (now (text .entry)) (now (indices .entry)))) (roundedIn (now (indices .entry))) ⌝ }
     ensures units { λ _. ⌜ now (units .exit) ≡ unitBytesAfter (readBytes (length (now (units .entry))) (length (now (clusters .entry))) (length (now (glyphs .entry))) (now (text .entry)) (now (indices .entry))) (now (units .entry)) ⌝ }
     ensures clusters { λ _. ⌜ now (clusters .exit) ≡ clusterBytesAfter (readBytes (length (now (units .entry))) (length (now (clusters .entry))) (length (now (glyphs .entry))) (now (text .entry)) (now (indices .entry))) (now (clusters .entry)) ⌝ }
     ensures glyphs { λ _. ⌜ now (glyphs .exit) ≡ glyphBytesAfter (readBytes (length (now (units .entry))) (length (now (clusters .entry))) (length (now (glyphs .entry))) (now (text .entry)) (now (indices .entry))) (now (glyphs .entry)) ⌝ }

@@ -12,6 +12,7 @@ use lib.ListN.{length, getD, length-append}
 use Rattle.label.specs.Outcome.{ok}
 use Rattle.label.specs.Bytes.{empty, Cut, cut, split, join, trim, isDigit, allDigits, digits, valueFrom, value, decimal}
 use Rattle.label.specs.Entry.{unsigned, part, hasMap, isIndexPart, indexDigits, mapUnits, mapGlyphs, isAdvance, isOffset, wellFormed, fieldFits, indexOf, advanceOf, offsetOf, Entry, entryOf, entry}
+use Rattle.label.specs.Rounded.{roundedField, roundedEntry}
 use Rattle.label.specs.Run.{named}
 use Rattle.label.specs.Write.{valueBytes, advanceBytes, offsetBytes, mapBytes, indexBytes, entryBytes}
 use Rattle.label.specs.Sound.{indexFits, advanceFits, size, glyphFits}
@@ -27,12 +28,13 @@ use Rattle.label.proofs.Values.{digit-not, head-digit, Writes, value-wr
 
 -- ── the fields ──
 
--- the bytes of a field as the reader takes them: they pass the test, 9 does not hold, they say what is asked, they are at most so many, and no `,` or `;`
--- is among them
+-- the bytes of a field as the reader takes them: they pass the test, 9 does not hold, they say what is asked and no finer, they are at most so many, and no
+-- `,` or `;` is among them
 record FieldRead (test : List ℕ → Bool) (says : Type 0) (most : ℕ) (v : List ℕ) : Type 0 where
   is : test v ≡ true
   small : fieldFits v ≡ true
   val : says
+  exact : roundedField v ≡ 0
   short : length v ≤ most
   comma : free 44 v ≡ true
   semi : free 59 v ≡ true
@@ -45,10 +47,11 @@ OffsetRead z v = FieldRead isOffset (offsetOf v ≡ z) 12 v
 
 -- a value without a sign
 value-read : (test : List ℕ → Bool) (says : Type 0) (most n : ℕ) (v : List ℕ) → Writes n v → test v ≡ true → says → 11 ≤ most → FieldRead test says most v
-unfolding fieldFits unsigned
+unfolding fieldFits roundedField unsigned
 value-read test says most n v w i s l =
     let f : fieldFits v ≡ true = rw (w .full, w .no-minus, w .no-plus, w .small) in
-    record { is = i; small = f; val = s; short = omega (arith, w .short, l); comma = w .comma; semi = w .semi }
+    let x : roundedField v ≡ 0 = rw (w .full, w .no-minus, w .no-plus, w .exact) in
+    record { is = i; small = f; val = s; exact = x; short = omega (arith, w .short, l); comma = w .comma; semi = w .semi }
 
 given-read : (n : ℕ) (v : List ℕ) → Writes n v → AdvanceRead (Given n) v
 unfolding isAdvance advanceOf unsigned
@@ -61,19 +64,19 @@ pos-read n v w =
     value-read isOffset (offsetOf v ≡ pos n) 12 n v w (rw (w .full, w .no-minus, w .no-plus, w .is)) (rw (w .full, w .no-minus, w .no-plus, w .val)) (omega arith)
 
 neg-read : (n : ℕ) (v : List ℕ) → Writes (suc n) v → OffsetRead (negsuc n) (45 ∷ v)
-unfolding isOffset fieldFits offsetOf unsigned
-neg-read n v w = record { is = w .is; small = w .small; val = rw (w .val); short = omega (arith, w .short); comma = w .comma; semi = w .semi }
+unfolding isOffset fieldFits roundedField offsetOf unsigned
+neg-read n v w = record { is = w .is; small = w .small; val = rw (w .val); exact = rw (w .exact); short = omega (arith, w .short); comma = w .comma; semi = w .semi }
 
 advance-read : (a : Advance) → advanceFits a ≡ true → AdvanceRead a (advanceBytes a)
-unfolding advanceBytes isAdvance fieldFits advanceOf
-advance-read Own h = record { is = refl; small = refl; val = refl; short = omega arith; comma = refl; semi = refl }
+unfolding advanceBytes isAdvance fieldFits roundedField advanceOf
+advance-read Own h = record { is = refl; small = refl; val = refl; exact = refl; short = omega arith; comma = refl; semi = refl }
 advance-read (Given n) h = given-read n (valueBytes n) (value-writes n (leb-true n 1000000000 h))
 
 offset-read : (z : ℤ) → leb (size z) 1000000000 ≡ true → OffsetRead z (offsetBytes z)
-unfolding offsetBytes isOffset fieldFits offsetOf
+unfolding offsetBytes isOffset fieldFits roundedField offsetOf
 offset-read (pos n) h =
     cases (eqb n 0)
-    (λ t. rw t (record { is = refl; small = refl; val = ap pos (sym (eqb-true n 0 t)); short = omega arith; comma = refl; semi = refl }))
+    (λ t. rw t (record { is = refl; small = refl; val = ap pos (sym (eqb-true n 0 t)); exact = refl; short = omega arith; comma = refl; semi = refl }))
     (λ t. rw t (pos-read n (valueBytes n) (value-writes n (leb-true n 1000000000 h))))
 offset-read (negsuc n) h = neg-read n (valueBytes (suc n)) (value-writes (suc n) (leb-true (suc n) 1000000000 h))
 
@@ -281,6 +284,10 @@ module _ (a b : ℕ) (g : Glyph) (m : glyphFits g ≡ true) (f : maps a b ≡ tr
   pub entry-read : (k : ℕ) → entry k (entryBytes a b g) ≡ ok (back a b g)
   unfolding entry
   entry-read k = rw (entry-formed, entry-index, entry-numbers, entry-is)
+
+  pub entry-exact : roundedEntry (entryBytes a b g) ≡ 0
+  unfolding roundedEntry
+  entry-exact = rw (the-part 1, the-part 2, the-part 3, ra .exact, ru .exact, rv .exact)
 
   pub entry-semi : free 59 (entryBytes a b g) ≡ true
   unfolding entryBytes

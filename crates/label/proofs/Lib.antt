@@ -6,6 +6,7 @@ pub mod Entries
 pub mod Walks
 pub mod Texts
 pub mod Sounds
+pub mod Rounded
 pub mod Parts
 pub mod Demands
 pub mod Cursors

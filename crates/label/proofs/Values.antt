@@ -1,16 +1,17 @@
--- A value's bytes are a number, moderate, and read back as the value.
+-- A value's bytes are a number, moderate, exact, and read back as the value.
 -- Assumes nothing.
-use Prim.Native.Nat.{ℕ, _+_, _*_, _-_, _/_, _%_, _^_, _≤_, _<_}
+use Prim.Native.Nat.{ℕ, zero, suc, _+_, _*_, _-_, _/_, _%_, _^_, _≤_, _<_}
 use native.Mathlib.Omega.{arith}
 use native.Mathlib.Nat.{div-eq-of-lt-le}
 use mathlib.Core.Path.{_≡_, refl, sym, _∙_}
 use mathlib.Core.Bool.{true, false, not, false≢true}
 use mathlib.Core.List.{List, [], _∷_, _++_, append-nil}
-use borrow.Author.Tests.{le-leb, eqb-true}
+use borrow.Author.Tests.{le-leb, eq-eqb, eqb-true}
 use lib.Dec.{eqb}
 use lib.ListN.{length, getD, length-append}
 use Rattle.label.specs.Bytes.{empty, cut, isDigit, allDigits, digits, valueFrom, value, decimal}
 use Rattle.label.specs.Entry.{minus, plus, unsigned, isE, isPoint, atExponent, isDecimals, isNumber, mantissaDigits, fractionDigits, exponentDigits, nearest, scaled, thousandths, numberFits}
+use Rattle.label.specs.Rounded.{isWhole, isExact}
 use Rattle.label.specs.Write.{fraction, valueBytes}
 use Rattle.label.proofs.Basics.{and-l, and-r, clash, cases}
 use Rattle.label.proofs.Splits.{free, none-append}
@@ -76,6 +77,18 @@ unfolding numberFits
 plain-moderate v figs frac p h k =
     rw (p .figs-are, p .exp-are, le-leb (length figs) 18 h, le-leb (thousandths v) 1000000000 k)
 
+-- with at most three digits behind the point it is a whole count of thousandths
+thousand-whole : (m k : ℕ) → k ≤ 3 → eqb (m * 1000 % 10 ^ k) 0 ≡ true
+thousand-whole m zero h = eq-eqb (m * 1000 % 1) 0 (omega arith)
+thousand-whole m (suc zero) h = eq-eqb (m * 1000 % 10) 0 (omega arith)
+thousand-whole m (suc (suc zero)) h = eq-eqb (m * 1000 % 100) 0 (omega arith)
+thousand-whole m (suc (suc (suc zero))) h = eq-eqb (m * 1000 % 1000) 0 (omega arith)
+thousand-whole m (suc (suc (suc (suc k)))) h = absurd (omega arith)
+
+plain-exact : (v figs frac : List ℕ) → Plain v figs frac → length frac ≤ 3 → isExact v ≡ true
+unfolding isExact isWhole valueFrom
+plain-exact v figs frac p h = rw (p .figs-are, p .frac-are, p .exp-are, p .up) (thousand-whole (value figs) (length frac) h)
+
 -- the only law of the rounding that the way back needs: a whole number is itself
 pub nearest-exact : (a b v : ℕ) → 0 < b → a ≡ v * b → nearest a b ≡ v
 unfolding nearest
@@ -89,6 +102,7 @@ pub record Writes (n : ℕ) (v : List ℕ) : Type 0 where
   pub is : isNumber v ≡ true
   pub small : numberFits v ≡ true
   pub val : thousandths v ≡ n
+  pub exact : isExact v ≡ true
   pub short : length v ≤ 11
   pub comma : free 44 v ≡ true
   pub semi : free 59 v ≡ true
@@ -106,6 +120,7 @@ whole-writes n q h e =
       is = p .is;
       small = plain-moderate (decimal q) (decimal q) [] p (omega arith) (omega arith);
       val = t;
+      exact = plain-exact (decimal q) (decimal q) [] p (omega arith);
       short = omega arith;
       comma = digits-none (λ b. eqb b 44) (digit-not 44 refl) (decimal q) (all-decimal q);
       semi = digits-none (λ b. eqb b 59) (digit-not 59 refl) (decimal q) (all-decimal q);
@@ -165,6 +180,7 @@ point-writes n q r w f h e a b l x =
       is = p .is;
       small = plain-moderate (w ++ (46 ∷ f)) (w ++ f) f p (rw length-append (omega (arith, x .short))) (omega arith);
       val = t;
+      exact = plain-exact (w ++ (46 ∷ f)) (w ++ f) f p (x .short);
       short = rw length-append (omega (arith, x .short));
       comma = none-append (λ b. eqb b 44) w (46 ∷ f) (digits-none (λ b. eqb b 44) (digit-not 44 refl) w a) (digits-none (λ b. eqb b 44) (digit-not 44 refl) f k);
       semi = none-append (λ b. eqb b 59) w (46 ∷ f) (digits-none (λ b. eqb b 59) (digit-not 59 refl) w a) (digits-none (λ b. eqb b 59) (digit-not 59 refl) f k);

@@ -312,23 +312,36 @@ entries-joined l h = go (trim l) refl
         let f : allFree 59 (x ∷ xs) ≡ true = rw e at (free-trim 59 l h) in
         rw (e, joined-full 59 l x xs e, join-cons 59 x xs, split-join 59 xs x (and-l (free 59 x) (allFree 59 xs) f) (and-r (free 59 x) (allFree 59 xs) f))
 
--- ── the written entries: no `;` in them, and few bytes ──
+-- ── the written entries: no `;` in them, nothing finer than thousandths, and few bytes ──
 
-pub written-semi : (gs : List Glyph) (bare : Bool) (cs : List Cluster) (us : List ℕ) (lack : ℕ) → fits bare lack us cs gs ≡ true → allFree 59 (written lack cs gs) ≡ true
+-- each of some entries is as asked
+abbrev pub Each : (List ℕ → Type 0) → List (List ℕ) → Type 0
+Each P [] = Unit {0}
+Each P (x ∷ xs) = P x × Each P xs
+
+pub written-each : (P : List ℕ → Type 0) → ((a b : ℕ) (g : Glyph) → glyphFits g ≡ true → (maps a b ≡ true → named (g .index) ≡ true) → P (entryBytes a b g))
+    → (gs : List Glyph) (bare : Bool) (cs : List Cluster) (us : List ℕ) (lack : ℕ) → fits bare lack us cs gs ≡ true → Each P (written lack cs gs)
 unfolding written
-written-semi [] bare cs us lack h = refl
-written-semi (g ∷ gs) bare cs us (suc n) h =
+written-each P p [] bare cs us lack h = tt
+written-each P p (g ∷ gs) bare cs us (suc n) h =
     let f : Further bare n us cs g gs = fits-further bare n us cs g gs h in
-    rw (entry-semi 1 1 g (f .small) (λ t. f .name)) (written-semi gs bare cs us n (f .rest))
-written-semi (g ∷ gs) bare [] us zero h = refl
-written-semi (g ∷ gs) true (c ∷ cs) us zero h =
+    (p 1 1 g (f .small) (λ t. f .name), written-each P p gs bare cs us n (f .rest))
+written-each P p (g ∷ gs) bare [] us zero h = tt
+written-each P p (g ∷ gs) true (c ∷ cs) us zero h =
     let f : Opening true us c cs g gs = fits-opening true us c cs g gs h in
     let o : Bare c g = may-bare us c g (f .may) in
-    rw (entry-semi (c .units) (c .glyphs) g (f .small) (λ t. o .name)) (written-semi gs true cs (drop (c .units) us) (c .glyphs - 1) (f .rest))
-written-semi (g ∷ gs) false (c ∷ cs) us zero h =
+    (p (c .units) (c .glyphs) g (f .small) (λ t. o .name), written-each P p gs true cs (drop (c .units) us) (c .glyphs - 1) (f .rest))
+written-each P p (g ∷ gs) false (c ∷ cs) us zero h =
     let f : Opening false us c cs g gs = fits-opening false us c cs g gs h in
     let o : Opens us c g = may-opens us c g (f .may) in
-    rw (entry-semi (c .units) (c .glyphs) g (f .small) (o .name)) (written-semi gs false cs (drop (c .units) us) (c .glyphs - 1) (f .rest))
+    (p (c .units) (c .glyphs) g (f .small) (o .name), written-each P p gs false cs (drop (c .units) us) (c .glyphs - 1) (f .rest))
+
+pub written-semi : (gs : List Glyph) (bare : Bool) (cs : List Cluster) (us : List ℕ) (lack : ℕ) → fits bare lack us cs gs ≡ true → allFree 59 (written lack cs gs) ≡ true
+written-semi gs bare cs us lack h = go (written lack cs gs) (written-each (λ x. free 59 x ≡ true) entry-semi gs bare cs us lack h)
+  where
+    go : (l : List (List ℕ)) → Each (λ x. free 59 x ≡ true) l → allFree 59 l ≡ true
+    go [] e = refl
+    go (x ∷ xs) e = rw (e .0) (go xs (e .1))
 
 -- an open cluster's glyphs are there
 pub fits-lack : (gs : List Glyph) (bare : Bool) (cs : List Cluster) (us : List ℕ) (lack : ℕ) → fits bare lack us cs gs ≡ true → lack ≤ length gs

@@ -32,8 +32,13 @@ refusal n p = record { number = n; place = p }
 
 -- "If an answer is an enum, a definition gives this paper's number and values for every case of the enum"
 abbrev pub readingOutcome : Reading → Outcome Counts
-readingOutcome (R.Read c) = ok c
+readingOutcome (R.Read c n) = ok c
 readingOutcome (R.Refused x) = no (x .number) (x .place)
+
+-- document 02, CR 1: the count of rounded fields for every case of the answer, "a refusal as 0"
+abbrev pub readingRounded : Reading → ℕ
+readingRounded (R.Read c n) = n
+readingRounded (R.Refused x) = 0
 
 abbrev pub writingOutcome : Writing → Outcome Lengths
 writingOutcome (W.Written n) = ok n

@@ -10,6 +10,7 @@ use Rattle.label.specs.Outcome.{Outcome, ok, no}
 use Rattle.label.specs.Bytes.{split, cut, allDigits, valueFrom, joinRest, join, trim, decimalFrom, decimal}
 use Rattle.label.specs.Text.{lead, trail, starts, scalar, xmlChar, unitsOf, decode, textUnits}
 use Rattle.label.specs.Entry.{unsigned, isDecimals, isNumber, mantissaDigits, fractionDigits, exponentDigits, nearest, scaled, thousandths, numberFits, isIndexPart, indexDigits, mapUnits, mapGlyphs, isAdvance, isOffset, wellFormed, fieldFits, indexOf, advanceOf, offsetOf, entryOf, entry, entries}
+use Rattle.label.specs.Rounded.{isWhole, isExact, roundedField, roundedEntry, roundedEntries, rounded, beside}
 use Rattle.label.specs.Run.{tail, placed, step, walk, runFrom, read}
 use Rattle.label.specs.Sound.{wholeClusters, wholeGlyphs, clustersOf, glyphsOf, properUnits, fits, soundRun, sound, flatClusters, flatGlyphs}
 use Rattle.label.specs.Write.{utf8, unitBytes, unitsBytes, textOf, fraction, valueBytes, advanceBytes, offsetBytes, mapBytes, indexBytes, entryBytes, written, indicesOf, Label, write}
@@ -166,6 +167,15 @@ pub byte-readings : (counted (readBytes 1 8 16 (ascii "A") (ascii "5,,-1")) ≡ 
     × (glyphBytesAfter (readBytes 3 8 17 (ascii "A") (ascii "5,,-1")) (replicate 17 7) ≡ 5 ∷ 0 ∷ 0 ∷ 0 ∷ 255 ∷ 255 ∷ 255 ∷ 255 ∷ 24 ∷ 252 ∷ 255 ∷ 255 ∷ 0 ∷ 0 ∷ 0 ∷ 0 ∷ 7 ∷ [])
 unfolding ascii split cut allDigits valueFrom joinRest join trim decimalFrom decimal lead trail starts scalar xmlChar unitsOf decode textUnits unsigned isDecimals isNumber mantissaDigits fractionDigits exponentDigits nearest scaled thousandths numberFits isIndexPart indexDigits mapUnits mapGlyphs isAdvance isOffset wellFormed fieldFits indexOf advanceOf offsetOf entryOf entry entries tail placed step walk runFrom read readInto readBytes flatClusters flatGlyphs fromHalves fromWords
 byte-readings = (refl, refl, refl, refl, refl, refl, refl)
+
+-- the count of rounded fields beside `A` with `5,.0005`, "a refusal as 0" for 16, 17 and 18 too
+abbrev finer : List ℕ
+finer = ascii "5,.0005"
+
+pub byte-counts : (beside (rounded finer) (readBytes 1 8 16 (ascii "A") finer) ≡ 0) × (beside (rounded finer) (readBytes 2 7 16 (ascii "A") finer) ≡ 0)
+    × (beside (rounded finer) (readBytes 2 8 15 (ascii "A") finer) ≡ 0) × (beside (rounded finer) (readBytes 2 8 16 (ascii "A") finer) ≡ 1)
+unfolding ascii split cut allDigits valueFrom lead trail starts scalar xmlChar unitsOf decode textUnits unsigned isDecimals isNumber mantissaDigits fractionDigits exponentDigits nearest scaled thousandths numberFits isIndexPart indexDigits mapUnits mapGlyphs isAdvance isOffset wellFormed fieldFits indexOf advanceOf offsetOf entryOf entry entries isWhole isExact roundedField roundedEntry roundedEntries rounded tail placed step walk runFrom read readInto readBytes
+byte-counts = (refl, refl, refl, refl)
 
 -- a run handed in as bytes: low byte first; a byte left over in any of the three is 19
 abbrev glyphBytes : List ℕ

@@ -1,5 +1,5 @@
--- "Labels to prove and to run": labels 1 to 11 of document 01 in a single theorem over a list of rows, the worked examples of ECMA-388 likewise, and the
--- example of `relabel`. Each is computed from the definitions.
+-- "Labels to prove and to run": labels 1 to 11 of document 01 in a single theorem over a list of rows, the worked examples of ECMA-388 likewise, the counts
+-- of rounded fields, and the example of `relabel`. Each is computed from the definitions.
 -- Assumes nothing.
 use Prim.Native.Nat.{ℕ}
 use Prim.Native.Char.{code}
@@ -11,6 +11,7 @@ use Rattle.label.specs.Outcome.{Outcome, ok, no}
 use Rattle.label.specs.Bytes.{split, cut, allDigits, valueFrom, joinRest, join, trim, decimalFrom, decimal}
 use Rattle.label.specs.Text.{lead, trail, starts, scalar, xmlChar, unitsOf, decode, textUnits}
 use Rattle.label.specs.Entry.{unsigned, isDecimals, isNumber, mantissaDigits, fractionDigits, exponentDigits, nearest, scaled, thousandths, numberFits, isIndexPart, indexDigits, mapUnits, mapGlyphs, isAdvance, isOffset, wellFormed, fieldFits, indexOf, advanceOf, offsetOf, entryOf, entry, entries}
+use Rattle.label.specs.Rounded.{isWhole, isExact, roundedField, roundedEntry, roundedEntries, rounded, beside}
 use Rattle.label.specs.Run.{Run, cluster, fontGlyph, tail, placed, step, walk, runFrom, read}
 use Rattle.label.specs.Write.{utf8, unitBytes, unitsBytes, textOf, fraction, valueBytes, advanceBytes, offsetBytes, mapBytes, indexBytes, entryBytes, written, indicesOf, Label, normal}
 use Rattle.label.specs.Relabel.{relabel, relabelRead}
@@ -130,10 +131,48 @@ standardRows =
     (ascii "fathoms") (ascii ";;;;;(2)191")) ∷
     []
 
+-- ── document 02, CR 1: how many values were rounded ──
+
+-- a label and the count that is returned for it
+pub record RoundedRow : Type 0 where
+  pub text : List ℕ
+  pub indices : List ℕ
+  pub count : ℕ
+
+-- the row of a text, indices and a count
+abbrev counts : List ℕ → List ℕ → ℕ → RoundedRow
+counts t i n = record { text = t; indices = i; count = n }
+
+-- a row for each way to count
+unfoldable pub roundedRows : List RoundedRow
+roundedRows =
+    -- "whether its exact value was a whole count of thousandths": `.0005` is not, `1.0000` and `0e-99` are, `1e-4` is not, though it reads as 0
+    counts (ascii "A") (ascii "5,.0005") 1 ∷
+    counts (ascii "A") (ascii "5,1.0000") 0 ∷
+    counts (ascii "A") (ascii "5,0e-99") 0 ∷
+    counts (ascii "A") (ascii "5,1e-4") 1 ∷
+    counts (ascii "A") (ascii "5,,12345e-5,-12345e-2") 1 ∷
+    -- "the count of given fields that were not": three given fields of which two are rounded; the same in a cluster's further glyph
+    counts (ascii "A") (ascii "5,.0005,1.5,-1e-4") 2 ∷
+    counts (ascii "A") (ascii "(1:2)5,1.5;6,.0005,,-1e-4") 2 ∷
+    -- "an offset not given counts as exact": nothing is given; an empty field among given ones; the tail
+    counts (ascii "A") (ascii "5") 0 ∷
+    counts (ascii "A") (ascii "5,,,.0004") 1 ∷
+    counts (ascii "ABC") (ascii ",+.0004,") 1 ∷
+    -- "a refusal as 0": 9 in the same entry, 12 in a later one
+    counts (ascii "A") (ascii "5,.0005,1e7") 0 ∷
+    counts (ascii "A") (ascii "5,.0005;6") 0 ∷
+    []
+
 -- each row's label is answered as the row says
 pub labels : map (λ (r : LabelRow). said (read (r .text) (r .indices))) (documentRows ++ standardRows) ≡ map (λ (r : LabelRow). r .answer) (documentRows ++ standardRows)
 unfolding documentRows standardRows ascii split cut allDigits valueFrom joinRest join trim decimalFrom decimal lead trail starts scalar xmlChar unitsOf decode textUnits unsigned isDecimals isNumber mantissaDigits fractionDigits exponentDigits nearest scaled thousandths numberFits isIndexPart indexDigits mapUnits mapGlyphs isAdvance isOffset wellFormed fieldFits indexOf advanceOf offsetOf entryOf entry entries tail placed step walk runFrom read utf8 unitBytes unitsBytes textOf fraction valueBytes advanceBytes offsetBytes mapBytes indexBytes entryBytes written indicesOf
 labels = refl
+
+-- each row's label has the count that the row says
+pub rounded-labels : map (λ (r : RoundedRow). beside (rounded (r .indices)) (read (r .text) (r .indices))) roundedRows ≡ map (λ (r : RoundedRow). r .count) roundedRows
+unfolding roundedRows isWhole isExact roundedField roundedEntry roundedEntries rounded ascii split cut allDigits valueFrom lead trail starts scalar xmlChar unitsOf decode textUnits unsigned isDecimals isNumber mantissaDigits fractionDigits exponentDigits nearest scaled thousandths numberFits isIndexPart indexDigits mapUnits mapGlyphs isAdvance isOffset wellFormed fieldFits indexOf advanceOf offsetOf entryOf entry entries tail placed step walk runFrom read
+rounded-labels = refl
 
 -- "From `{}flow` and `(2:1)192;07,+55.50,,0` it prints:"
 pub relabelled : relabel (ascii "{}flow\n(2:1)192;07,+55.50,,0\n") ≡ ascii "ok 4 3 3\nflow\n(2)192;7,55.5\n"

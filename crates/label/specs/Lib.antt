@@ -3,6 +3,7 @@ pub mod Outcome
 pub mod Bytes
 pub mod Text
 pub mod Entry
+pub mod Rounded
 pub mod Run
 pub mod Sound
 pub mod Write

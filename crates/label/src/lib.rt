@@ -129,15 +129,16 @@ pub struct Refusal {
     pub place: usize,
 }
 
-// What the reader found in an accepted label.
+// How many of each a run has.
 pub struct Counts {
     pub units: usize,
     pub clusters: usize,
     pub glyphs: usize,
 }
 
+// What the reader found in an accepted label: its run's counts, and beside them how many given fields were not whole thousandths.
 pub enum Reading {
-    Read(Counts),
+    Read { counts: Counts, rounded: usize },
     Refused(Refusal),
 }
 

@@ -117,7 +117,10 @@ fn relabel_in(
 {
     match reader::read(text, indices, units, clusters, glyphs) {
         Reading::Refused(x) => Relabelling::No(x),
-        Reading::Read(n) => write_places(n, units, clusters, glyphs, first, second),
+        Reading::Read {
+            counts: n,
+            rounded: _,
+        } => { write_places(n, units, clusters, glyphs, first, second) }
     }
 }
 

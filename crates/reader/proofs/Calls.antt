@@ -15,7 +15,8 @@ use Rattle.label.specs.Text.{decode, marked, textUnits}
 use Rattle.label.specs.Entry.{entries}
 use Rattle.label.specs.Run.{Run, Parts, State, start, opens, takes, next, walk, tail, before, cluster, fontGlyph, runFrom, read}
 use Rattle.label.specs.Sound.{flatClusters, flatGlyphs}
-use Rattle.label.specs.Calls.{refusal, readingOutcome, readInto, counts, counted, filled, unitsAfter, clustersAfter, glyphsAfter}
+use Rattle.label.specs.Rounded.{beside}
+use Rattle.label.specs.Calls.{refusal, readingOutcome, readingRounded, readInto, counts, counted, filled, unitsAfter, clustersAfter, glyphsAfter}
 use Rattle.label.specs.declared.Cluster.{Cluster}
 use Rattle.label.specs.declared.Glyph.{Glyph}
 use Rattle.label.specs.declared.Counts.{Counts}
@@ -172,8 +173,8 @@ found t s n h = go (read t s) refl h
     go (ok r) q x = made r q (read-ok t s r q) (ok-path (counts r) n x)
     go (no i p) q x = no-ok i p n x
 
-pub found-by : (t s : List ℕ) (r : Reading) (n : Counts) → readingOutcome r ≡ counted (read t s) → r ≡ Read n → Found t s n
-found-by t s r n h e = found t s n (sym h ∙ ap readingOutcome e)
+pub found-by : (t s : List ℕ) (r : Reading) (n : Counts) (k : ℕ) → readingOutcome r ≡ counted (read t s) → r ≡ Read n k → Found t s n
+found-by t s r n k h e = found t s n (sym h ∙ ap readingOutcome e)
 
 -- ── the buffers of an accepted label ──
 
@@ -189,10 +190,10 @@ module _ (t s : List ℕ) (n : Counts) (f : Found t s n) where
 
 -- ── 16 to 18 ──
 
--- the four clauses of a reading: its answer and what its three buffers hold
-abbrev pub Reads : Outcome Run → Reading → List ℕ → List ℕ → List ℤ → List ℤ → List ℤ → List ℤ → Type 0
-Reads o r units₀ units clusters₀ clusters glyphs₀ glyphs =
-    (readingOutcome r ≡ counted o) × ((units ≡ unitsAfter o units₀) × ((clusters ≡ clustersAfter o clusters₀) × (glyphs ≡ glyphsAfter o glyphs₀)))
+-- the five clauses of a reading: its answer, how many fields were rounded, and what its three buffers hold
+abbrev pub Reads : Outcome Run → ℕ → Reading → List ℕ → List ℕ → List ℤ → List ℤ → List ℤ → List ℤ → Type 0
+Reads o k r units₀ units clusters₀ clusters glyphs₀ glyphs =
+    (readingOutcome r ≡ counted o) × ((readingRounded r ≡ beside k o) × ((units ≡ unitsAfter o units₀) × ((clusters ≡ clustersAfter o clusters₀) × (glyphs ≡ glyphsAfter o glyphs₀))))
 
 module _ (t s : List ℕ) (u c g : ℕ) where
   pub into-refused : (r : Reading) (x : Refusal) → readingOutcome r ≡ counted (read t s) → r ≡ Refused x → readInto u c g t s ≡ no (x .number) (x .place)
@@ -226,13 +227,13 @@ module _ (t s : List ℕ) (u c g : ℕ) where
     into-run h k l = rw (f .is, ← f .text .count, le-leb (n .units) u h, f .clusters-are, le-leb (2 * n .clusters) c k, f .glyphs-are, le-leb (4 * n .glyphs) g l)
 
 -- a refusal: the answer, and nothing changed
-pub nothing-read : (o : Outcome Run) (r : Reading) (n p : ℕ) (units : List ℕ) (clusters glyphs : List ℤ) → o ≡ no n p → r ≡ Refused (refusal n p)
-    → Reads o r units units clusters clusters glyphs glyphs
-nothing-read o r n p units clusters glyphs e h = rw (e, h) (refl, (refl, (refl, refl)))
+pub nothing-read : (o : Outcome Run) (k : ℕ) (r : Reading) (n p : ℕ) (units : List ℕ) (clusters glyphs : List ℤ) → o ≡ no n p → r ≡ Refused (refusal n p)
+    → Reads o k r units units clusters clusters glyphs glyphs
+nothing-read o k r n p units clusters glyphs e h = rw (e, h) (refl, (refl, (refl, (refl, refl))))
 
 -- the run: its counts, and the buffers filled
-pub run-read : (t s : List ℕ) (o : Outcome Run) (r : Reading) (n : Counts) (units₀ units : List ℕ) (clusters₀ clusters glyphs₀ glyphs : List ℤ) → o ≡ read t s
-    → readingOutcome r ≡ counted (read t s) → r ≡ Read n → units ≡ unitsAfter (read t s) units₀ → clusters ≡ clustersAfter (read t s) clusters₀ → glyphs ≡ glyphsAfter (read t s) glyphs₀
-    → Reads o (Read n) units₀ units clusters₀ clusters glyphs₀ glyphs
-run-read t s o r n units₀ units clusters₀ clusters glyphs₀ glyphs e h q a b d =
-    rw e (ap readingOutcome (sym q) ∙ h, (a, (b, d)))
+pub run-read : (t s : List ℕ) (o : Outcome Run) (k : ℕ) (r : Reading) (n : Counts) (m : ℕ) (units₀ units : List ℕ) (clusters₀ clusters glyphs₀ glyphs : List ℤ) → o ≡ read t s
+    → readingOutcome r ≡ counted (read t s) → readingRounded r ≡ beside k (read t s) → r ≡ Read n m → units ≡ unitsAfter (read t s) units₀ → clusters ≡ clustersAfter (read t s) clusters₀ → glyphs ≡ glyphsAfter (read t s) glyphs₀
+    → Reads o k (Read n m) units₀ units clusters₀ clusters glyphs₀ glyphs
+run-read t s o k r n m units₀ units clusters₀ clusters glyphs₀ glyphs e h l q a b d =
+    rw e (ap readingOutcome (sym q) ∙ h, (ap readingRounded (sym q) ∙ l, (a, (b, d))))

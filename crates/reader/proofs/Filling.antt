@@ -13,6 +13,7 @@ use lib.Seq.{sets}
 use Rattle.label.specs.Outcome.{Outcome, ok, no}
 use Rattle.label.specs.Bytes.{empty}
 use Rattle.label.specs.Entry.{entry, entries}
+use Rattle.label.specs.Rounded.{roundedEntry}
 use Rattle.label.specs.Run.{Parts, State, start, opens, takes, step, next, walk, tail, cluster, fontGlyph}
 use Rattle.label.specs.Sound.{indexFits, advanceFits, size, flatClusters, flatGlyphs}
 use Rattle.label.specs.Calls.{filled}
@@ -134,19 +135,19 @@ module _ (us s : List ℕ) (all : Parts) (good : walk (empty us) (start us) (ent
       fill-never r e =
           never (r .number) (r .place)
           (refusing us s pre lack c st hi (r .number) (r .place)
-          (step-no (empty us) (stateOf us c lack) head (r .number) (r .place) (refused-is (length head) (entry (c .entry) head) r e)))
+          (step-no (empty us) (stateOf us c lack) head (r .number) (r .place) (refused-is (length head) (roundedEntry head) (entry (c .entry) head) r e)))
 
       fill-turn : (x : Item) (n a : ℕ) → entryAt s c ≡ Read x → n ≡ length us → a ≡ takenBy n (c .lack) (x .units)
           → (d : Cursor) → d ≡ advanced c 0 a (x .glyphs) (c .place + x .used + 1) → Turned us s pre lack c d a x
       fill-turn x n a e en ea d ed =
-          let (e₁, is, ex) = read-is (length head) (entry (c .entry) head) x e in
+          let (e₁, is, ex) = read-is (length head) (roundedEntry head) (entry (c .entry) head) x e in
           let w : Walked (empty us) (stateOf us c lack) head (leftFrom s (c .place + length head + 1)) (accepted .others) =
           walk-ok (empty us) (stateOf us c lack) head (leftFrom s (c .place + length head + 1)) (accepted .others)
           (ap (λ (ss : List (List ℕ)). walk (empty us) (stateOf us c lack) ss) (sym (left-is s (c .place) hi)) ∙ accepted .rest) in
           let same : w .first ≡ e₁ = ok-path (w .first) e₁ (sym (step-ok (empty us) (stateOf us c lack) head (w .first) (w .stepped) .is) ∙ is) in
           let q : step (empty us) (stateOf us c lack) head ≡ ok e₁ = w .stepped ∙ ap ok same in
           let u : takes (empty us) (stateOf us c lack) e₁ ≡ a =
-          sym (takes-cut us s pre lack c st rd hi e₁ q (length head))
+          sym (takes-cut us s pre lack c st rd hi e₁ q (length head) (roundedEntry head))
           ∙ ap (λ (y : Item). takes (empty us) (stateOf us c (c .lack)) (itemEntry y)) ex
           ∙ ap (λ (b : Bool). cond (eqb (c .lack) 0 && not b) (x .units) 0) (sym (ap (λ (m : ℕ). eqb m 0) en ∙ empty-eqb us))
           ∙ sym ea in
@@ -250,7 +251,7 @@ module _ (us s : List ℕ) (all : Parts) (good : walk (empty us) (start us) (ent
             clusters = clusters-stored (l .pre) (l .lack) c d units x w (l .stands) c₀ cs cs′ (l .clusters) ec hc;
             glyphs = glyphs-stored (l .pre) (l .lack) c d units x w (l .stands) g₀ gs gs′ (l .glyphs) eg hg;
           },
-          w .further,
+          omega (arith, w .place-is),
         )
 
   -- ── the end ──

@@ -1,6 +1,7 @@
 pub mod Entries
 pub mod Placing
 pub mod Walking
+pub mod Rounding
 pub mod Endings
 pub mod Stores
 pub mod Faults

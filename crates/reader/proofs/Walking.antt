@@ -15,6 +15,7 @@ use Rattle.label.specs.Outcome.{Outcome, ok, no, need, _>>_}
 use Rattle.label.specs.Bytes.{empty}
 use Rattle.label.specs.Text.{decode}
 use Rattle.label.specs.Entry.{Entry, entry, entries}
+use Rattle.label.specs.Rounded.{roundedEntry}
 use Rattle.label.specs.Run.{Parts, State, start, opens, takes, placed, step, next, walk, tail}
 use Rattle.label.specs.Sound.{glyphFits}
 use Rattle.label.specs.declared.Cursor.{Cursor}
@@ -24,7 +25,7 @@ use Rattle.label.proofs.Walks.{Stepped, step-ok}
 use Rattle.label.proofs.Sounds.{entry-facts}
 use Rattle.label.proofs.Cursors.{joined, after, added, walk-good, walk-bad, part-rest}
 use Rattle.text.specs.Moves.{unitsFrom}
-use Rattle.entry.specs.Items.{cap, cutItem, here, entryRead}
+use Rattle.entry.specs.Items.{cap, cutItem, here, entryHere}
 use Rattle.entry.specs.Digits.{digitsFrom}
 use Rattle.entry.specs.declared.Digits.{Digits}
 use Rattle.entry.specs.declared.Item.{Item}
@@ -32,7 +33,7 @@ use Rattle.entry.specs.declared.EntryRead.{EntryRead}
 use Rattle.entry.specs.declared.EntryRead.the-variants.{Read, Refused}
 use Rattle.reader.specs.declared.Turn.{Turn}
 use Rattle.reader.specs.declared.Turn.the-variants.{Took, Stopped}
-use Rattle.reader.specs.Steps.{firstCursor, stateAt, itemEntry, advanced, Turns, entryAt, Stops, Steps}
+use Rattle.reader.specs.Steps.{firstCursor, stateAt, itemEntry, advanced, Turns, Carries, entryAt, Stops, Steps}
 use Rattle.reader.proofs.Entries.{empty-eqb, leftFrom, left-is, left-none, left-all, here-inside}
 use Rattle.reader.proofs.Placing.{read-is, refused-is, over, placed-cut}
 
@@ -126,11 +127,11 @@ pub record Turned (us s : List ℕ) (pre : Parts) (lack : ℕ) (c d : Cursor) (t
   pub lack′ : ℕ
   pub stands : Stands us s (joined pre (added (empty us) (stateOf us c lack) e)) lack′ d
   pub ready : Ready us s d
-  pub further : c .place < d .place
+  pub place-is : d .place ≡ c .place + x .used + 1
   pub behind : c .place + x .used ≤ length s
   pub opened : opens (stateOf us c lack) ≡ eqb (c .lack) 0
   pub units-are : takes (empty us) (stateOf us c lack) e ≡ t
-  pub item-is : cutItem (length (here (drop (c .place) s))) e ≡ x
+  pub item-is : cutItem (length (here (drop (c .place) s))) (roundedEntry (here (drop (c .place) s))) e ≡ x
   pub lacks : lack′ ≡ cond (eqb lack 0) (e .glyphs - 1) (lack - 1)
   pub units-few : c .unit + t ≤ length us
   pub small : glyphFits (e .glyph) ≡ true
@@ -155,8 +156,8 @@ module _ (us s : List ℕ) (pre : Parts) (lack : ℕ) (c : Cursor) (st : Stands 
         omega (arith, rd .inside)
 
     -- the cut number of units that the entry takes is that number
-    pub takes-cut : (n : ℕ) → takes (empty us) (stateOf us c (c .lack)) (itemEntry (cutItem n e)) ≡ taking
-    takes-cut n =
+    pub takes-cut : (n r : ℕ) → takes (empty us) (stateOf us c (c .lack)) (itemEntry (cutItem n r e)) ≡ taking
+    takes-cut n r =
         rw (← same)
         (cases (eqb lack 0 && not (empty us))
         (λ t. let l : c .unit + e .units ≤ length us = rw t at inside-takes in
@@ -221,14 +222,14 @@ module _ (us s : List ℕ) (pre : Parts) (lack : ℕ) (c : Cursor) (st : Stands 
             inside = inside-takes;
           }
 
-      pub turned : (d : Cursor) (x : Item) (t : ℕ) → cutItem (length (here (drop (c .place) s))) e ≡ x → taking ≡ t → d ≡ after-it → Turned us s pre lack c d t x
+      pub turned : (d : Cursor) (x : Item) (t : ℕ) → cutItem (length (here (drop (c .place) s))) (roundedEntry (here (drop (c .place) s))) e ≡ x → taking ≡ t → d ≡ after-it → Turned us s pre lack c d t x
       turned d x t ex et ed =
           record {
             e = e;
             lack′ = lacking;
             stands = subst (λ (y : Cursor). Stands us s (joined pre (added (empty us) (stateOf us c lack) e)) lacking y) (sym ed) next-stands;
             ready = subst (λ (y : Cursor). Ready us s y) (sym ed) next-ready;
-            further = subst (λ (y : Cursor). c .place < y .place) (sym ed) (unfold advanced in omega arith);
+            place-is = ap (λ (y : Cursor). y .place) ed ∙ (unfold advanced in ap (λ (y : Item). c .place + y .used + 1) ex);
             behind = subst (λ (y : Item). c .place + y .used ≤ length s) ex (here-inside s (c .place) hi);
             opened = same;
             units-are = et;
@@ -286,12 +287,12 @@ module _ (text us s : List ℕ) (pre : Parts) (lack : ℕ) (c : Cursor) (st : St
   head = here (drop (c .place) s)
 
   -- an entry that was read, and what 10 to 13 say of it
-  step-read : (x : Item) → entryRead (length head) (entry (c .entry) head) ≡ Read x → (o : Outcome Entry) → placed (empty us) (stateAt text c) (itemEntry x) ≡ o
-      → (e : Entry) × (cutItem (length head) e ≡ x) × (step (empty us) (stateOf us c lack) head ≡ over e o)
+  step-read : (x : Item) → entryAt s c ≡ Read x → (o : Outcome Entry) → placed (empty us) (stateAt text c) (itemEntry x) ≡ o
+      → (e : Entry) × (cutItem (length head) (roundedEntry head) e ≡ x) × (step (empty us) (stateOf us c lack) head ≡ over e o)
   step-read x h o q =
-      let (e, is, ex) = read-is (length head) (entry (c .entry) head) x h in
+      let (e, is, ex) = read-is (length head) (roundedEntry head) (entry (c .entry) head) x h in
       let few : length (drop (c .unit) us) ≤ 4096 = rw length-drop (omega (arith, rd .few-units)) in
-      let q′ : placed (empty us) (stateOf us c (c .lack)) (itemEntry (cutItem (length head) e)) ≡ o =
+      let q′ : placed (empty us) (stateOf us c (c .lack)) (itemEntry (cutItem (length head) (roundedEntry head) e)) ≡ o =
       ap (λ (y : Item). placed (empty us) (stateOf us c (c .lack)) (itemEntry y)) ex
       ∙ ap (λ (z : State). placed (empty us) z (itemEntry x)) (sym (state-here text us c at))
       ∙ q in (
@@ -299,18 +300,18 @@ module _ (text us s : List ℕ) (pre : Parts) (lack : ℕ) (c : Cursor) (st : St
         ex,
         step-lack (empty us) us head c lack (c .lack) (same us s pre lack c st rd hi)
             ∙ step-is (empty us) (stateOf us c (c .lack)) head e is
-            ∙ placed-cut (empty us) (stateOf us c (c .lack)) (length head) e few
+            ∙ placed-cut (empty us) (stateOf us c (c .lack)) (length head) (roundedEntry head) e few
             ∙ ap (over e) q′,
       )
 
-  turn-took : (x : Item) (d : Cursor) → entryRead (length head) (entry (c .entry) head) ≡ Read x → Turns (empty us) text c x (Took d)
+  turn-took : (x : Item) (d : Cursor) (k : ℕ) → entryAt s c ≡ Read x → Turns (empty us) text c x (Took d k)
       → Turned us s pre lack c d (takes (empty us) (stateAt text c) (itemEntry x)) x × At text us d
   unfolding Turns
-  turn-took x d h t =
+  turn-took x d k h t =
       let (e, ex, q) = step-read x h (ok (itemEntry x)) (t .0) in
       let n = takes (empty us) (stateAt text c) (itemEntry x) in
       let u : takes (empty us) (stateOf us c lack) e ≡ n =
-      sym (takes-cut us s pre lack c st rd hi e q (length head))
+      sym (takes-cut us s pre lack c st rd hi e q (length head) (roundedEntry head))
       ∙ ap (λ (y : Item). takes (empty us) (stateOf us c (c .lack)) (itemEntry y)) ex
       ∙ ap (λ (z : State). takes (empty us) z (itemEntry x)) (sym (state-here text us c at)) in
       let ed : d ≡ advanced c (d .byte) (takes (empty us) (stateOf us c lack) e) (min (e .glyphs) cap) (c .place + length head + 1) =
@@ -319,24 +320,25 @@ module _ (text us s : List ℕ) (pre : Parts) (lack : ℕ) (c : Cursor) (st : St
       ∙ ap (λ (y : Item). advanced c (d .byte) (takes (empty us) (stateOf us c lack) e) (y .glyphs) (c .place + y .used + 1)) (sym ex) in
       (turned us s pre lack c st rd hi e q (d .byte) d x n ex u ed, further-on text us c d n (x .glyphs) (c .place + x .used + 1) at (t .1) (t .2))
 
-  turn-stopped : (x : Item) (r : Refusal) → entryRead (length head) (entry (c .entry) head) ≡ Read x → Turns (empty us) text c x (Stopped r)
+  turn-stopped : (x : Item) (r : Refusal) → entryAt s c ≡ Read x → Turns (empty us) text c x (Stopped r)
       → walk (empty us) (start us) (entries s) ≡ no (r .number) (r .place)
   unfolding Turns
   turn-stopped x r h t = let (e, ex, q) = step-read x h (no (r .number) (r .place)) t in refusing us s pre lack c st hi (r .number) (r .place) q
 
-  turn-unread : (r : Refusal) → entryRead (length head) (entry (c .entry) head) ≡ Refused r → walk (empty us) (start us) (entries s) ≡ no (r .number) (r .place)
+  turn-unread : (r : Refusal) → entryAt s c ≡ Refused r → walk (empty us) (start us) (entries s) ≡ no (r .number) (r .place)
   turn-unread r h =
       refusing us s pre lack c st hi (r .number) (r .place)
-      (step-no (empty us) (stateOf us c lack) head (r .number) (r .place) (refused-is (length head) (entry (c .entry) head) r h))
+      (step-no (empty us) (stateOf us c lack) head (r .number) (r .place) (refused-is (length head) (roundedEntry head) (entry (c .entry) head) r h))
 
   -- the code's step, in a text of n units
   module _ (n : ℕ) (en : n ≡ length us) (r : Turn) (h : Steps (eqb n 0) text s c r) where
     steps-here : Steps (empty us) text s c r
     steps-here = subst (λ (b : Bool). Steps b text s c r) (ap (λ (m : ℕ). eqb m 0) en ∙ empty-eqb us) h
 
-    pub code-took : (d : Cursor) → r ≡ Took d → (x : Item) × Turned us s pre lack c d (takes (empty us) (stateAt text c) (itemEntry x)) x × At text us d
+    pub code-took : (d : Cursor) (k : ℕ) → r ≡ Took d k
+        → (x : Item) × Turned us s pre lack c d (takes (empty us) (stateAt text c) (itemEntry x)) x × At text us d × (k ≡ x .rounded)
     unfolding Steps
-    code-took d e = let (x, i, t) = subst (Steps (empty us) text s c) e steps-here in let w = turn-took x d i t in (x, w .0, w .1)
+    code-took d k e = let (x, i, t, q) = subst (Steps (empty us) text s c) e steps-here in let w = turn-took x d k i t in (x, w .0, w .1, q)
 
     pub code-stopped : (q : Refusal) → r ≡ Stopped q → walk (empty us) (start us) (entries s) ≡ no (q .number) (q .place)
     unfolding Steps
@@ -351,18 +353,18 @@ module _ (text us s : List ℕ) (pre : Parts) (lack : ℕ) (c : Cursor) (st : St
 abbrev pub handed : List ℕ → ℕ → List ℕ
 handed s i = take (length s - i) (drop i s)
 
-module _ (s : List ℕ) (c : Cursor) (o : EntryRead) (eo : o ≡ entryRead (length (here (handed s (c .place)))) (entry (c .entry) (here (handed s (c .place))))) where
+module _ (s : List ℕ) (c : Cursor) (o : EntryRead) (eo : o ≡ entryHere (c .entry) (handed s (c .place))) where
   pub read-here : (q : EntryRead) → o ≡ q → entryAt s c ≡ q
-  read-here q e = sym (eo ∙ ap (λ (l : List ℕ). entryRead (length (here l)) (entry (c .entry) (here l))) (part-rest s (c .place))) ∙ e
+  read-here q e = sym (eo ∙ ap (entryHere (c .entry)) (part-rest s (c .place))) ∙ e
 
 pub digits-here : (s : List ℕ) (i : ℕ) (d : Digits) → d ≡ digitsFrom 0 (drop i s) → i + d .count ≤ length s → (d ≡ digitsFrom 0 (handed s i)) × (d .count ≤ length (handed s i))
 digits-here s i d e b = rw (part-rest s i) (e, rw (length-drop i s) (omega (arith, b)))
 
 -- what was read, and what 10 to 13 say of it, is a step
-pub steps-read : (bare : Bool) (text s : List ℕ) (c : Cursor) (x : Item) (r : Turn) → entryAt s c ≡ Read x → Turns bare text c x r → Steps bare text s c r
+pub steps-read : (bare : Bool) (text s : List ℕ) (c : Cursor) (x : Item) (r : Turn) → entryAt s c ≡ Read x → Turns bare text c x r → Carries (x .rounded) r → Steps bare text s c r
 unfolding Steps
-steps-read bare text s c x (Took d) h t = (x, h, t)
-steps-read bare text s c x (Stopped r) h t = (Read x, h, t)
+steps-read bare text s c x (Took d k) h t q = (x, h, t, q)
+steps-read bare text s c x (Stopped r) h t q = (Read x, h, t)
 
 pub steps-refused : (bare : Bool) (text s : List ℕ) (c : Cursor) (r : Refusal) → entryAt s c ≡ Refused r → Steps bare text s c (Stopped r)
 unfolding Steps
@@ -371,7 +373,7 @@ steps-refused bare text s c r h = (Refused r, h, refl)
 -- where an entry was read, its bytes are inside
 pub read-inside : (s : List ℕ) (c : Cursor) (x : Item) → entryAt s c ≡ Read x → c .place ≤ length s → c .place + x .used ≤ length s
 read-inside s c x h hi =
-    let (y, is, ex) = read-is (length (here (drop (c .place) s))) (entry (c .entry) (here (drop (c .place) s))) x h in
+    let (y, is, ex) = read-is (length (here (drop (c .place) s))) (roundedEntry (here (drop (c .place) s))) (entry (c .entry) (here (drop (c .place) s))) x h in
     let u : length (here (drop (c .place) s)) ≡ x .used = ap (λ (z : Item). z .used) ex in
     omega (arith, here-inside s (c .place) hi)
 

@@ -12,7 +12,7 @@ use Rattle.label.specs.Limits.{maxUnits, maxGlyphs, maxIndicesBytes}
 use Rattle.label.specs.Outcome.{Outcome, ok, no, need, _>>_}
 use Rattle.label.specs.Bytes.{empty}
 use Rattle.label.specs.Text.{decode}
-use Rattle.label.specs.Entry.{Entry, entry}
+use Rattle.label.specs.Entry.{Entry}
 use Rattle.label.specs.Run.{Parts, State, takes, placed, tail, whole, cluster, fontGlyph}
 use Rattle.label.specs.Sound.{indexNumber, advanceNumber, advanceFits, flatClusters}
 use Rattle.label.specs.declared.Cursor.{Cursor}
@@ -21,7 +21,7 @@ use Rattle.label.specs.declared.Glyph.{Glyph}
 use Rattle.label.specs.declared.Counts.{Counts}
 use Rattle.label.specs.declared.Refusal.{Refusal}
 use Rattle.text.specs.Moves.{unitsFrom}
-use Rattle.entry.specs.Items.{here, entryRead}
+use Rattle.entry.specs.Items.{entryHere}
 use Rattle.entry.specs.declared.Item.{Item}
 use Rattle.entry.specs.declared.EntryRead.{EntryRead}
 use Rattle.entry.specs.declared.EntryRead.the-variants.{Read, Refused}
@@ -61,7 +61,7 @@ advanced c b units glyphs i =
 
 -- what 12 and 13 come to for an entry that opens a cluster of a units and b glyphs
 unfoldable pub Opens : List ℕ → Cursor → ℕ → ℕ → ℕ → Turn → Type 0
-Opens text c a b i (Took d) =
+Opens text c a b i (Took d n) =
     (leb a (length (unitsFrom text (c .byte))) ≡ true) × (whole a (unitsFrom text (c .byte)) ≡ true) × (d ≡ advanced c (d .byte) a b i)
     × (decode 0 (d .byte) (drop (d .byte) text) ≡ ok (drop a (unitsFrom text (c .byte))))
 Opens text c a b i (Stopped r) =
@@ -69,15 +69,20 @@ Opens text c a b i (Stopped r) =
 
 -- what an entry's checks 10 to 13 come to: the cursor behind it, from whose byte on the units not used yet stand, or the refusal
 unfoldable pub Turns : Bool → List ℕ → Cursor → Item → Turn → Type 0
-Turns bare text c x (Took d) =
+Turns bare text c x (Took d n) =
     (placed bare (stateAt text c) (itemEntry x) ≡ ok (itemEntry x))
     × (d ≡ advanced c (d .byte) (takes bare (stateAt text c) (itemEntry x)) (x .glyphs) (c .place + x .used + 1))
     × (decode 0 (d .byte) (drop (d .byte) text) ≡ ok (drop (takes bare (stateAt text c) (itemEntry x)) (unitsFrom text (c .byte))))
 Turns bare text c x (Stopped r) = placed bare (stateAt text c) (itemEntry x) ≡ no (r .number) (r .place)
 
+-- an entry that was taken brings along how many of its fields were rounded
+abbrev pub Carries : ℕ → Turn → Type 0
+Carries m (Took d n) = n ≡ m
+Carries m (Stopped r) = Unit {0}
+
 -- the reading of the entry at a cursor's place: 7 to 9
 abbrev pub entryAt : List ℕ → Cursor → EntryRead
-entryAt s c = entryRead (length (here (drop (c .place) s))) (entry (c .entry) (here (drop (c .place) s)))
+entryAt s c = entryHere (c .entry) (drop (c .place) s)
 
 -- why an entry, read as o, stops the walk: it is refused itself, or by 10 to 13
 abbrev pub Stops : Bool → List ℕ → Cursor → Refusal → EntryRead → Type 0
@@ -86,7 +91,7 @@ Stops bare text c r (Refused q) = q ≡ r
 
 -- what 7 to 13 come to for the entry at a cursor's place
 unfoldable pub Steps : Bool → List ℕ → List ℕ → Cursor → Turn → Type 0
-Steps bare text s c (Took d) = (x : Item) × (entryAt s c ≡ Read x) × Turns bare text c x (Took d)
+Steps bare text s c (Took d n) = (x : Item) × (entryAt s c ≡ Read x) × Turns bare text c x (Took d n) × (n ≡ x .rounded)
 Steps bare text s c (Stopped r) = (o : EntryRead) × (entryAt s c ≡ o) × Stops bare text c r o
 
 -- ── the tail ──

@@ -11,13 +11,14 @@ ghost use Rattle.label.specs.Outcome.{ok};
 ghost use Rattle.label.specs.Text.{decode};
 ghost use Rattle.label.specs.Run.{named, tail, runFrom, read as readLabel};
 ghost use Rattle.label.specs.Sound.{indexNumber, advanceNumber, advanceFits, flatClusters, flatGlyphs};
-ghost use Rattle.label.specs.Calls.{refusal, readingOutcome, readInto, counted, unitsAfter, clustersAfter, glyphsAfter};
+ghost use Rattle.label.specs.Rounded.{rounded as roundedIn, beside};
+ghost use Rattle.label.specs.Calls.{refusal, readingOutcome, readingRounded, readInto, counted, unitsAfter, clustersAfter, glyphsAfter};
 ghost use Rattle.label.specs.Fault.{ofText, ofEntry, portion, faultPart, partBytes, partPtr};
 ghost use Rattle.label.specs.declared.Reading.the-variants.{Refused as RefusedReading};
 ghost use Rattle.text.specs.Moves.{unitsFrom};
 ghost use Rattle.text.specs.Texts.{unitsStart};
 ghost use Rattle.entry.specs.Items.{here};
-ghost use Rattle.reader.specs.Steps.{firstPlace, firstCursor, advanced, Opens, Turns, Steps, Tails, limited, countedFrom, takenBy, openedHere, glyphPlaces, Storable, tailParts};
+ghost use Rattle.reader.specs.Steps.{firstPlace, firstCursor, advanced, Opens, Turns, Carries, Steps, Tails, limited, countedFrom, takenBy, openedHere, glyphPlaces, Storable, tailParts};
 ghost use Rattle.reader.specs.Faults.{entryPart};
 
 fn refused(number: usize, place: usize) -> label::Reading
@@ -28,9 +29,9 @@ fn refused(number: usize, place: usize) -> label::Reading
 
 // ── one entry ──
 
-// The cursor behind an entry, or the refusal.
+// The cursor behind an entry and how many of its fields were rounded, or the refusal.
 enum Turn {
-    Took(label::Cursor),
+    Took { next: label::Cursor, rounded: usize },
     Stopped(label::Refusal),
 }
 
@@ -84,14 +85,25 @@ fn advance(
     }
 }
 
-// An entry that opens a cluster of `units` units: 12 and 13.
-fn open_cluster(text: &[u8], c: label::Cursor, units: usize, glyphs: usize, place: usize) -> Turn
+// An entry that opens a cluster of `units` units, and has `rounded` fields that were: 12 and 13.
+fn open_cluster(
+    text: &[u8],
+    c: label::Cursor,
+    units: usize,
+    glyphs: usize,
+    place: usize,
+    rounded: usize,
+) -> Turn
     requires { ⌜ decode 0 (c .byte) (drop (c .byte) (now text)) ≡ ok (unitsFrom (now text) (c .byte)) ⌝ }
     requires bounds { ⌜ (c .unit + length (unitsFrom (now text) (c .byte)) ≤ maxUnits) × (c .entry ≤ maxIndicesBytes) × (c .clusters ≤ c .entry) ⌝ }
     ensures { λ r. ⌜ Opens (now (text .entry)) c units glyphs place r ⌝ }
+    ensures rounded { λ r. ⌜ Carries rounded r ⌝ }
 {
     match text::move_past(text, c.byte, units) {
-        text::Moved::To(byte) => Turn::Took(advance(c, byte, units, glyphs, place)),
+        text::Moved::To(byte) => Turn::Took {
+            next: advance(c, byte, units, glyphs, place),
+            rounded,
+        },
         text::Moved::Past => stopped(12, c.entry),
         text::Moved::Half => stopped(13, c.unit + units),
     }
@@ -109,6 +121,7 @@ fn take_entry(text: &[u8], bare: bool, c: label::Cursor, x: entry::Item) -> Turn
     requires { ⌜ decode 0 (c .byte) (drop (c .byte) (now text)) ≡ ok (unitsFrom (now text) (c .byte)) ⌝ }
     requires bounds { ⌜ (c .unit + length (unitsFrom (now text) (c .byte)) ≤ maxUnits) × (c .entry ≤ maxIndicesBytes) × (c .clusters ≤ c .entry) × (c .place + x .used ≤ maxIndicesBytes) ⌝ }
     ensures { λ r. ⌜ Turns bare (now (text .entry)) c x r ⌝ }
+    ensures rounded { λ r. ⌜ Carries (x .rounded) r ⌝ }
 {
     if !words::both(1 <= x.units, 1 <= x.glyphs) {
         return stopped(10, c.entry);
@@ -122,9 +135,12 @@ fn take_entry(text: &[u8], bare: bool, c: label::Cursor, x: entry::Item) -> Turn
     }
     let place = c.place + x.used + 1;
     if opens {
-        return open_cluster(text, c, x.units, x.glyphs, place);
+        return open_cluster(text, c, x.units, x.glyphs, place, x.rounded);
     }
-    Turn::Took(advance(c, c.byte, 0, x.glyphs, place))
+    Turn::Took {
+        next: advance(c, c.byte, 0, x.glyphs, place),
+        rounded: x.rounded,
+    }
 }
 
 // The entry where the walk stands: 7 to 13. An index alone at a character of U+0020 to U+007F, where a cluster may open, is taken without more reading.
@@ -138,7 +154,10 @@ fn survey_entry(text: &[u8], indices: &[u8], bare: bool, c: label::Cursor) -> Tu
     let digits = entry::digits_at(indices, place, 0);
     let easy = words::both(opens_here(bare, c), text::is_plain(text, byte));
     if words::both(easy, entry::is_index(indices, place, digits)) {
-        return Turn::Took(advance(c, byte + 1, 1, 1, place + digits.count + 1));
+        return Turn::Took {
+            next: advance(c, byte + 1, 1, 1, place + digits.count + 1),
+            rounded: 0,
+        };
     }
     match entry::read_entry(&indices[place..], digits, c.entry) {
         entry::EntryRead::Read(x) => take_entry(text, bare, c, x),
@@ -184,29 +203,34 @@ fn find_pair(text: &[u8], byte: usize, unit: usize) -> Tail
 }
 
 // The counts, or 15.
-fn limit(units: usize, clusters: usize, glyphs: usize) -> label::Reading
+fn limit(units: usize, clusters: usize, glyphs: usize, rounded: usize) -> label::Reading
     ensures { λ r. ⌜ readingOutcome r ≡ limited units clusters glyphs ⌝ }
+    ensures rounded { λ r. ⌜ readingRounded r ≡ beside rounded (readingOutcome r) ⌝ }
 {
     if label::Limits::GLYPHS < glyphs {
         return refused(15, 0);
     }
-    label::Reading::Read(label::Counts {
-        units,
-        clusters,
-        glyphs,
-    })
+    label::Reading::Read {
+        counts: label::Counts {
+            units,
+            clusters,
+            glyphs,
+        },
+        rounded,
+    }
 }
 
-// The tail behind the entries, of a text of `count` units: 13 and 15.
-fn survey_tail(text: &[u8], count: usize, c: label::Cursor) -> label::Reading
+// The tail behind the entries, of a text of `count` units: 13 and 15. It has no field that could be rounded.
+fn survey_tail(text: &[u8], count: usize, c: label::Cursor, rounded: usize) -> label::Reading
     requires { ⌜ decode 0 (c .byte) (drop (c .byte) (now text)) ≡ ok (unitsFrom (now text) (c .byte)) ⌝ }
     requires bounds { ⌜ (c .unit + length (unitsFrom (now text) (c .byte)) ≡ count) × (count ≤ maxUnits) × (c .entry ≤ maxIndicesBytes + 1) × (c .clusters ≤ c .entry) ⌝ }
     ensures { λ r. ⌜ readingOutcome r ≡ countedFrom count (c .clusters) (c .entry) (tail (c .unit) (unitsFrom (now (text .entry)) (c .byte))) ⌝ }
+    ensures rounded { λ r. ⌜ readingRounded r ≡ beside rounded (readingOutcome r) ⌝ }
 {
     match find_pair(text, c.byte, c.unit) {
         Tail::Plain => {
             let rest = count - c.unit;
-            limit(count, c.clusters + rest, c.entry + rest)
+            limit(count, c.clusters + rest, c.entry + rest, rounded)
         }
         Tail::Pair(unit) => refused(13, unit),
     }
@@ -234,16 +258,19 @@ fn survey_run(text: &[u8], indices: &[u8], count: usize, start: usize) -> label:
     requires { ⌜ decode 0 start (drop start (now text)) ≡ ok (unitsFrom (now text) start) ⌝ }
     requires bounds { ⌜ (count ≡ length (unitsFrom (now text) start)) × (count ≤ maxUnits) × (length (now indices) ≤ maxIndicesBytes) ⌝ }
     ensures { λ r. ⌜ readingOutcome r ≡ counted (runFrom (unitsFrom (now (text .entry)) start) (now (indices .entry))) ⌝ }
+    ensures rounded { λ r. ⌜ readingRounded r ≡ beside (roundedIn (now (indices .entry))) (readingOutcome r) ⌝ }
 {
     let bare = count == 0;
     if words::both(bare, indices.len() == 0) {
         return refused(6, 0);
     }
     let mut c = first_cursor(indices, start);
+    let mut sum = 0;
     while c.place <= indices.len() {
         match survey_entry(text, indices, bare, c) {
-            Turn::Took(next) => {
+            Turn::Took { next, rounded } => {
                 c = next;
+                sum += rounded;
             }
             Turn::Stopped(r) => {
                 return label::Reading::Refused(r);
@@ -253,12 +280,13 @@ fn survey_run(text: &[u8], indices: &[u8], count: usize, start: usize) -> label:
     if c.lack != 0 {
         return refused(14, c.opener);
     }
-    survey_tail(text, count, c)
+    survey_tail(text, count, c, sum)
 }
 
 // All of 1 to 15 in order, and the counts; nothing is stored.
 pub fn survey(text: &[u8], indices: &[u8]) -> label::Reading
     ensures { λ r. ⌜ readingOutcome r ≡ counted (readLabel (now (text .entry)) (now (indices .entry))) ⌝ }
+    ensures rounded { λ r. ⌜ readingRounded r ≡ beside (roundedIn (now (indices .entry))) (readLabel (now (text .entry)) (now (indices .entry))) ⌝ }
 {
     if label::Limits::TEXT_BYTES < text.len() {
         return refused(1, 0);
@@ -442,12 +470,13 @@ pub fn read(
     glyphs: &mut [i32],
 ) -> label::Reading
     ensures result { λ r. ⌜ readingOutcome r ≡ counted (readInto (length (now (units .entry))) (length (now (clusters .entry))) (length (now (glyphs .entry))) (now (text .entry)) (now (indices .entry))) ⌝ }
+    ensures rounded { λ r. ⌜ readingRounded r ≡ beside (roundedIn (now (indices .entry))) (readInto (length (now (units .entry))) (length (now (clusters .entry))) (length (now (glyphs .entry))) (now (text .entry)) (now (indices .entry))) ⌝ }
     ensures units { λ _. ⌜ now (units .exit) ≡ unitsAfter (readInto (length (now (units .entry))) (length (now (clusters .entry))) (length (now (glyphs .entry))) (now (text .entry)) (now (indices .entry))) (now (units .entry)) ⌝ }
     ensures clusters { λ _. ⌜ now (clusters .exit) ≡ clustersAfter (readInto (length (now (units .entry))) (length (now (clusters .entry))) (length (now (glyphs .entry))) (now (text .entry)) (now (indices .entry))) (now (clusters .entry)) ⌝ }
     ensures glyphs { λ _. ⌜ now (glyphs .exit) ≡ glyphsAfter (readInto (length (now (units .entry))) (length (now (clusters .entry))) (length (now (glyphs .entry))) (now (text .entry)) (now (indices .entry))) (now (glyphs .entry)) ⌝ }
 {
     match survey(text, indices) {
-        label::Reading::Read(n) => {
+        label::Reading::Read { counts: n, rounded } => {
             if units.len() < n.units {
                 return refused(16, n.units);
             }
@@ -458,7 +487,7 @@ pub fn read(
                 return refused(18, n.glyphs);
             }
             fill(text, indices, n, units, clusters, glyphs);
-            label::Reading::Read(n)
+            label::Reading::Read { counts: n, rounded }
         }
         label::Reading::Refused(r) => label::Reading::Refused(r),
     }

@@ -10,7 +10,7 @@ use Rattle.entry.proofs.advance_of.Statement.{statement}
 use Rattle.entry.proofs.advance_of.Tie as tie
 
 own : (z : Thousandths) → Own ≡ advanceChoice false z
-own (Of v) = refl
+own (Of v x) = refl
 own Over = refl
 
 enum-known-z : tie.Need-enum-known-z

@@ -11,10 +11,10 @@ returns : tie.Need-returns
 returns c = rw (c .if1 .taken, zero-mul)
 
 returns-2 : tie.Need-returns-2
-returns-2 c = sym (sized-over _ (grow-over _ _ (omega arith) (c .if2 .taken)))
+returns-2 c = sym (sized-over _ _ (grow-over _ _ (omega arith) (c .if2 .taken)))
 
 returns-3 : tie.Need-returns-3
-returns-3 c = sym (sized-over _ (grow-large _ _ (c .if3 .taken)))
+returns-3 c = sym (sized-over _ _ (grow-large _ _ (c .if3 .taken)))
 
 power-requires : tie.Need-power-requires
 power-requires c κs = search needs

@@ -5,14 +5,14 @@ use Rattle.entry.proofs.ValueLaws.{sized-of, sized-over}
 use Rattle.entry.proofs.limited.Statement.{statement}
 use Rattle.entry.proofs.limited.Tie as tie
 
-cast-t4 : tie.Need-cast-t4
-cast-t4 c = search needs
+cast-t5 : tie.Need-cast-t5
+cast-t5 c = search needs
 
 returns : tie.Need-returns
-returns c = sym (sized-of _ (c .if1 .taken))
+returns c = sym (sized-of _ _ (c .if1 .taken))
 
 returns-2 : tie.Need-returns-2
-returns-2 c = sym (sized-over _ (c .if1 .left))
+returns-2 c = sym (sized-over _ _ (c .if1 .left))
 
 pub limited-spec : {M : Type 1} → statement M
-limited-spec = tie.close (tie.spec cast-t4 returns returns-2)
+limited-spec = tie.close (tie.spec cast-t5 returns returns-2)

@@ -48,8 +48,13 @@ index-of-requires c κs = search needs
 advance-of-requires : tie.Need-advance-of-requires
 advance-of-requires c κs = search needs
 
+rounded-of-requires : tie.Need-rounded-of-requires
+rounded-of-requires c κs = search needs
+
 returns-4 : tie.Need-returns-4
-returns-4 c = one-read _ _ _ (c .before .before .before .before .before .before .before .before .before .before .before .before .before .before .before .pre .0 .0) _ (c .before .before .before .before .before .before .before .before .before .before .before .before .before .before .before .pre .0 .1) (c .before .before .before .before .before .before .before .before .before .before .before .before .before .before .before .pre .1) (c .before .before .before .before .before .before .before .before .before .before .before .before .before .before .before .pre .0 .2) (sym (one-chain _ _ _ (c .before .before .before .before .before .before .before .before .before .before .both .ensures) (c .before .before .before .before .before .before .before .before .before .both2 .ensures) (c .before .before .before .before .before .before .before .before .ends-at .ensures) (c .before .before .before .before .before .before .before .both3 .ensures)) ∙ not-false _ (c .before .before .before .before .before .before .if1 .left)) (c .before .before .before .before .if2 .left) (sym (c .before .before .before .is-within .ensures) ∙ not-false _ (c .before .before .if3 .left)) _ (c .before .index-of .ensures) _ (c .advance-of .ensures)
+returns-4 c =
+    let g = c .before in
+    one-read _ _ _ (g .before .before .before .before .before .before .before .before .before .before .before .before .before .before .before .pre .0 .0) _ (g .before .before .before .before .before .before .before .before .before .before .before .before .before .before .before .pre .0 .1) (g .before .before .before .before .before .before .before .before .before .before .before .before .before .before .before .pre .1) (g .before .before .before .before .before .before .before .before .before .before .before .before .before .before .before .pre .0 .2) (sym (one-chain _ _ _ (g .before .before .before .before .before .before .before .before .before .before .both .ensures) (g .before .before .before .before .before .before .before .before .before .both2 .ensures) (g .before .before .before .before .before .before .before .before .ends-at .ensures) (g .before .before .before .before .before .before .before .both3 .ensures)) ∙ not-false _ (g .before .before .before .before .before .before .if1 .left)) (g .before .before .before .before .if2 .left) (sym (g .before .before .before .is-within .ensures) ∙ not-false _ (g .before .before .if3 .left)) _ (g .before .index-of .ensures) _ (g .advance-of .ensures) _ (c .rounded-of .ensures .0)
 
 pub read-advance-spec : {M : Type 1} → statement M
 read-advance-spec =
@@ -69,4 +74,5 @@ read-advance-spec =
     returns-3
     index-of-requires
     advance-of-requires
+    rounded-of-requires
     returns-4)

@@ -98,8 +98,25 @@ offset-of-requires c κs = rw (c .before .before .before .before .before .before
 offset-of-requires-2 : tie.Need-offset-of-requires-2
 offset-of-requires-2 c κs = rw (c .before .before .before .before .before .before .before .before .before .before .before .before .before .before .before .before .before .before .before .before .field-at3 .ensures .0) (field-small _)
 
+rounded-of-requires : tie.Need-rounded-of-requires
+rounded-of-requires c κs = search needs
+
+rounded-of-requires-2 : tie.Need-rounded-of-requires-2
+rounded-of-requires-2 c κs = search needs
+
+add-rounded : tie.Need-add-rounded
+add-rounded c = search needs
+
+rounded-of-requires-3 : tie.Need-rounded-of-requires-3
+rounded-of-requires-3 c κs = search needs
+
+add-rounded-2 : tie.Need-add-rounded-2
+add-rounded-2 c = search needs
+
 returns-5 : tie.Need-returns-5
-returns-5 c = code-read _ _ _ (c .before .before .before .before .before .before .before .before .before .before .before .before .before .before .before .before .before .before .before .before .before .before .before .before .before .before .before .before .before .before .pre .0) _ (c .before .before .before .before .before .before .before .before .before .before .before .before .before .before .before .before .before .before .before .before .before .before .before .before .before .before .before .before .field-at .ensures .0) _ (c .before .before .before .before .before .before .before .before .before .before .before .before .before .before .before .before .before .before .before .before .before .before .before .field-at2 .ensures .0) _ (c .before .before .before .before .before .before .before .before .before .before .before .before .before .before .before .before .before .before .before .before .before .field-at3 .ensures .0) (c .before .before .before .before .before .before .before .before .before .before .before .before .before .before .before .before .before .before .before .before .before .field-at3 .ensures .1) (sym (well-chain _ _ _ _ _ (c .before .before .before .before .before .before .before .before .before .before .before .before .before .before .before .before .before .before .both .ensures) (c .before .before .before .before .before .before .before .before .before .before .before .before .before .before .before .before .before .both2 .ensures) (c .before .before .before .before .before .before .before .before .before .before .before .before .before .before .before .before .both3 .ensures) (c .before .before .before .before .before .before .before .before .before .before .before .before .before .before .before .both4 .ensures) (c .before .before .before .before .before .before .before .before .before .before .before .before .before .before .ends-at .ensures) (c .before .before .before .before .before .before .before .before .before .before .before .before .before .both5 .ensures)) ∙ not-false _ (c .before .before .before .before .before .before .before .before .before .before .before .before .if2 .left)) (c .before .before .before .before .before .before .before .before .before .before .if3 .left) (sym (within-chain _ _ _ (c .before .before .before .before .before .before .before .before .before .is-within .ensures) (c .before .before .before .before .before .before .before .before .is-within2 .ensures) (c .before .before .before .before .before .before .is-within3 .ensures) (c .before .before .before .before .before .before .before .both6 .ensures) (c .before .before .before .before .before .both7 .ensures)) ∙ not-false _ (c .before .before .before .before .if4 .left)) _ (c .before .before .before .index-of .ensures) _ (c .before .before .advance-of .ensures) _ _ (toZ-ofZ {w = w32} (sfits-of (c .before .offset-of .ok)) ∙ c .before .offset-of .ensures) (toZ-ofZ {w = w32} (sfits-of (c .offset-of2 .ok)) ∙ c .offset-of2 .ensures)
+returns-5 c =
+    let g = c .before .before .before in
+    code-read _ _ _ (g .before .before .before .before .before .before .before .before .before .before .before .before .before .before .before .before .before .before .before .before .before .before .before .before .before .before .before .before .before .before .pre .0) _ (g .before .before .before .before .before .before .before .before .before .before .before .before .before .before .before .before .before .before .before .before .before .before .before .before .before .before .before .before .field-at .ensures .0) _ (g .before .before .before .before .before .before .before .before .before .before .before .before .before .before .before .before .before .before .before .before .before .before .before .field-at2 .ensures .0) _ (g .before .before .before .before .before .before .before .before .before .before .before .before .before .before .before .before .before .before .before .before .before .field-at3 .ensures .0) (g .before .before .before .before .before .before .before .before .before .before .before .before .before .before .before .before .before .before .before .before .before .field-at3 .ensures .1) (sym (well-chain _ _ _ _ _ (g .before .before .before .before .before .before .before .before .before .before .before .before .before .before .before .before .before .before .both .ensures) (g .before .before .before .before .before .before .before .before .before .before .before .before .before .before .before .before .before .both2 .ensures) (g .before .before .before .before .before .before .before .before .before .before .before .before .before .before .before .before .both3 .ensures) (g .before .before .before .before .before .before .before .before .before .before .before .before .before .before .before .both4 .ensures) (g .before .before .before .before .before .before .before .before .before .before .before .before .before .before .ends-at .ensures) (g .before .before .before .before .before .before .before .before .before .before .before .before .before .both5 .ensures)) ∙ not-false _ (g .before .before .before .before .before .before .before .before .before .before .before .before .if2 .left)) (g .before .before .before .before .before .before .before .before .before .before .if3 .left) (sym (within-chain _ _ _ (g .before .before .before .before .before .before .before .before .before .is-within .ensures) (g .before .before .before .before .before .before .before .before .is-within2 .ensures) (g .before .before .before .before .before .before .is-within3 .ensures) (g .before .before .before .before .before .before .before .both6 .ensures) (g .before .before .before .before .before .both7 .ensures)) ∙ not-false _ (g .before .before .before .before .if4 .left)) _ (g .before .before .before .index-of .ensures) _ (g .before .before .advance-of .ensures) _ _ (toZ-ofZ {w = w32} (sfits-of (g .before .offset-of .ok)) ∙ g .before .offset-of .ensures) (toZ-ofZ {w = w32} (sfits-of (g .offset-of2 .ok)) ∙ g .offset-of2 .ensures) _ (rw (c .before .before .rounded-of .ensures .0, c .before .rounded-of2 .ensures .0, c .rounded-of3 .ensures .0))
 
 pub read-fields-spec : {M : Type 1} → statement M
 read-fields-spec =
@@ -135,4 +152,9 @@ read-fields-spec =
     advance-of-requires
     offset-of-requires
     offset-of-requires-2
+    rounded-of-requires
+    rounded-of-requires-2
+    add-rounded
+    rounded-of-requires-3
+    add-rounded-2
     returns-5)

@@ -2,12 +2,12 @@
 use native.Mathlib.Nat.{mod-lt, div-le-self}
 use native.Mathlib.Omega.{arith}
 use borrow.Author.Needs.{needs}
-use Rattle.entry.proofs.ValueLaws.{shrink-none, round-up, round-down, ten-pos, ten-mono}
+use Rattle.entry.proofs.ValueLaws.{shrink-none, none-whole, round-up, round-down, ten-pos, ten-mono}
 use Rattle.entry.proofs.shrunk.Statement.{statement}
 use Rattle.entry.proofs.shrunk.Tie as tie
 
 returns : tie.Need-returns
-returns c = rw (shrink-none _ _ (c .before .pre) (c .if1 .taken))
+returns c = rw (shrink-none _ _ (c .before .pre) (c .if1 .taken), none-whole _ _ (c .before .pre) (c .if1 .taken))
 
 power-requires : tie.Need-power-requires
 power-requires c κs = search needs

@@ -1,8 +1,7 @@
 -- `entry::to_thousandths` meets its contract. Assumes nothing.
-use mathlib.Core.Path.{ap, _∙_}
+use mathlib.Core.Path.{_∙_}
 use borrow.Author.Needs.{needs}
-use Rattle.entry.specs.Numbers.{sized}
-use Rattle.entry.proofs.ValueLaws.{scaled-is}
+use Rattle.entry.proofs.ValueLaws.{scaled-is, whole-is}
 use Rattle.entry.proofs.to_thousandths.Statement.{statement}
 use Rattle.entry.proofs.to_thousandths.Tie as tie
 
@@ -22,7 +21,15 @@ shifted-requires : tie.Need-shifted-requires
 shifted-requires c κs = search needs
 
 returns : tie.Need-returns
-returns c = c .shifted .ensures ∙ rw (c .before .before .unless .ensures .0, c .before .unless2 .ensures .0) (ap sized (scaled-is (c .before .before .before .args .m) (c .before .before .before .args .f) (c .before .before .before .args .negative) (c .before .before .before .args .e)))
+returns c =
+    let a = c .before .before .before .args in
+    c .shifted .ensures
+    ∙ rw (
+      c .before .before .unless .ensures .0,
+      c .before .unless2 .ensures .0,
+      scaled-is (a .m) (a .f) (a .negative) (a .e),
+      whole-is (a .m) (a .f) (a .negative) (a .e),
+    )
 
 pub to-thousandths-spec : {M : Type 1} → statement M
 to-thousandths-spec =

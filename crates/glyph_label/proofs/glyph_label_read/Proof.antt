@@ -1,7 +1,7 @@
-use Rattle.glyph_label.proofs.Bounds.{reading-fits}
-use Rattle.glyph_label.specs.Runs.{ReadingFits}
-use Rattle.glyph_label.specs.Answers.{readingAnswer}
-use mathlib.Core.Path.{sym, ap, subst, _∙_}
+use Rattle.glyph_label.proofs.Bounds.{reading-fits, rounded-fits}
+use Rattle.glyph_label.proofs.Fills.{answer-beside}
+use Rattle.glyph_label.specs.Runs.{Small32, ReadingFits}
+use mathlib.Core.Path.{sym, subst, _∙_}
 use borrow.Author.Needs.{needs}
 use Rattle.glyph_label.proofs.glyph_label_read.Statement.{statement}
 use Rattle.glyph_label.proofs.glyph_label_read.Tie as tie
@@ -10,7 +10,10 @@ read-bytes-requires : tie.Need-read-bytes-requires
 read-bytes-requires c κs = search needs
 
 reading-answer-requires : tie.Need-reading-answer-requires
-reading-answer-requires c κs = subst ReadingFits (sym (c .before .before .before .before .before .before .read-bytes .ensures .0)) (reading-fits _ _ _ _ _)
+reading-answer-requires c κs =
+    let a = c .before .before .before .before .before .before .before .before .before .before .before .before .before .before .before .args in
+    let r = c .before .before .before .before .before .before .read-bytes .ensures in
+    (subst ReadingFits (sym (r .0)) (reading-fits _ _ _ _ _), subst Small32 (sym (r .1 .0)) (rounded-fits _ _ _ (a .text .now) (a .indices .now)))
 
 same-length : tie.Need-same-length
 same-length c = search needs
@@ -23,8 +26,10 @@ same-length-3 c = search needs
 
 returns : tie.Need-returns
 returns c =
-    let r = c .before .before .before .before .before .before .before .read-bytes .ensures in
-    (c .reading-answer .ensures ∙ ap readingAnswer (r .0), (r .1 .units, (r .1 .clusters, r .1 .glyphs)))
+    let a = c .before .before .before .before .before .before .before .before .before .before .before .before .before .before .before .before .args in
+    let b = c .before .before .before .before .before .before .before .read-bytes in
+    let r = b .ensures in
+    (c .reading-answer .ensures ∙ answer-beside (a .text .now) (a .indices .now) (a .units .now) (a .clusters .now) (a .glyphs .now) (b .result) (r .0) (r .1 .0), (r .1 .1 .units, (r .1 .1 .clusters, r .1 .1 .glyphs)))
 
 pub glyph-label-read-spec : {M : Type 1} → statement M
 glyph-label-read-spec =

@@ -1,6 +1,7 @@
 use native.Mathlib.Omega.{arith}
+use mathlib.Core.Path.{refl}
 use borrow.Author.Needs.{needs}
-use Rattle.reader.proofs.Placing.{moves-fit, half-fit, opens-to, opens-past, opens-half}
+use Rattle.reader.proofs.Placing.{moves-fit, half-fit, opens-to, opens-past, opens-half, stopped-carries}
 use Rattle.reader.proofs.open_cluster.Statement.{statement}
 use Rattle.reader.proofs.open_cluster.Tie as tie
 
@@ -33,13 +34,13 @@ stopped-requires-2 : tie.Need-stopped-requires-2
 stopped-requires-2 c κs = search needs
 
 returns : tie.Need-returns
-returns c = opens-to _ _ _ _ _ _ _ _ (c .before .before .before .before .move-past .ensures) (c .before .before .byte .given .1) (c .advance .ensures)
+returns c = (opens-to _ _ _ _ _ _ _ _ _ (c .before .before .before .before .move-past .ensures) (c .before .before .byte .given .1) (c .advance .ensures), refl)
 
 returns-2 : tie.Need-returns-2
-returns-2 c = opens-past _ _ _ _ _ _ _ (c .before .before .before .move-past .ensures) (c .before .enum-told .given .1) (c .stopped .ensures)
+returns-2 c = (opens-past _ _ _ _ _ _ _ (c .before .before .before .move-past .ensures) (c .before .enum-told .given .1) (c .stopped .ensures), stopped-carries _ _ _ (c .stopped .ensures))
 
 returns-3 : tie.Need-returns-3
-returns-3 c = opens-half _ _ _ _ _ _ _ (c .before .before .before .before .move-past .ensures) (c .before .before .enum-told2 .given .1) (c .stopped2 .ensures)
+returns-3 c = (opens-half _ _ _ _ _ _ _ (c .before .before .before .before .move-past .ensures) (c .before .before .enum-told2 .given .1) (c .stopped2 .ensures), stopped-carries _ _ _ (c .stopped2 .ensures))
 
 pub open-cluster-spec : {M : Type 1} → statement M
 open-cluster-spec =

@@ -1,6 +1,8 @@
-use mathlib.Core.Path.{_∙_}
+use mathlib.Core.Path.{refl, _∙_}
 use borrow.Author.Needs.{needs}
+use Rattle.label.specs.declared.Reading.the-variants.{Refused}
 use Rattle.reader.proofs.Calls.{text-long, indices-long, text-units, read-units, text-refused}
+use Rattle.reader.proofs.Rounding.{none-rounded, beside-run}
 use Rattle.reader.proofs.survey.Statement.{statement}
 use Rattle.reader.proofs.survey.Tie as tie
 
@@ -8,13 +10,17 @@ refused-requires : tie.Need-refused-requires
 refused-requires c κs = search needs
 
 returns : tie.Need-returns
-returns c = text-long _ _ _ (c .refused .ensures) (c .before .if1 .taken)
+returns c =
+    let a = c .before .before .before .before .args in
+    beside-run (a .text .now) (a .indices .now) (c .refused .result) (text-long _ _ _ (c .refused .ensures) (c .before .if1 .taken)) (none-rounded _ _ _ (c .refused .ensures))
 
 refused-requires-2 : tie.Need-refused-requires-2
 refused-requires-2 c κs = search needs
 
 returns-2 : tie.Need-returns-2
-returns-2 c = indices-long _ _ _ (c .refused2 .ensures) (c .before .if2 .taken)
+returns-2 c =
+    let a = c .before .before .before .before .before .args in
+    beside-run (a .text .now) (a .indices .now) (c .refused2 .result) (indices-long _ _ _ (c .refused2 .ensures) (c .before .if2 .taken)) (none-rounded _ _ _ (c .refused2 .ensures))
 
 survey-text-requires : tie.Need-survey-text-requires
 survey-text-requires c κs = search needs
@@ -31,10 +37,13 @@ enum-known-r c = search needs
 returns-3 : tie.Need-returns-3
 returns-3 c =
     let x = text-units _ _ _ (c .before .before .before .before .survey-text .ensures) (c .before .before .t .given .1) in
-    c .survey-run .ensures ∙ read-units _ _ (c .before .before .before .before .before .before .if1 .left) (c .before .before .before .before .before .if2 .left) _ _ x
+    let a = c .before .before .before .before .before .before .before .before .before .args in
+    beside-run (a .text .now) (a .indices .now) (c .survey-run .result) (c .survey-run .ensures .0 ∙ read-units _ _ (c .before .before .before .before .before .before .if1 .left) (c .before .before .before .before .before .if2 .left) _ _ x) (c .survey-run .ensures .1)
 
 returns-4 : tie.Need-returns-4
-returns-4 c = text-refused _ _ (c .before .before .before .before .before .if1 .left) (c .before .before .before .before .if2 .left) _ _ (c .before .before .before .survey-text .ensures) (c .before .r .given .1)
+returns-4 c =
+    let a = c .before .before .before .before .before .before .before .before .args in
+    beside-run (a .text .now) (a .indices .now) (Refused (c .before .r .given .0 .0)) (text-refused _ _ (c .before .before .before .before .before .if1 .left) (c .before .before .before .before .if2 .left) _ _ (c .before .before .before .survey-text .ensures) (c .before .r .given .1)) refl
 
 pub survey-spec : {M : Type 1} → statement M
 survey-spec =

@@ -50,7 +50,7 @@ returns c =
     let q = plain-is (c .before .before .before .before .before .before .before .opens-here .result) (c .before .before .before .before .before .before .is-plain .result) (c .before .before .before .before .is-index .result) (c .before .before .before .before .before .both .ensures) (c .before .before .before .both2 .ensures) (c .before .before .if1 .taken) in
     let m = c .before .before .before .before .before .before .is-plain .ensures .1 (q .1) in
     let i = c .before .before .before .before .is-index .ensures .1 (q .2) in
-    steps-read _ _ _ _ _ _ (i .1 (a .args .c .entry)) (turn-plain _ _ _ _ _ (sym (c .before .before .before .before .before .before .before .opens-here .ensures) ∙ q .0) (m .1) (c .advance .ensures))
+    steps-read _ _ _ _ _ _ (i .1 (a .args .c .entry)) (turn-plain _ _ _ _ _ (sym (c .before .before .before .before .before .before .before .opens-here .ensures) ∙ q .0) (m .1) (c .advance .ensures)) refl
 
 sub-read-entry : tie.Need-sub-read-entry
 sub-read-entry c = search needs
@@ -82,7 +82,7 @@ enum-known-r c = search needs
 returns-2 : tie.Need-returns-2
 returns-2 c =
     let a = c .before .before .before .before .before .before .before .before .before .before .before .before .before .before .before in
-    steps-read _ _ _ _ _ _ (read-here (a .args .indices .now) (a .args .c) _ (c .before .before .before .before .read-entry .ensures) _ (c .before .before .x .given .1)) (c .take-entry .ensures)
+    steps-read _ _ _ _ _ _ (read-here (a .args .indices .now) (a .args .c) _ (c .before .before .before .before .read-entry .ensures) _ (c .before .before .x .given .1)) (c .take-entry .ensures .0) (c .take-entry .ensures .1)
 
 returns-3 : tie.Need-returns-3
 returns-3 c =

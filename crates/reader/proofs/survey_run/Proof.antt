@@ -1,24 +1,25 @@
 use Prim.Native.Nat.{ℕ, _+_, _-_}
 use native.Mathlib.Omega.{arith}
 use mathlib.Core.Bool.{false, _&&_}
-use mathlib.Core.Path.{_≡_, sym, _∙_}
+use mathlib.Core.Path.{_≡_, refl, sym, _∙_}
 use borrow.Author.Needs.{needs}
 use lib.ListN.{length}
 use Rattle.label.specs.Bytes.{empty}
 use Rattle.label.specs.Run.{Parts}
 use Rattle.text.specs.Moves.{unitsFrom}
 use Rattle.reader.proofs.Endings.{nothing-is, run-nothing, run-stop, run-tail, refused-outcome}
+use Rattle.reader.proofs.Rounding.{Rounding, rounding-start, rounding-few, rounding-on, rounding-end, none-rounded}
 use Rattle.reader.proofs.Walking.{nothing, Stands, Ready, At, stands-start, ready-start, at-start, at-decodes, at-length, code-took, code-stopped, ends-open}
 use Rattle.reader.proofs.survey_run.Statement.{statement}
 use Rattle.reader.proofs.survey_run.Tie as tie
 
 abbrev Inv-loop : tie.InvT-loop
-Inv-loop text indices count start bare c₀ c =
+Inv-loop text indices count start bare c₀ sum₀ c sum =
     (pre : Parts) × (lack : ℕ) × Stands (unitsFrom text start) indices pre lack c × Ready (unitsFrom text start) indices c × At text (unitsFrom text start) c
-    × ((empty (unitsFrom text start) && empty indices) ≡ false)
+    × ((empty (unitsFrom text start) && empty indices) ≡ false) × Rounding indices (c .place) sum
 
 abbrev μ-loop : tie.MeasureT-loop
-μ-loop text indices count start bare c₀ c = length indices + 1 - c .place
+μ-loop text indices count start bare c₀ sum₀ c sum = length indices + 1 - c .place
 
 both-requires : tie.Need-both-requires Inv-loop μ-loop
 both-requires c κs = search needs
@@ -30,7 +31,7 @@ returns : tie.Need-returns Inv-loop μ-loop
 returns c =
     let a = c .before .before .before .before .before in
     let us = unitsFrom (a .args .text .now) (a .args .start) in
-    run-nothing us _ _ (c .refused .ensures) (sym (nothing-is us (a .args .indices .now) _ _ (c .before .before .both .ensures) (a .pre .1 .0)) ∙ c .before .if1 .taken)
+    (run-nothing us _ _ (c .refused .ensures) (sym (nothing-is us (a .args .indices .now) _ _ (c .before .before .both .ensures) (a .pre .1 .0)) ∙ c .before .if1 .taken), none-rounded _ _ _ (c .refused .ensures))
 
 first-cursor-requires : tie.Need-first-cursor-requires Inv-loop μ-loop
 first-cursor-requires c κs = search needs
@@ -47,6 +48,7 @@ loop-holds c =
       ready-start us s _ _ e (omega (arith, a .pre .1 .0, a .pre .1 .1)) (a .pre .1 .2),
       at-start us s _ _ e _ (a .pre .0),
       sym (nothing-is us s _ _ (c .before .before .both .ensures) (a .pre .1 .0)) ∙ c .before .if1 .left,
+      rounding-start s _ _ e,
     )
 
 survey-entry-requires : tie.Need-survey-entry-requires Inv-loop μ-loop
@@ -60,17 +62,23 @@ survey-entry-requires c κs =
 enum-known-next : tie.Need-enum-known-next Inv-loop μ-loop
 enum-known-next c = search needs
 
+add-sum : tie.Need-add-sum Inv-loop μ-loop
+add-sum c =
+    let l = c .before .before .before .before .before .before .loop .inv in
+    let w = code-took _ _ _ _ _ _ (l .2) (l .3) (l .4) (c .before .before .before .before .if2 .taken) _ (c .before .before .before .before .before .before .before .before .before .before .before .before .pre .1 .0) _ (c .before .before .before .survey-entry .ensures) _ _ (c .before .next .given .1) in
+    record { fits = omega (arith, rounding-few _ _ _ (rounding-on _ _ _ _ _ _ _ _ (w .1) (c .before .before .before .before .if2 .taken) _ _ (w .3) (l .6)) (l .3 .few-bytes)) }
+
 loop-less : tie.Need-loop-less Inv-loop μ-loop
 loop-less c =
     let l = c .before .before .before .before .before .before .loop .inv in
-    let w = code-took _ _ _ _ _ _ (l .2) (l .3) (l .4) (c .before .before .before .before .if2 .taken) _ (c .before .before .before .before .before .before .before .before .before .before .before .before .pre .1 .0) _ (c .before .before .before .survey-entry .ensures) _ (c .before .next .given .1) .1 in
-    omega (arith, w .further, w .ready .place)
+    let w = code-took _ _ _ _ _ _ (l .2) (l .3) (l .4) (c .before .before .before .before .if2 .taken) _ (c .before .before .before .before .before .before .before .before .before .before .before .before .pre .1 .0) _ (c .before .before .before .survey-entry .ensures) _ _ (c .before .next .given .1) .1 in
+    omega (arith, w .place-is, w .ready .place)
 
 loop-again : tie.Need-loop-again Inv-loop μ-loop
 loop-again c =
     let l = c .before .before .before .before .before .before .loop .inv in
-    let w = code-took _ _ _ _ _ _ (l .2) (l .3) (l .4) (c .before .before .before .before .if2 .taken) _ (c .before .before .before .before .before .before .before .before .before .before .before .before .pre .1 .0) _ (c .before .before .before .survey-entry .ensures) _ (c .before .next .given .1) in
-    (_, w .1 .lack′, w .1 .stands, w .1 .ready, w .2, l .5)
+    let w = code-took _ _ _ _ _ _ (l .2) (l .3) (l .4) (c .before .before .before .before .if2 .taken) _ (c .before .before .before .before .before .before .before .before .before .before .before .before .pre .1 .0) _ (c .before .before .before .survey-entry .ensures) _ _ (c .before .next .given .1) in
+    (_, w .1 .lack′, w .1 .stands, w .1 .ready, w .2, l .5, rounding-on _ _ _ _ _ _ _ _ (w .1) (c .before .before .before .before .if2 .taken) _ _ (w .3) (l .6))
 
 enum-known-r : tie.Need-enum-known-r Inv-loop μ-loop
 enum-known-r c = search needs
@@ -78,9 +86,11 @@ enum-known-r c = search needs
 returns-2 : tie.Need-returns-2 Inv-loop μ-loop
 returns-2 c =
     let a = c .before .before .before .before .before .before .before .before .before .before .before .before in
-    let l = c .before .before .before .before .before .before .loop .inv in
-    run-stop (unitsFrom (a .args .text .now) (a .args .start)) (a .args .indices .now) _ _ (l .5)
-    (code-stopped _ _ _ _ _ _ (l .2) (l .3) (l .4) (c .before .before .before .before .if2 .taken) _ (a .pre .1 .0) _ (c .before .before .before .survey-entry .ensures) _ (c .before .r .given .1))
+    let l = c .before .before .before .before .before .before .loop .inv in (
+      run-stop (unitsFrom (a .args .text .now) (a .args .start)) (a .args .indices .now) _ _ (l .5)
+          (code-stopped _ _ _ _ _ _ (l .2) (l .3) (l .4) (c .before .before .before .before .if2 .taken) _ (a .pre .1 .0) _ (c .before .before .before .survey-entry .ensures) _ (c .before .r .given .1)),
+      refl,
+    )
 
 refused-requires-2 : tie.Need-refused-requires-2 Inv-loop μ-loop
 refused-requires-2 c κs = search needs
@@ -89,9 +99,11 @@ returns-3 : tie.Need-returns-3 Inv-loop μ-loop
 returns-3 c =
     let a = c .before .before .before .before .before .before .before .before .before .before .before in
     let us = unitsFrom (a .args .text .now) (a .args .start) in
-    let l = c .before .before .before .before .before .loop .inv in
-    refused-outcome (c .refused2 .result) _ _ (c .refused2 .ensures)
-    ∙ run-stop us (a .args .indices .now) _ _ (l .5) (ends-open _ _ _ _ _ (l .2) (l .3) (c .before .before .before .if2 .left) (c .before .if3 .taken))
+    let l = c .before .before .before .before .before .loop .inv in (
+      refused-outcome (c .refused2 .result) _ _ (c .refused2 .ensures)
+          ∙ run-stop us (a .args .indices .now) _ _ (l .5) (ends-open _ _ _ _ _ (l .2) (l .3) (c .before .before .before .if2 .left) (c .before .if3 .taken)),
+      none-rounded _ _ _ (c .refused2 .ensures),
+    )
 
 survey-tail-requires : tie.Need-survey-tail-requires Inv-loop μ-loop
 survey-tail-requires c κs =
@@ -108,7 +120,8 @@ returns-4 c =
     let p = c .before .before .before .before .before in
     let us = unitsFrom (a .args .text .now) (a .args .start) in
     let l = p .loop .inv in
-    c .survey-tail .ensures ∙ run-tail us (a .args .indices .now) _ (a .pre .1 .0) _ _ (p .loop .c) _ (l .2) (l .3) (l .4) (c .before .before .before .if2 .left) (c .before .if3 .left) (l .5)
+    let e = rounding-end _ _ _ (l .6) (c .before .before .before .if2 .left) in
+    (c .survey-tail .ensures .0 ∙ run-tail us (a .args .indices .now) _ (a .pre .1 .0) _ _ (p .loop .c) _ (l .2) (l .3) (l .4) (c .before .before .before .if2 .left) (c .before .if3 .left) (l .5), rw e at (c .survey-tail .ensures .1))
 
 pub survey-run-spec : {M : Type 1} → statement M
 survey-run-spec =
@@ -123,6 +136,7 @@ survey-run-spec =
     loop-holds
     survey-entry-requires
     enum-known-next
+    add-sum
     loop-less
     loop-again
     enum-known-r

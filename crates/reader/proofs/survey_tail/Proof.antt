@@ -1,6 +1,7 @@
 use mathlib.Core.Path.{_∙_}
 use borrow.Author.Needs.{needs}
 use Rattle.reader.proofs.Endings.{tail-plain, tail-pair}
+use Rattle.reader.proofs.Rounding.{none-rounded}
 use Rattle.reader.proofs.survey_tail.Statement.{statement}
 use Rattle.reader.proofs.survey_tail.Tie as tie
 
@@ -31,12 +32,12 @@ refused-requires c κs = search needs
 returns : tie.Need-returns
 returns c =
     let a = c .before .before .before .before .before .before .before .before in
-    c .limit .ensures ∙ tail-plain (a .args .text .now) _ (a .args .c) _ (c .before .before .before .before .before .before .find-pair .ensures) (c .before .before .before .before .enum-told .given .1) (a .pre .1 .0)
+    (c .limit .ensures .0 ∙ tail-plain (a .args .text .now) _ (a .args .c) _ (c .before .before .before .before .before .before .find-pair .ensures) (c .before .before .before .before .enum-told .given .1) (a .pre .1 .0), c .limit .ensures .1)
 
 returns-2 : tie.Need-returns-2
 returns-2 c =
     let a = c .before .before .before .before .before .before in
-    tail-pair (a .args .text .now) _ (a .args .c) _ _ _ (c .before .before .before .before .find-pair .ensures) (c .before .before .unit .given .1) (c .refused .ensures)
+    (tail-pair (a .args .text .now) _ (a .args .c) _ _ _ (c .before .before .before .before .find-pair .ensures) (c .before .before .unit .given .1) (c .refused .ensures), none-rounded _ _ _ (c .refused .ensures))
 
 pub survey-tail-spec : {M : Type 1} → statement M
 survey-tail-spec =
