@@ -51,7 +51,7 @@ def counted(label):
 def theorem(labels, specs):
     """specs/Labels.antt with these rows, and the counts of their rounded fields, in place of its own."""
     text = open(os.path.join(specs, 'Labels.antt'), encoding='utf-8').read()
-    head = text[:text.index('-- ── document 01, labels 1 to 11 ──')]
+    head = text[:text.index('-- ── document 01, labels 1 to 11 ──')].replace('use lib.IntN.{pos}', 'use lib.IntN.{pos, negsuc}')
     kind = text[text.index('-- a label and the count that is returned for it'):text.index('-- a row for each way to count')]
     end = text[text.index('-- each row\'s label is answered as the row says'):text.index('-- "From `{}flow`')]
     rows = 'unfoldable pub documentRows : List LabelRow\ndocumentRows =\n' + '\n'.join(map(row, labels)) + '\n    []\n\n'
