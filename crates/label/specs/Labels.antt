@@ -146,8 +146,11 @@ counts t i n = record { text = t; indices = i; count = n }
 -- a row for each way to count
 unfoldable pub roundedRows : List RoundedRow
 roundedRows =
-    -- "whether its exact value was a whole count of thousandths": `.0005` is not, `1.0000` and `0e-99` are, `1e-4` is not, though it reads as 0
+    -- "whether its exact value was a whole count of thousandths": `.0005` and `.0006` are not, `.001`, `1.0000` and `0e-99` are,
+    -- `1e-4` is not, though it reads as 0
     counts (ascii "A") (ascii "5,.0005") 1 ∷
+    counts (ascii "A") (ascii "5,.0006") 1 ∷
+    counts (ascii "A") (ascii "5,.001") 0 ∷
     counts (ascii "A") (ascii "5,1.0000") 0 ∷
     counts (ascii "A") (ascii "5,0e-99") 0 ∷
     counts (ascii "A") (ascii "5,1e-4") 1 ∷
@@ -173,6 +176,11 @@ labels = refl
 pub rounded-labels : map (λ (r : RoundedRow). beside (rounded (r .indices)) (read (r .text) (r .indices))) roundedRows ≡ map (λ (r : RoundedRow). r .count) roundedRows
 unfolding roundedRows isWhole isExact roundedField roundedEntry roundedEntries rounded ascii split cut allDigits valueFrom lead trail starts scalar xmlChar unitsOf decode textUnits unsigned isDecimals isNumber mantissaDigits fractionDigits exponentDigits nearest scaled thousandths numberFits isIndexPart indexDigits mapUnits mapGlyphs isAdvance isOffset wellFormed fieldFits indexOf advanceOf offsetOf entryOf entry entries tail placed step walk runFrom read
 rounded-labels = refl
+
+-- "no part of the run, so two clients' runs compare as before": these two, with the counts 1 and 0, are one run
+pub same-run : read (ascii "A") (ascii "5,.0006") ≡ read (ascii "A") (ascii "5,.001")
+unfolding ascii split cut allDigits valueFrom lead trail starts scalar xmlChar unitsOf decode textUnits unsigned isDecimals isNumber mantissaDigits fractionDigits exponentDigits nearest scaled thousandths numberFits isIndexPart indexDigits mapUnits mapGlyphs isAdvance isOffset wellFormed fieldFits indexOf advanceOf offsetOf entryOf entry entries tail placed step walk runFrom read
+same-run = refl
 
 -- "From `{}flow` and `(2:1)192;07,+55.50,,0` it prints:"
 pub relabelled : relabel (ascii "{}flow\n(2:1)192;07,+55.50,,0\n") ≡ ascii "ok 4 3 3\nflow\n(2)192;7,55.5\n"
