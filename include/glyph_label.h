@@ -71,9 +71,9 @@
 extern "C" {
 #endif
 
-/* What was read: counts of code units, clusters and glyphs, at most 4,096 each. `rounded` tells how often the label is
- * finer than thousandths: it counts the advances and offsets given in it, at most 12,288, whose exact value is no whole
- * number of thousandths. It is no part of the run. */
+/* What was read: counts of code units, clusters and glyphs, at most 4,096 each. `rounded` counts the advances and
+ * offsets given in the label whose exact value is no whole number of thousandths, at most 12,288. It is no part of the
+ * run: labels with equal runs may differ in it, and a normal writing has 0. */
 typedef struct {
     uint32_t number, place, units, clusters, glyphs, rounded;
 } glyph_label_reading;

@@ -513,15 +513,19 @@ static const rounded_row rounded_rows[] = {
 };
 
 static void test_rounded(void) {
+    check(sizeof(glyph_label_reading) == 24, "the size of a reading");
     for (size_t k = 0; k < sizeof rounded_rows / sizeof rounded_rows[0]; k++) {
         const rounded_row *w = &rounded_rows[k];
         size_t tn = strlen(w->text), in = strlen(w->indices);
         uint8_t *t = new_input(w->text, tn), *i = new_input(w->indices, in);
         glyph_label_reading a = read_into(w->indices, t, tn, i, in, 64, 64, 64, NULL);
         check(a.number == w->number && a.rounded == w->rounded, "%s: %u, %u rounded", w->indices, a.number, a.rounded);
-        read_into(w->indices, t, tn, i, in, 2 * tn - (tn != 0), 64, 64, NULL);
-        read_into(w->indices, t, tn, i, in, 64, 7, 64, NULL);
-        read_into(w->indices, t, tn, i, in, 64, 64, 15, NULL);
+        if (w->number == 0) {
+            if (tn != 0)
+                check(read_into(w->indices, t, tn, i, in, 2 * tn - 1, 64, 64, NULL).number == 16, "%s: 16", w->indices);
+            check(read_into(w->indices, t, tn, i, in, 64, 7, 64, NULL).number == 17, "%s: 17", w->indices);
+            check(read_into(w->indices, t, tn, i, in, 64, 64, 15, NULL).number == 18, "%s: 18", w->indices);
+        }
         free(t);
         free(i);
     }

@@ -45,7 +45,7 @@ def row(label):
 
 
 def counted(label):
-    return f"    counts {bytes_of(label['text'])} {bytes_of(label['indices'])} {label['rounded']} ∷"
+    return f"    countRow {bytes_of(label['text'])} {bytes_of(label['indices'])} {label['rounded']} ∷"
 
 
 def theorem(labels, specs):

@@ -213,9 +213,13 @@ def rounding_edges():
         yield b'', b';'.join([b'5,.0001,.0001,-.0001'] * count)                 # no label has more rounded fields
         yield b'A' * count, b';'.join([b',.0005'] * 4096)
 
-def label_edges(rounding=True):
-    for part in (slips, text_edges, entry_edges, number_edges, count_edges, size_edges) + ((rounding_edges,) if rounding else ()):
+def base_edges():
+    for part in (slips, text_edges, entry_edges, number_edges, count_edges, size_edges):
         yield from part()
+
+def label_edges():
+    yield from base_edges()
+    yield from rounding_edges()
 
 def line_edges():
     """Labels whose lines are at and above the limits of the programs."""

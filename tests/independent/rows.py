@@ -2,7 +2,8 @@
 
     rows.py [--seed N] [--count N]
 
-About a third of the rows are accepted; the others share the refusals that labels below 60 bytes can reach.
+About a third of the rows are accepted, as many with no rounded field as with one and with more; the others share the
+refusals that labels below 60 bytes can reach.
 """
 
 import argparse
@@ -31,7 +32,8 @@ def rows(seed, count):
     rng = Random(seed)
     share = {number: max(1, 2 * count // (3 * len(REACHED))) for number in REACHED}
     share[6] = min(share[6], 2)                             # `` and `{}` are all there are
-    share['ok'] = max(0, count - sum(share.values()))
+    accepted = max(0, count - sum(share.values()))
+    share.update({('ok', rounded): (accepted + rounded) // 3 for rounded in range(3)})
     fixed = [label for label in edges.label_edges() if sum(map(len, label)) < BYTES]
     rng.shuffle(fixed)
     draw = generate.chooser(rng, {kind: made for kind, made in generate.LABEL_KINDS.items() if kind != 'large'})
@@ -40,7 +42,7 @@ def rows(seed, count):
         if len(seen) == count:
             return
         answer = labels.read(*label)
-        outcome = answer[1] if answer[0] == 'no' else 'ok'
+        outcome = answer[1] if answer[0] == 'no' else ('ok', min(labels.rounded(indices=label[1], answer=answer), 2))
         if sum(map(len, label)) < BYTES and label not in seen and share[outcome]:
             seen.add(label)
             share[outcome] -= 1

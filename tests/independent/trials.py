@@ -44,8 +44,8 @@ def on_lines(label):
 def all_labels():
     rng = Random(20)
     found = PAPER + STANDARD + LIMITS + [label for pair in EQUAL for label in pair] + [case[:2] for case in edges.slips()]
-    # the count of rounded fields isn't printed: none of its edges
-    found += rng.sample([case[:2] for case in edges.label_edges(rounding=False) if len(case[0]) + len(case[1]) < 300], 300)
+    # of the edges those of the base, so that the kept labels stay
+    found += rng.sample([case[:2] for case in edges.base_edges() if len(case[0]) + len(case[1]) < 300], 300)
     for make in (generate.valid_label, generate.damaged_label, generate.mixed_label, generate.number_label, generate.utf8_label):
         found += [make(rng)[:2] for _ in range(40)]
     return list(dict.fromkeys(label for label in found if on_lines(label)))

@@ -1,4 +1,4 @@
--- Laws of rounding, of powers of ten and of the limit. Assumes nothing.
+-- Laws of rounding, of exactness, of powers of ten and of the limit. Assumes nothing.
 use mathlib.Core.Path.{_≡_, refl, ap, _∙_}
 use mathlib.Core.Bool.{Bool, true, false, cond, not}
 use Prim.Native.Nat.{ℕ, suc, zero, _+_, _-_, _*_, _/_, _%_, _^_, _≤_, _<_}

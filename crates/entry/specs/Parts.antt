@@ -165,7 +165,7 @@ abbrev pub offsetBy : Bool → Thousandths → ℤ
 offsetBy s (Of v x) = signedBy s v
 offsetBy s Over = pos 0
 
--- 1 where the exact value was another one
+-- 1 where the exact value is another one, else 0
 abbrev pub roundedBy : Thousandths → ℕ
 roundedBy (Of v x) = cond x 0 1
 roundedBy Over = 0

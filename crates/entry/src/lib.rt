@@ -10,6 +10,7 @@ ghost use Rattle.label.specs.Bytes.{isDigit};
 ghost use Rattle.label.specs.Entry.{isE, nearest, scaled};
 ghost use Rattle.label.specs.Rounded.{isWhole};
 ghost use Rattle.entry.specs.declared.EntryRead.the-variants.{Refused};
+ghost use Rattle.entry.specs.declared.Thousandths.the-variants.{Of};
 ghost use Rattle.entry.specs.Items.{cap, isSemi, entryHere, indexItem, IsIndex};
 ghost use Rattle.entry.specs.Digits.{headOf, ends, isBreak, pushed, digitsFrom};
 ghost use Rattle.entry.specs.Numbers.{sized, within, mantissaOf, cutMantissa, signLength, exponentOf, cutExponent, numberOf};
@@ -123,8 +124,15 @@ pub fn digits_at(s: &[u8], at: usize, start: u64) -> Digits
 
 // Whole thousandths, where they are within the limit, and whether the exact value is this one.
 enum Thousandths {
-    Of { size: u32, exact: bool },
+    Of { count: u32, exact: bool },
     Over,
+}
+
+// The value 0, exact or rounded to it.
+fn zero(exact: bool) -> Thousandths
+    ensures { λ r. ⌜ r ≡ Of 0 exact ⌝ }
+{
+    Thousandths::Of { count: 0, exact }
 }
 
 // 10^k
@@ -160,7 +168,7 @@ fn limited(v: u64, exact: bool) -> Thousandths
 {
     if v <= Limits::THOUSANDTHS {
         Thousandths::Of {
-            size: v as u32,
+            count: v as u32,
             exact,
         }
     } else {
@@ -173,10 +181,7 @@ fn grown(m: u64, k: usize) -> Thousandths
     ensures { λ r. ⌜ r ≡ sized (m * 10 ^ k) true ⌝ }
 {
     if m == 0 {
-        return Thousandths::Of {
-            size: 0,
-            exact: true,
-        };
+        return zero(true);
     }
     if 9 < k {
         return Thousandths::Over;
@@ -193,10 +198,7 @@ fn shrunk(m: u64, k: usize) -> Thousandths
     ensures { λ r. ⌜ r ≡ sized (nearest m (10 ^ k)) (eqb (m % 10 ^ k) 0) ⌝ }
 {
     if 18 < k {
-        return Thousandths::Of {
-            size: 0,
-            exact: m == 0,
-        };
+        return zero(m == 0);
     }
     let d = power(k);
     let q = m / d;
@@ -499,13 +501,12 @@ struct Field {
 fn not_given(n: usize) -> Field
     ensures { λ r. ⌜ r ≡ notGiven n ⌝ }
 {
-    let exact = true;
     Field {
         ok: true,
         used: n,
         given: false,
         negative: false,
-        size: Thousandths::Of { size: 0, exact },
+        size: zero(true),
     }
 }
 
@@ -537,18 +538,18 @@ fn is_within(z: Thousandths) -> bool
     ensures { λ r. ⌜ r ≡ within z ⌝ }
 {
     match z {
-        Thousandths::Of { size: _, exact: _ } => true,
+        Thousandths::Of { .. } => true,
         Thousandths::Over => false,
     }
 }
 
-// 1 where the exact value was another one.
+// 1 where the exact value is another one, else 0.
 fn rounded_of(z: Thousandths) -> usize
     ensures { λ r. ⌜ r ≡ roundedBy z ⌝ }
     ensures bounds { λ r. ⌜ r ≤ 1 ⌝ }
 {
     match z {
-        Thousandths::Of { size: _, exact } => unless(exact, 1),
+        Thousandths::Of { exact, .. } => unless(exact, 1),
         Thousandths::Over => 0,
     }
 }
@@ -571,7 +572,7 @@ fn advance_of(given: bool, z: Thousandths) -> Advance
 {
     if given {
         match z {
-            Thousandths::Of { size, exact: _ } => Advance::Given(size),
+            Thousandths::Of { count, .. } => Advance::Given(count),
             Thousandths::Over => Advance::Own,
         }
     } else {
@@ -592,7 +593,7 @@ fn offset_of(negative: bool, z: Thousandths) -> i32
     ensures { λ r. ⌜ r ≡ offsetBy negative z ⌝ }
 {
     match z {
-        Thousandths::Of { size, exact: _ } => signed_of(negative, size),
+        Thousandths::Of { count, .. } => signed_of(negative, count),
         Thousandths::Over => 0,
     }
 }

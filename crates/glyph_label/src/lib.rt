@@ -19,8 +19,8 @@ ghost use Rattle.glyph_label.specs.Tasks.{unitPlaces, clusterPlaces, gly
 
 // ── answers ──
 
-// What was read: how many units, clusters and glyphs, and how many given fields were rounded. In each answer `number` is 0, or a refusal's number, and then `place` is its place and
-// all else 0.
+// What was read: how many units, clusters and glyphs, and how many given fields were rounded. In each answer `number` is 0, or a refusal's number, and
+// then `place` is its place and all else 0.
 #[repr(C)]
 pub struct GlyphLabelReading {
     pub number: u32,
@@ -62,12 +62,12 @@ fn reading_answer(r: label::Reading) -> GlyphLabelReading
     ensures { λ a. ⌜ a ≡ readingAnswer (readingOutcome r) (readingRounded r) ⌝ }
 {
     match r {
-        label::Reading::Read { counts: n, rounded } => GlyphLabelReading {
+        label::Reading::Read { counts, rounded } => GlyphLabelReading {
             number: 0,
             place: 0,
-            units: n.units as u32,
-            clusters: n.clusters as u32,
-            glyphs: n.glyphs as u32,
+            units: counts.units as u32,
+            clusters: counts.clusters as u32,
+            glyphs: counts.glyphs as u32,
             rounded: rounded as u32,
         },
         label::Reading::Refused(x) => GlyphLabelReading {
@@ -476,18 +476,18 @@ fn read_bytes(
     ensures { λ _. ⌜ ReadBytes (readBytes (length (now (units .entry))) (length (now (clusters .entry))) (length (now (glyphs .entry))) (now (text .entry)) (now (indices .entry))) (now (units .entry)) (now (clusters .entry)) (now (glyphs .entry)) (now (units .exit)) (now (clusters .exit)) (now (glyphs .exit)) ⌝ }
 {
     match reader::survey(text, indices) {
-        label::Reading::Read { counts: n, rounded } => {
-            if units.len() / 2 < n.units {
-                return refused(16, n.units);
+        label::Reading::Read { counts, rounded } => {
+            if units.len() / 2 < counts.units {
+                return refused(16, counts.units);
             }
-            if clusters.len() / 4 < 2 * n.clusters {
-                return refused(17, n.clusters);
+            if clusters.len() / 4 < 2 * counts.clusters {
+                return refused(17, counts.clusters);
             }
-            if glyphs.len() / 4 < 4 * n.glyphs {
-                return refused(18, n.glyphs);
+            if glyphs.len() / 4 < 4 * counts.glyphs {
+                return refused(18, counts.glyphs);
             }
-            fill_bytes(text, indices, n, units, clusters, glyphs);
-            label::Reading::Read { counts: n, rounded }
+            fill_bytes(text, indices, counts, units, clusters, glyphs);
+            label::Reading::Read { counts, rounded }
         }
         label::Reading::Refused(r) => label::Reading::Refused(r),
     }

@@ -1,5 +1,5 @@
--- The count of rounded fields: at most three an entry; a field counts exactly where the value that it reads as is not its exact value; and a normal
--- writing has none.
+-- The count of rounded fields: at most three an entry; a number is exact exactly where the value that it reads as is its exact value; and a normal writing
+-- has no rounded field.
 -- Assumes nothing.
 use Prim.Native.Nat.{ℕ, suc, _+_, _*_, _%_, _/_, _^_, _≤_, _<_}
 use native.Mathlib.Omega.{arith}
@@ -10,6 +10,7 @@ use mathlib.Core.List.{List, [], _∷_}
 use borrow.Author.Tests.{eq-eqb, ne-eqb, eqb-true, eqb-false, leb-true}
 use lib.Dec.{eqb, lit<}
 use lib.ListN.{length}
+use Rattle.label.specs.Limits.{maxGlyphs}
 use Rattle.label.specs.Outcome.{Outcome, ok, no}
 use Rattle.label.specs.Bytes.{empty, trim}
 use Rattle.label.specs.Entry.{unsigned, nearest, scaled, part, entries}
@@ -50,6 +51,7 @@ unfolding entries
 entries-length [] = omega arith
 entries-length (b ∷ s) = split-length 59 (b ∷ s)
 
+-- of any indices
 pub rounded-few : (s : List ℕ) → rounded s ≤ 3 * suc (length s)
 unfolding rounded
 rounded-few s = omega (arith, entries-few (entries s), entries-length s)
@@ -70,7 +72,8 @@ walk-glyphs (s ∷ ss) bare st p h =
     go true c g q r = omega arith
     go false c g q r = omega arith
 
-pub rounded-most : (text indices : List ℕ) (r : Run) → read text indices ≡ ok r → rounded indices ≤ 12288
+-- of an accepted label: three for each of its glyphs
+pub rounded-most : (text indices : List ℕ) (r : Run) → read text indices ≡ ok r → rounded indices ≤ 3 * maxGlyphs
 unfolding rounded
 rounded-most text indices r h =
     let w : WasRead text indices r = read-ok text indices r h in
@@ -91,7 +94,7 @@ whole-nearest a b h =
     t ∙ sym (eq-eqb (nearest a b * b) a (ap (λ (n : ℕ). n * b) (nearest-exact a b (a / b) h e) ∙ sym e)))
     (λ t. t ∙ sym (ne-eqb (nearest a b * b) a (λ e. eqb-false (a % b) 0 t (ap (λ (n : ℕ). n % b) (sym e) ∙ mul-mod-left (nearest a b) b))))
 
--- a number is exact where m × 10^(e − f) × 1000 is the value that it reads as
+-- a number is exact exactly where m × 10^(e − f) × 1000 is the value that it reads as
 pub whole-reads : (m f : ℕ) (down : Bool) (e : ℕ)
     → isWhole m f down e ≡ cond down (eqb (scaled m f down e * 10 ^ (f + e)) (m * 10 ^ 3)) (eqb (scaled m f down e * 10 ^ f) (m * 10 ^ (e + 3)))
 unfolding isWhole scaled

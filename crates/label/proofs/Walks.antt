@@ -312,7 +312,7 @@ entries-joined l h = go (trim l) refl
         let f : allFree 59 (x ∷ xs) ≡ true = rw e at (free-trim 59 l h) in
         rw (e, joined-full 59 l x xs e, join-cons 59 x xs, split-join 59 xs x (and-l (free 59 x) (allFree 59 xs) f) (and-r (free 59 x) (allFree 59 xs) f))
 
--- ── the written entries: no `;` in them, nothing finer than thousandths, and few bytes ──
+-- ── the written entries: what holds of each, no `;` in them, and few bytes ──
 
 -- each of some entries is as asked
 abbrev pub Each : (List ℕ → Type 0) → List (List ℕ) → Type 0

@@ -1,5 +1,5 @@
 -- The calls with their lent buffers: 16 to 18, 20, 21, and 19 and 18 of the list of records; what each buffer holds afterwards; and for every answer enum
--- document 01's number, place and values of each of its cases.
+-- document 01's number, place and values of each of its cases, and document 02's count of rounded fields.
 -- Assumes nothing.
 use Prim.Native.Nat.{ℕ, _*_}
 use mathlib.Core.List.{List, _++_}

@@ -140,31 +140,31 @@ pub record RoundedRow : Type 0 where
   pub count : ℕ
 
 -- the row of a text, indices and a count
-abbrev counts : List ℕ → List ℕ → ℕ → RoundedRow
-counts t i n = record { text = t; indices = i; count = n }
+abbrev countRow : List ℕ → List ℕ → ℕ → RoundedRow
+countRow t i n = record { text = t; indices = i; count = n }
 
 -- a row for each way to count
 unfoldable pub roundedRows : List RoundedRow
 roundedRows =
     -- "whether its exact value was a whole count of thousandths": `.0005` and `.0006` are not, `.001`, `1.0000` and `0e-99` are,
-    -- `1e-4` is not, though it reads as 0
-    counts (ascii "A") (ascii "5,.0005") 1 ∷
-    counts (ascii "A") (ascii "5,.0006") 1 ∷
-    counts (ascii "A") (ascii "5,.001") 0 ∷
-    counts (ascii "A") (ascii "5,1.0000") 0 ∷
-    counts (ascii "A") (ascii "5,0e-99") 0 ∷
-    counts (ascii "A") (ascii "5,1e-4") 1 ∷
-    counts (ascii "A") (ascii "5,,12345e-5,-12345e-2") 1 ∷
+    -- `1e-4` is not, though it reads as 0; `12345e-5` is not, `12345e-2` is
+    countRow (ascii "A") (ascii "5,.0005") 1 ∷
+    countRow (ascii "A") (ascii "5,.0006") 1 ∷
+    countRow (ascii "A") (ascii "5,.001") 0 ∷
+    countRow (ascii "A") (ascii "5,1.0000") 0 ∷
+    countRow (ascii "A") (ascii "5,0e-99") 0 ∷
+    countRow (ascii "A") (ascii "5,1e-4") 1 ∷
+    countRow (ascii "A") (ascii "5,,12345e-5,-12345e-2") 1 ∷
     -- "the count of given fields that were not": three given fields of which two are rounded; the same in a cluster's further glyph
-    counts (ascii "A") (ascii "5,.0005,1.5,-1e-4") 2 ∷
-    counts (ascii "A") (ascii "(1:2)5,1.5;6,.0005,,-1e-4") 2 ∷
+    countRow (ascii "A") (ascii "5,.0005,1.5,-1e-4") 2 ∷
+    countRow (ascii "A") (ascii "(1:2)5,1.5;6,.0005,,-1e-4") 2 ∷
     -- "an offset not given counts as exact": nothing is given; an empty field among given ones; the tail
-    counts (ascii "A") (ascii "5") 0 ∷
-    counts (ascii "A") (ascii "5,,,.0004") 1 ∷
-    counts (ascii "ABC") (ascii ",+.0004,") 1 ∷
+    countRow (ascii "A") (ascii "5") 0 ∷
+    countRow (ascii "A") (ascii "5,,,.0004") 1 ∷
+    countRow (ascii "ABC") (ascii ",+.0004,") 1 ∷
     -- "a refusal as 0": 9 in the same entry, 12 in a later one
-    counts (ascii "A") (ascii "5,.0005,1e7") 0 ∷
-    counts (ascii "A") (ascii "5,.0005;6") 0 ∷
+    countRow (ascii "A") (ascii "5,.0005,1e7") 0 ∷
+    countRow (ascii "A") (ascii "5,.0005;6") 0 ∷
     []
 
 -- each row's label is answered as the row says

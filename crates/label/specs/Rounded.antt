@@ -9,11 +9,11 @@ use Rattle.label.specs.Outcome.{Outcome, ok, no}
 use Rattle.label.specs.Bytes.{empty, value}
 use Rattle.label.specs.Entry.{minus, unsigned, atExponent, mantissaDigits, fractionDigits, exponentDigits, part, entries}
 
--- "whether its exact value was a whole count of thousandths": m × 10^(e − f) × 1000 leaves no remainder; `down` where e is negative
+-- m × 10^(e − f) × 1000 is a whole number: the ratio that `scaled` rounds leaves no remainder; `down` where e is negative
 unfoldable pub isWhole : ℕ → ℕ → Bool → ℕ → Bool
 isWhole m f down e = cond down (eqb (m * 10 ^ 3 % 10 ^ (f + e)) 0) (eqb (m * 10 ^ (e + 3) % 10 ^ f) 0)
 
--- the same of an unsigned number
+-- "Reading a number now says whether its exact value was a whole count of thousandths": of an unsigned number, as the sign changes nothing
 unfoldable pub isExact : List ℕ → Bool
 isExact s = isWhole (value (mantissaDigits s)) (length (fractionDigits s)) (minus (atExponent s .after)) (value (exponentDigits s))
 
@@ -21,16 +21,16 @@ isExact s = isWhole (value (mantissaDigits s)) (length (fractionDigits s)) (minu
 unfoldable pub roundedField : List ℕ → ℕ
 roundedField s = cond (empty s || isExact (unsigned s)) 0 1
 
--- an entry's advance and its two offsets
+-- the fields of an entry, document 01's "advance, u offset, v offset"
 unfoldable pub roundedEntry : List ℕ → ℕ
 roundedEntry s = roundedField (part 1 s) + roundedField (part 2 s) + roundedField (part 3 s)
 
--- all of some entries
+-- "The count is defined from the entries": the sum over some of them
 unfoldable pub roundedEntries : List (List ℕ) → ℕ
 roundedEntries [] = 0
 roundedEntries (s ∷ ss) = roundedEntry s + roundedEntries ss
 
--- "The count is defined from the entries"
+-- "the count" of a label, from its indices alone: "no part of the run"
 unfoldable pub rounded : List ℕ → ℕ
 rounded indices = roundedEntries (entries indices)
 

@@ -129,14 +129,14 @@ pub struct Refusal {
     pub place: usize,
 }
 
-// How many of each a run has.
+// How many units, clusters and glyphs a run has.
 pub struct Counts {
     pub units: usize,
     pub clusters: usize,
     pub glyphs: usize,
 }
 
-// What the reader found in an accepted label: its run's counts, and beside them how many given fields were not whole thousandths.
+// What the reader says of a label: its run's counts, and beside them how many given fields were not whole thousandths; or the refusal.
 pub enum Reading {
     Read { counts: Counts, rounded: usize },
     Refused(Refusal),

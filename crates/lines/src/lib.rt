@@ -117,10 +117,9 @@ fn relabel_in(
 {
     match reader::read(text, indices, units, clusters, glyphs) {
         Reading::Refused(x) => Relabelling::No(x),
-        Reading::Read {
-            counts: n,
-            rounded: _,
-        } => { write_places(n, units, clusters, glyphs, first, second) }
+        Reading::Read { counts, .. } => {
+            write_places(counts, units, clusters, glyphs, first, second)
+        }
     }
 }
 

@@ -24,7 +24,6 @@ use Rattle.label.proofs.Walks.{ok-path, Walked, walk-ok, step-ok}
 use Rattle.label.proofs.Cursors.{joined, after, added}
 use Rattle.entry.specs.Items.{cap, here}
 use Rattle.entry.specs.declared.Item.{Item}
-use Rattle.entry.specs.declared.EntryRead.{EntryRead}
 use Rattle.entry.specs.declared.EntryRead.the-variants.{Read, Refused}
 use Rattle.reader.specs.Steps.{itemEntry, advanced, entryAt, takenBy, openedHere, clusterPlaces, glyphPlaces, Storable, tailParts}
 use Rattle.reader.proofs.Entries.{empty-eqb, leftFrom, left-is, left-few}

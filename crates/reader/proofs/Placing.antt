@@ -10,7 +10,7 @@ use lib.Dec.{eqb, leb, leb·zero}
 use lib.ListN.{length, drop}
 use Rattle.label.specs.Outcome.{Outcome, ok, no, need, _>>_}
 use Rattle.label.specs.Text.{decode}
-use Rattle.label.specs.Entry.{Entry, entry}
+use Rattle.label.specs.Entry.{Entry}
 use Rattle.label.specs.Run.{State, named, placed, whole}
 use Rattle.label.specs.Calls.{refusal}
 use Rattle.label.specs.declared.Cursor.{Cursor}

@@ -1,6 +1,6 @@
 -- How many fields were rounded: so far, and in all.
 -- Assumes nothing.
-use Prim.Native.Nat.{ℕ, _+_, _*_, _≤_, _<_}
+use Prim.Native.Nat.{ℕ, _+_, _≤_, _<_}
 use native.Mathlib.Omega.{arith}
 use native.Mathlib.Nat.{zero-add, add-zero, add-assoc}
 use mathlib.Core.Path.{_≡_, refl, sym, _∙_, ap}
@@ -32,7 +32,7 @@ rounding-start s b c e =
     ∙ ap (λ (d : Cursor). roundedEntries (leftFrom s (d .place))) e
     ∙ ap roundedEntries (sym (left-all s))
 
--- no sum passes what an accepted label can have
+-- the sum stays small: at most three an entry, and no more entries than bytes and one
 pub rounding-few : (s : List ℕ) (place n : ℕ) → Rounding s place n → length s ≤ 262144 → n ≤ 786435
 unfolding Rounding
 rounding-few s place n r h = omega (arith, r, rounded-few s)
@@ -55,7 +55,7 @@ rounding-end s place n r hi = sym (add-zero n) ∙ sym (ap (λ (ss : List (List 
 
 -- ── the answer ──
 
--- a refusal has no count
+-- a refusal's count is 0
 pub none-rounded : (r : Reading) (x : Refusal) (n : ℕ) → r ≡ Refused x → readingRounded r ≡ beside n (readingOutcome r)
 none-rounded r x n e = rw e
 

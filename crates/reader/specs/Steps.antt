@@ -91,7 +91,7 @@ Stops bare text c r (Refused q) = q ≡ r
 
 -- what 7 to 13 come to for the entry at a cursor's place
 unfoldable pub Steps : Bool → List ℕ → List ℕ → Cursor → Turn → Type 0
-Steps bare text s c (Took d n) = (x : Item) × (entryAt s c ≡ Read x) × Turns bare text c x (Took d n) × (n ≡ x .rounded)
+Steps bare text s c (Took d n) = (x : Item) × (entryAt s c ≡ Read x) × Turns bare text c x (Took d n) × Carries (x .rounded) (Took d n)
 Steps bare text s c (Stopped r) = (o : EntryRead) × (entryAt s c ≡ o) × Stops bare text c r o
 
 -- ── the tail ──

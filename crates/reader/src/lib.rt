@@ -85,7 +85,7 @@ fn advance(
     }
 }
 
-// An entry that opens a cluster of `units` units, and has `rounded` fields that were: 12 and 13.
+// An entry that opens a cluster of `units` units: 12 and 13. The count of its rounded fields goes along.
 fn open_cluster(
     text: &[u8],
     c: label::Cursor,
@@ -202,7 +202,7 @@ fn find_pair(text: &[u8], byte: usize, unit: usize) -> Tail
     Tail::Plain
 }
 
-// The counts, or 15.
+// The counts, of rounded fields too, or 15.
 fn limit(units: usize, clusters: usize, glyphs: usize, rounded: usize) -> label::Reading
     ensures { λ r. ⌜ readingOutcome r ≡ limited units clusters glyphs ⌝ }
     ensures rounded { λ r. ⌜ readingRounded r ≡ beside rounded (readingOutcome r) ⌝ }
@@ -220,7 +220,7 @@ fn limit(units: usize, clusters: usize, glyphs: usize, rounded: usize) -> label:
     }
 }
 
-// The tail behind the entries, of a text of `count` units: 13 and 15. It has no field that could be rounded.
+// The tail behind the entries, of a text of `count` units: 13 and 15. It gives no fields, so the count of rounded ones is that of the entries.
 fn survey_tail(text: &[u8], count: usize, c: label::Cursor, rounded: usize) -> label::Reading
     requires { ⌜ decode 0 (c .byte) (drop (c .byte) (now text)) ≡ ok (unitsFrom (now text) (c .byte)) ⌝ }
     requires bounds { ⌜ (c .unit + length (unitsFrom (now text) (c .byte)) ≡ count) × (count ≤ maxUnits) × (c .entry ≤ maxIndicesBytes + 1) × (c .clusters ≤ c .entry) ⌝ }
@@ -265,12 +265,12 @@ fn survey_run(text: &[u8], indices: &[u8], count: usize, start: usize) -> label:
         return refused(6, 0);
     }
     let mut c = first_cursor(indices, start);
-    let mut sum = 0;
+    let mut rounded_sum = 0;
     while c.place <= indices.len() {
         match survey_entry(text, indices, bare, c) {
             Turn::Took { next, rounded } => {
                 c = next;
-                sum += rounded;
+                rounded_sum += rounded;
             }
             Turn::Stopped(r) => {
                 return label::Reading::Refused(r);
@@ -280,10 +280,10 @@ fn survey_run(text: &[u8], indices: &[u8], count: usize, start: usize) -> label:
     if c.lack != 0 {
         return refused(14, c.opener);
     }
-    survey_tail(text, count, c, sum)
+    survey_tail(text, count, c, rounded_sum)
 }
 
-// All of 1 to 15 in order, and the counts; nothing is stored.
+// All of 1 to 15 in order, and the counts, of rounded fields too; nothing is stored.
 pub fn survey(text: &[u8], indices: &[u8]) -> label::Reading
     ensures { λ r. ⌜ readingOutcome r ≡ counted (readLabel (now (text .entry)) (now (indices .entry))) ⌝ }
     ensures rounded { λ r. ⌜ readingRounded r ≡ beside (roundedIn (now (indices .entry))) (readLabel (now (text .entry)) (now (indices .entry))) ⌝ }
@@ -476,18 +476,18 @@ pub fn read(
     ensures glyphs { λ _. ⌜ now (glyphs .exit) ≡ glyphsAfter (readInto (length (now (units .entry))) (length (now (clusters .entry))) (length (now (glyphs .entry))) (now (text .entry)) (now (indices .entry))) (now (glyphs .entry)) ⌝ }
 {
     match survey(text, indices) {
-        label::Reading::Read { counts: n, rounded } => {
-            if units.len() < n.units {
-                return refused(16, n.units);
+        label::Reading::Read { counts, rounded } => {
+            if units.len() < counts.units {
+                return refused(16, counts.units);
             }
-            if clusters.len() < 2 * n.clusters {
-                return refused(17, n.clusters);
+            if clusters.len() < 2 * counts.clusters {
+                return refused(17, counts.clusters);
             }
-            if glyphs.len() < 4 * n.glyphs {
-                return refused(18, n.glyphs);
+            if glyphs.len() < 4 * counts.glyphs {
+                return refused(18, counts.glyphs);
             }
-            fill(text, indices, n, units, clusters, glyphs);
-            label::Reading::Read { counts: n, rounded }
+            fill(text, indices, counts, units, clusters, glyphs);
+            label::Reading::Read { counts, rounded }
         }
         label::Reading::Refused(r) => label::Reading::Refused(r),
     }

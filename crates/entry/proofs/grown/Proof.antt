@@ -7,8 +7,11 @@ use Rattle.entry.proofs.ValueLaws.{sized-over, grow-over, grow-large, g
 use Rattle.entry.proofs.grown.Statement.{statement}
 use Rattle.entry.proofs.grown.Tie as tie
 
+zero-requires : tie.Need-zero-requires
+zero-requires c κs = search needs
+
 returns : tie.Need-returns
-returns c = rw (c .if1 .taken, zero-mul)
+returns c = rw (c .zero .ensures, c .before .if1 .taken, zero-mul)
 
 returns-2 : tie.Need-returns-2
 returns-2 c = sym (sized-over _ _ (grow-over _ _ (omega arith) (c .if2 .taken)))
@@ -31,4 +34,4 @@ returns-4 c = cc
 pub grown-spec : {M : Type 1} → statement M
 grown-spec =
     tie.close
-    (tie.spec returns returns-2 returns-3 power-requires mul-limited limited-requires returns-4)
+    (tie.spec zero-requires returns returns-2 returns-3 power-requires mul-limited limited-requires returns-4)

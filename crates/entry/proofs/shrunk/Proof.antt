@@ -6,8 +6,11 @@ use Rattle.entry.proofs.ValueLaws.{shrink-none, none-whole, round-up, r
 use Rattle.entry.proofs.shrunk.Statement.{statement}
 use Rattle.entry.proofs.shrunk.Tie as tie
 
+zero-requires : tie.Need-zero-requires
+zero-requires c κs = search needs
+
 returns : tie.Need-returns
-returns c = rw (shrink-none _ _ (c .before .pre) (c .if1 .taken), none-whole _ _ (c .before .pre) (c .if1 .taken))
+returns c = rw (c .zero .ensures, shrink-none _ _ (c .before .before .pre) (c .before .if1 .taken), none-whole _ _ (c .before .before .pre) (c .before .if1 .taken))
 
 power-requires : tie.Need-power-requires
 power-requires c κs = search needs
@@ -40,6 +43,7 @@ pub shrunk-spec : {M : Type 1} → statement M
 shrunk-spec =
     tie.close
     (tie.spec
+    zero-requires
     returns
     power-requires
     div-q

@@ -8,8 +8,8 @@ use Rattle.glyph_label.proofs.read_bytes.Tie as tie
 survey-requires : tie.Need-survey-requires
 survey-requires c κs = search needs
 
-enum-known-n : tie.Need-enum-known-n
-enum-known-n c = search needs
+enum-known-counts : tie.Need-enum-known-counts
+enum-known-counts c = search needs
 
 refused-requires : tie.Need-refused-requires
 refused-requires c κs = search needs
@@ -17,12 +17,12 @@ refused-requires c κs = search needs
 returns : tie.Need-returns
 returns c =
     let a = c .before .before .before .before .before .before .before .before .before .before .before .before .args in
-    short-units (a .text .now) (a .indices .now) (a .units .now) (a .clusters .now) (a .glyphs .now) (c .before .before .before .before .before .before .survey .ensures .0) (c .before .before .before .before .n .given .1) (c .refused .ensures) (c .before .if1 .taken)
+    short-units (a .text .now) (a .indices .now) (a .units .now) (a .clusters .now) (a .glyphs .now) (c .before .before .before .before .before .before .survey .ensures .0) (c .before .before .before .before .counts .given .1) (c .refused .ensures) (c .before .if1 .taken)
 
 mul-if2 : tie.Need-mul-if2
 mul-if2 c =
     let a = c .before .before .before .before .before .before .before .before .before .before .before .before .args in
-    omega (arith, counts-few _ _ _ (accepted (a .text .now) (a .indices .now) (a .units .now) (a .clusters .now) (a .glyphs .now) (c .before .before .before .before .before .before .survey .ensures .0) (c .before .before .before .before .n .given .1)))
+    omega (arith, counts-few _ _ _ (accepted (a .text .now) (a .indices .now) (a .units .now) (a .clusters .now) (a .glyphs .now) (c .before .before .before .before .before .before .survey .ensures .0) (c .before .before .before .before .counts .given .1)))
 
 refused-requires-2 : tie.Need-refused-requires-2
 refused-requires-2 c κs = search needs
@@ -30,12 +30,12 @@ refused-requires-2 c κs = search needs
 returns-2 : tie.Need-returns-2
 returns-2 c =
     let a = c .before .before .before .before .before .before .before .before .before .before .before .before .before .before .args in
-    short-clusters (a .text .now) (a .indices .now) (a .units .now) (a .clusters .now) (a .glyphs .now) (c .before .before .before .before .before .before .before .before .survey .ensures .0) (c .before .before .before .before .before .before .n .given .1) (c .before .before .before .if1 .left) (c .refused2 .ensures) (c .before .if2 .taken)
+    short-clusters (a .text .now) (a .indices .now) (a .units .now) (a .clusters .now) (a .glyphs .now) (c .before .before .before .before .before .before .before .before .survey .ensures .0) (c .before .before .before .before .before .before .counts .given .1) (c .before .before .before .if1 .left) (c .refused2 .ensures) (c .before .if2 .taken)
 
 mul-if3 : tie.Need-mul-if3
 mul-if3 c =
     let a = c .before .before .before .before .before .before .before .before .before .before .before .before .before .before .args in
-    omega (arith, counts-few _ _ _ (accepted (a .text .now) (a .indices .now) (a .units .now) (a .clusters .now) (a .glyphs .now) (c .before .before .before .before .before .before .before .before .survey .ensures .0) (c .before .before .before .before .before .before .n .given .1)))
+    omega (arith, counts-few _ _ _ (accepted (a .text .now) (a .indices .now) (a .units .now) (a .clusters .now) (a .glyphs .now) (c .before .before .before .before .before .before .before .before .survey .ensures .0) (c .before .before .before .before .before .before .counts .given .1)))
 
 refused-requires-3 : tie.Need-refused-requires-3
 refused-requires-3 c κs = search needs
@@ -43,12 +43,12 @@ refused-requires-3 c κs = search needs
 returns-3 : tie.Need-returns-3
 returns-3 c =
     let a = c .before .before .before .before .before .before .before .before .before .before .before .before .before .before .before .before .args in
-    short-glyphs (a .text .now) (a .indices .now) (a .units .now) (a .clusters .now) (a .glyphs .now) (c .before .before .before .before .before .before .before .before .before .before .survey .ensures .0) (c .before .before .before .before .before .before .before .before .n .given .1) (c .before .before .before .before .before .if1 .left) (c .before .before .before .if2 .left) (c .refused3 .ensures) (c .before .if3 .taken)
+    short-glyphs (a .text .now) (a .indices .now) (a .units .now) (a .clusters .now) (a .glyphs .now) (c .before .before .before .before .before .before .before .before .before .before .survey .ensures .0) (c .before .before .before .before .before .before .before .before .counts .given .1) (c .before .before .before .before .before .if1 .left) (c .before .before .before .if2 .left) (c .refused3 .ensures) (c .before .if3 .taken)
 
 fill-bytes-requires : tie.Need-fill-bytes-requires
 fill-bytes-requires c κs =
     let a = c .before .before .before .before .before .before .before .before .before .before .before .before .before .before .before .before .before .before .args in
-    roomy (a .text .now) (a .indices .now) (a .units .now) (a .clusters .now) (a .glyphs .now) (c .before .before .before .before .before .before .before .before .before .before .before .before .survey .ensures .0) (c .before .before .before .before .before .before .before .before .before .before .n .given .1) (c .before .before .before .before .before .before .before .if1 .left) (c .before .before .before .before .before .if2 .left) (c .before .before .before .if3 .left)
+    roomy (a .text .now) (a .indices .now) (a .units .now) (a .clusters .now) (a .glyphs .now) (c .before .before .before .before .before .before .before .before .before .before .before .before .survey .ensures .0) (c .before .before .before .before .before .before .before .before .before .before .counts .given .1) (c .before .before .before .before .before .before .before .if1 .left) (c .before .before .before .before .before .if2 .left) (c .before .before .before .if3 .left)
 
 enum-known-r : tie.Need-enum-known-r
 enum-known-r c = search needs
@@ -65,7 +65,7 @@ same-length-3 c = search needs
 returns-4 : tie.Need-returns-4
 returns-4 c =
     let a = c .before .before .before .before .before .before .before .before .before .before .before .before .before .before .before .before .before .before .before .before .before .before .before .before .before .args in
-    reads-all (a .text .now) (a .indices .now) (a .units .now) (a .clusters .now) (a .glyphs .now) (c .before .before .before .before .before .before .before .before .before .before .before .before .before .before .before .before .before .before .before .survey .ensures .0) (c .before .before .before .before .before .before .before .before .before .before .before .before .before .before .before .before .before .n .given .1) (c .before .before .before .before .before .before .before .before .before .before .before .before .before .before .if1 .left) (c .before .before .before .before .before .before .before .before .before .before .before .before .if2 .left) (c .before .before .before .before .before .before .before .before .before .before .if3 .left) (c .before .before .before .before .before .before .before .before .before .before .before .before .before .before .before .before .before .before .before .survey .ensures .1) (c .before .before .before .before .before .before .fill-bytes .ensures)
+    reads-all (a .text .now) (a .indices .now) (a .units .now) (a .clusters .now) (a .glyphs .now) (c .before .before .before .before .before .before .before .before .before .before .before .before .before .before .before .before .before .before .before .survey .ensures .0) (c .before .before .before .before .before .before .before .before .before .before .before .before .before .before .before .before .before .counts .given .1) (c .before .before .before .before .before .before .before .before .before .before .before .before .before .before .if1 .left) (c .before .before .before .before .before .before .before .before .before .before .before .before .if2 .left) (c .before .before .before .before .before .before .before .before .before .before .if3 .left) (c .before .before .before .before .before .before .before .before .before .before .before .before .before .before .before .before .before .before .before .survey .ensures .1) (c .before .before .before .before .before .before .fill-bytes .ensures)
 
 returns-5 : tie.Need-returns-5
 returns-5 c =
@@ -77,7 +77,7 @@ read-bytes-spec =
     tie.close
     (tie.spec
     survey-requires
-    enum-known-n
+    enum-known-counts
     refused-requires
     returns
     mul-if2

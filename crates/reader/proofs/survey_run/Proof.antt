@@ -14,12 +14,12 @@ use Rattle.reader.proofs.survey_run.Statement.{statement}
 use Rattle.reader.proofs.survey_run.Tie as tie
 
 abbrev Inv-loop : tie.InvT-loop
-Inv-loop text indices count start bare c₀ sum₀ c sum =
+Inv-loop text indices count start bare c₀ rounded-sum₀ c rounded-sum =
     (pre : Parts) × (lack : ℕ) × Stands (unitsFrom text start) indices pre lack c × Ready (unitsFrom text start) indices c × At text (unitsFrom text start) c
-    × ((empty (unitsFrom text start) && empty indices) ≡ false) × Rounding indices (c .place) sum
+    × ((empty (unitsFrom text start) && empty indices) ≡ false) × Rounding indices (c .place) rounded-sum
 
 abbrev μ-loop : tie.MeasureT-loop
-μ-loop text indices count start bare c₀ sum₀ c sum = length indices + 1 - c .place
+μ-loop text indices count start bare c₀ rounded-sum₀ c rounded-sum = length indices + 1 - c .place
 
 both-requires : tie.Need-both-requires Inv-loop μ-loop
 both-requires c κs = search needs
@@ -62,8 +62,8 @@ survey-entry-requires c κs =
 enum-known-next : tie.Need-enum-known-next Inv-loop μ-loop
 enum-known-next c = search needs
 
-add-sum : tie.Need-add-sum Inv-loop μ-loop
-add-sum c =
+add-rounded-sum : tie.Need-add-rounded-sum Inv-loop μ-loop
+add-rounded-sum c =
     let l = c .before .before .before .before .before .before .loop .inv in
     let w = code-took _ _ _ _ _ _ (l .2) (l .3) (l .4) (c .before .before .before .before .if2 .taken) _ (c .before .before .before .before .before .before .before .before .before .before .before .before .pre .1 .0) _ (c .before .before .before .survey-entry .ensures) _ _ (c .before .next .given .1) in
     record { fits = omega (arith, rounding-few _ _ _ (rounding-on _ _ _ _ _ _ _ _ (w .1) (c .before .before .before .before .if2 .taken) _ _ (w .3) (l .6)) (l .3 .few-bytes)) }
@@ -136,7 +136,7 @@ survey-run-spec =
     loop-holds
     survey-entry-requires
     enum-known-next
-    add-sum
+    add-rounded-sum
     loop-less
     loop-again
     enum-known-r

@@ -1,0 +1,13 @@
+-- `entry::not_given` meets its contract. Assumes nothing.
+use borrow.Author.Needs.{needs}
+use Rattle.entry.proofs.not_given.Statement.{statement}
+use Rattle.entry.proofs.not_given.Tie as tie
+
+zero-requires : tie.Need-zero-requires
+zero-requires c κs = search needs
+
+returns : tie.Need-returns
+returns c = rw (c .zero .ensures)
+
+pub not-given-spec : {M : Type 1} → statement M
+not-given-spec = tie.close (tie.spec zero-requires returns)
