@@ -1,7 +1,7 @@
 pub mod Entries
 pub mod Placing
 pub mod Walking
-pub mod Rounding
+pub mod Surveying
 pub mod Endings
 pub mod Stores
 pub mod Faults

@@ -2,7 +2,7 @@ use mathlib.Core.Path.{refl, _∙_}
 use borrow.Author.Needs.{needs}
 use Rattle.label.specs.declared.Reading.the-variants.{Refused}
 use Rattle.reader.proofs.Calls.{text-long, indices-long, text-units, read-units, text-refused}
-use Rattle.reader.proofs.Rounding.{none-rounded, beside-run}
+use Rattle.reader.proofs.Surveying.{none-rounded, beside-run}
 use Rattle.reader.proofs.survey.Statement.{statement}
 use Rattle.reader.proofs.survey.Tie as tie
 

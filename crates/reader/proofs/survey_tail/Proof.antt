@@ -1,7 +1,7 @@
 use mathlib.Core.Path.{_∙_}
 use borrow.Author.Needs.{needs}
 use Rattle.reader.proofs.Endings.{tail-plain, tail-pair}
-use Rattle.reader.proofs.Rounding.{none-rounded}
+use Rattle.reader.proofs.Surveying.{none-rounded}
 use Rattle.reader.proofs.survey_tail.Statement.{statement}
 use Rattle.reader.proofs.survey_tail.Tie as tie
 
