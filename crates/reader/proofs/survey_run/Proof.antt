@@ -1,4 +1,4 @@
-use Prim.Native.Nat.{_+_, _-_}
+use Prim.Native.Nat.{_+_, _-_, _<_}
 use native.Mathlib.Omega.{arith}
 use mathlib.Core.Path.{refl, sym, _∙_}
 use borrow.Author.Needs.{needs}
@@ -59,22 +59,24 @@ survey-entry-requires c κs =
 enum-known-next : tie.Need-enum-known-next Inv-loop μ-loop
 enum-known-next c = search needs
 
+-- an entry was taken: the pass stands behind it
+taken : (c : tie.After-known-told Inv-loop μ-loop)
+    → let a = c .before .before .before .before .before .before .before .before .before .before .before .before .args in
+    let l = c .before .before .before .before .before .before .loop in
+    let n = c .before .next .given .0 in
+    Surveyed (a .text .now) (unitsFrom (a .text .now) (a .start)) (a .indices .now) (n .0) (l .rounded-sum + n .1 .0) × (l .c .place < n .0 .place)
+taken c =
+    surveyed-on _ _ _ _ _ (c .before .before .before .before .before .before .loop .inv) (c .before .before .before .before .if2 .taken) _
+    (c .before .before .before .before .before .before .before .before .before .before .before .before .pre .1 .0) _ (c .before .before .before .survey-entry .ensures) _ _ (c .before .next .given .1)
+
 add-rounded-sum : tie.Need-add-rounded-sum Inv-loop μ-loop
-add-rounded-sum c =
-    let l = c .before .before .before .before .before .before .loop .inv in
-    let w = surveyed-on _ _ _ _ _ l (c .before .before .before .before .if2 .taken) _ (c .before .before .before .before .before .before .before .before .before .before .before .before .pre .1 .0) _ (c .before .before .before .survey-entry .ensures) _ _ (c .before .next .given .1) .0 in
-    record { fits = omega (arith, rounding-few _ _ _ (w .rounds) (w .ready .few-bytes)) }
+add-rounded-sum c = let w = taken c .0 in record { fits = omega (arith, rounding-few _ _ _ (w .rounds) (w .ready .few-bytes)) }
 
 loop-less : tie.Need-loop-less Inv-loop μ-loop
-loop-less c =
-    let l = c .before .before .before .before .before .before .loop .inv in
-    let w = surveyed-on _ _ _ _ _ l (c .before .before .before .before .if2 .taken) _ (c .before .before .before .before .before .before .before .before .before .before .before .before .pre .1 .0) _ (c .before .before .before .survey-entry .ensures) _ _ (c .before .next .given .1) in
-    omega (arith, w .1, w .0 .ready .place)
+loop-less c = let w = taken c in omega (arith, w .1, w .0 .ready .place)
 
 loop-again : tie.Need-loop-again Inv-loop μ-loop
-loop-again c =
-    let l = c .before .before .before .before .before .before .loop .inv in
-    surveyed-on _ _ _ _ _ l (c .before .before .before .before .if2 .taken) _ (c .before .before .before .before .before .before .before .before .before .before .before .before .pre .1 .0) _ (c .before .before .before .survey-entry .ensures) _ _ (c .before .next .given .1) .0
+loop-again c = taken c .0
 
 enum-known-r : tie.Need-enum-known-r Inv-loop μ-loop
 enum-known-r c = search needs
