@@ -137,21 +137,25 @@ Well s f x y z =
 unfoldable pub Fit : Thousandths → Thousandths → Thousandths → Bool
 Fit x y z = within x && within y && within z
 
-module _ (k : ℕ) (s : List ℕ) (f : Front) (ef : f ≡ frontOf s)
-    (x : Field) (ex : x ≡ fieldOf (drop (f .used) s))
-    (y : Field) (ey : y ≡ fieldOf (drop (f .used + x .used) s))
-    (z : Field) (ez : z ≡ fieldOf (drop (f .used + x .used + y .used) s))
-    (bound : f .used + x .used + y .used + z .used ≤ length s) where
+-- the code found these parts
+pub record Parted (s : List ℕ) (f : Front) (x y z : Field) : Type 0 where
+  pub front : f ≡ frontOf s
+  pub first : x ≡ fieldOf (drop (f .used) s)
+  pub second : y ≡ fieldOf (drop (f .used + x .used) s)
+  pub third : z ≡ fieldOf (drop (f .used + x .used + y .used) s)
+  pub inside : f .used + x .used + y .used + z .used ≤ length s
+
+module _ (k : ℕ) (s : List ℕ) (f : Front) (x y z : Field) (p : Parted s f x y z) where
   abbrev parts : Parts
   parts = record { map = mapOf s; digits = indexAt s; x = x; y = y; z = z; used = f .used + x .used + y .used + z .used }
 
   front-is : f ≡ frontWith (mapOf s) (indexAt s)
   unfolding frontOf
-  front-is = ef
+  front-is = p .front
 
   parts-are : partsOf s ≡ parts
   unfolding partsOf
-  parts-are = rw (ez, ey, ex, front-is)
+  parts-are = rw (p .third, p .second, p .first, front-is)
 
   scanned-is : scanned k s ≡ judged k parts s
   unfolding scanned
@@ -166,7 +170,7 @@ module _ (k : ℕ) (s : List ℕ) (f : Front) (ef : f ≡ frontOf s)
 
   -- the answer of the definitions, told by the parts
   said : entryRead (f .used + x .used + y .used + z .used) (roundedParts parts) (judged k parts s) ≡ entryHere k s
-  said = rw (parts-are, scanned-is) at (bridge k s (rw parts-are bound))
+  said = rw (parts-are, scanned-is) at (bridge k s (rw parts-are (p .inside)))
 
   pub code-wrong : Well s f x y z ≡ false → Refused (refusal 7 k) ≡ entryHere k s
   unfolding entryRead
@@ -225,35 +229,31 @@ pub one-chain : (s : List ℕ) (f : Front) (x : Field) {a g e r : Bool} → a �
 unfolding OneWell
 one-chain s f x e1 e2 e3 e4 = rw (← e1, ← e2, ← e3) e4
 
-module _ (k : ℕ) (s : List ℕ) (f : Front) (ef : f ≡ frontOf s) (x : Field) (ex : x ≡ fieldOf (drop (f .used) s))
+module _ (k : ℕ) (s : List ℕ) (f : Front) (x : Field) (ef : f ≡ frontOf s) (ex : x ≡ fieldOf (drop (f .used) s))
     (h : headOf (drop (f .used + x .used) s) ≡ 44 → ⊥) (bound : f .used + x .used ≤ length s) where
-  one-y : notGiven 0 ≡ fieldOf (drop (f .used + x .used) s)
-  one-y = code-absent s (f .used + x .used) h
-
-  one-z : notGiven 0 ≡ fieldOf (drop (f .used + x .used + 0) s)
-  one-z = rw (add-zero (f .used + x .used)) one-y
-
   one-sum : f .used + x .used + 0 + 0 ≡ f .used + x .used
   one-sum = omega arith
 
-  one-bound : f .used + x .used + 0 + 0 ≤ length s
-  one-bound = rw one-sum bound
+  one-parted : Parted s f x (notGiven 0) (notGiven 0)
+  one-parted =
+      let none : notGiven 0 ≡ fieldOf (drop (f .used + x .used) s) = code-absent s (f .used + x .used) h in
+      record { front = ef; first = ex; second = none; third = rw (add-zero (f .used + x .used)) none; inside = rw one-sum bound }
 
   one-well : Well s f x (notGiven 0) (notGiven 0) ≡ OneWell s f x
   unfolding Well OneWell
   one-well = rw (one-sum, and-true)
 
   pub one-wrong : OneWell s f x ≡ false → Refused (refusal 7 k) ≡ entryHere k s
-  one-wrong w = code-wrong k s f ef x ex (notGiven 0) one-y (notGiven 0) one-z one-bound (one-well ∙ w)
+  one-wrong w = code-wrong k s f x (notGiven 0) (notGiven 0) one-parted (one-well ∙ w)
 
   module _ (w : OneWell s f x ≡ true) where
     pub one-index : maxIndex < f .index → Refused (refusal 8 k) ≡ entryHere k s
-    one-index l = code-index k s f ef x ex (notGiven 0) one-y (notGiven 0) one-z one-bound (one-well ∙ w) l
+    one-index l = code-index k s f x (notGiven 0) (notGiven 0) one-parted (one-well ∙ w) l
 
     module _ (l : f .index ≤ maxIndex) where
       pub one-limit : within (x .size) ≡ false → Refused (refusal 9 k) ≡ entryHere k s
       unfolding Fit
-      one-limit n = code-limits k s f ef x ex (notGiven 0) one-y (notGiven 0) one-z one-bound (one-well ∙ w) l (rw n)
+      one-limit n = code-limits k s f x (notGiven 0) (notGiven 0) one-parted (one-well ∙ w) l (rw n)
 
       pub one-read : within (x .size) ≡ true → (i : Index) → i ≡ indexChoice (f .named) (f .index) → (a : Advance) → a ≡ advanceChoice (x .given) (x .size) → (n : ℕ) → n ≡ roundedBy (x .size)
           → Read (record {
@@ -267,7 +267,7 @@ module _ (k : ℕ) (s : List ℕ) (f : Front) (ef : f ≡ frontOf s) (x : Field)
       unfolding Fit
       one-read q i ei a ea n en =
           rw (← one-sum)
-          (code-read k s f ef x ex (notGiven 0) one-y (notGiven 0) one-z one-bound (one-well ∙ w) l (rw q) i ei a ea (pos 0) (pos 0) refl refl n (omega (arith, en)))
+          (code-read k s f x (notGiven 0) (notGiven 0) one-parted (one-well ∙ w) l (rw q) i ei a ea (pos 0) (pos 0) refl refl n (omega (arith, en)))
 
 -- ── an index alone ──
 
@@ -290,7 +290,7 @@ index-alone t d ed bound some l w =
     let ef : f ≡ frontOf t = rw (zero-add n) at (code-front t (cutMap noMap) (ap cutMap (sym plain)) d ed true true (sym (or-true (ltb 0 n))) refl) in
     let i : Named (d .value) ≡ indexChoice (ltb 0 n) (d .value) = ap (λ (b : Bool). indexChoice b (d .value)) (sym (lt-ltb 0 n some)) in (
       l,
-      λ k. sym (rw z at (one-read k t f ef (notGiven 0) (code-absent t n (no-comma (drop n t) w)) (rw z (no-comma (drop n t) w)) (rw z bound) (rw z w) l refl (Named (d .value)) i Own refl 0 refl)),
+      λ k. sym (rw z at (one-read k t f (notGiven 0) ef (code-absent t n (no-comma (drop n t) w)) (rw z (no-comma (drop n t) w)) (rw z bound) (rw z w) l refl (Named (d .value)) i Own refl 0 refl)),
     )
 
 -- two flags put together

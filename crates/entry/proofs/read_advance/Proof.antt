@@ -1,10 +1,14 @@
 -- `entry::read_advance` meets its contract. Assumes nothing.
-use mathlib.Core.Path.{sym, _∙_}
+use mathlib.Core.Path.{_≡_, sym, _∙_}
 use borrow.Author.Tests.{not-true, not-false}
 use borrow.Author.Needs.{needs}
-use Rattle.entry.proofs.EntryLaws.{one-chain, one-wrong, one-index, one-limit, one-read}
+use Rattle.entry.proofs.EntryLaws.{OneWell, one-chain, one-wrong, one-index, one-limit, one-read}
 use Rattle.entry.proofs.read_advance.Statement.{statement}
 use Rattle.entry.proofs.read_advance.Tie as tie
+
+-- the test for 7
+well : (c : tie.After-both3) → let a = c .before .before .before .before .before .before .before .before .args in c .both3 .result ≡ OneWell (a .s .now) (a .f) (a .x)
+well c = one-chain _ _ _ (c .before .before .before .both .ensures) (c .before .before .both2 .ensures) (c .before .ends-at .ensures) (c .both3 .ensures)
 
 add-end : tie.Need-add-end
 add-end c = search needs
@@ -25,13 +29,17 @@ refuse-requires : tie.Need-refuse-requires
 refuse-requires c κs = search needs
 
 returns : tie.Need-returns
-returns c = c .refuse .ensures ∙ one-wrong _ _ _ (c .before .before .before .before .before .before .before .before .before .before .pre .0 .0) _ (c .before .before .before .before .before .before .before .before .before .before .pre .0 .1) (c .before .before .before .before .before .before .before .before .before .before .pre .1) (c .before .before .before .before .before .before .before .before .before .before .pre .0 .2) (sym (one-chain _ _ _ (c .before .before .before .before .before .both .ensures) (c .before .before .before .before .both2 .ensures) (c .before .before .before .ends-at .ensures) (c .before .before .both3 .ensures)) ∙ not-true _ (c .before .if1 .taken))
+returns c =
+    let a = c .before .before .before .before .before .before .before .before .before .before .pre in
+    c .refuse .ensures ∙ one-wrong _ _ _ _ (a .0 .0) (a .0 .1) (a .1) (a .0 .2) (sym (well (c .before .before)) ∙ not-true _ (c .before .if1 .taken))
 
 refuse-requires-2 : tie.Need-refuse-requires-2
 refuse-requires-2 c κs = search needs
 
 returns-2 : tie.Need-returns-2
-returns-2 c = c .refuse2 .ensures ∙ one-index _ _ _ (c .before .before .before .before .before .before .before .before .before .before .before .before .pre .0 .0) _ (c .before .before .before .before .before .before .before .before .before .before .before .before .pre .0 .1) (c .before .before .before .before .before .before .before .before .before .before .before .before .pre .1) (c .before .before .before .before .before .before .before .before .before .before .before .before .pre .0 .2) (sym (one-chain _ _ _ (c .before .before .before .before .before .before .before .both .ensures) (c .before .before .before .before .before .before .both2 .ensures) (c .before .before .before .before .before .ends-at .ensures) (c .before .before .before .before .both3 .ensures)) ∙ not-false _ (c .before .before .before .if1 .left)) (c .before .if2 .taken)
+returns-2 c =
+    let a = c .before .before .before .before .before .before .before .before .before .before .before .before .pre in
+    c .refuse2 .ensures ∙ one-index _ _ _ _ (a .0 .0) (a .0 .1) (a .1) (a .0 .2) (sym (well (c .before .before .before .before)) ∙ not-false _ (c .before .before .before .if1 .left)) (c .before .if2 .taken)
 
 is-within-requires : tie.Need-is-within-requires
 is-within-requires c κs = search needs
@@ -40,7 +48,10 @@ refuse-requires-3 : tie.Need-refuse-requires-3
 refuse-requires-3 c κs = search needs
 
 returns-3 : tie.Need-returns-3
-returns-3 c = c .refuse3 .ensures ∙ one-limit _ _ _ (c .before .before .before .before .before .before .before .before .before .before .before .before .before .before .pre .0 .0) _ (c .before .before .before .before .before .before .before .before .before .before .before .before .before .before .pre .0 .1) (c .before .before .before .before .before .before .before .before .before .before .before .before .before .before .pre .1) (c .before .before .before .before .before .before .before .before .before .before .before .before .before .before .pre .0 .2) (sym (one-chain _ _ _ (c .before .before .before .before .before .before .before .before .before .both .ensures) (c .before .before .before .before .before .before .before .before .both2 .ensures) (c .before .before .before .before .before .before .before .ends-at .ensures) (c .before .before .before .before .before .before .both3 .ensures)) ∙ not-false _ (c .before .before .before .before .before .if1 .left)) (c .before .before .before .if2 .left) (sym (c .before .before .is-within .ensures) ∙ not-true _ (c .before .if3 .taken))
+returns-3 c =
+    let a = c .before .before .before .before .before .before .before .before .before .before .before .before .before .before .pre in
+    c .refuse3 .ensures
+    ∙ one-limit _ _ _ _ (a .0 .0) (a .0 .1) (a .1) (a .0 .2) (sym (well (c .before .before .before .before .before .before)) ∙ not-false _ (c .before .before .before .before .before .if1 .left)) (c .before .before .before .if2 .left) (sym (c .before .before .is-within .ensures) ∙ not-true _ (c .before .if3 .taken))
 
 index-of-requires : tie.Need-index-of-requires
 index-of-requires c κs = search needs
@@ -53,8 +64,9 @@ rounded-of-requires c κs = search needs
 
 returns-4 : tie.Need-returns-4
 returns-4 c =
-    let g = c .before in
-    one-read _ _ _ (g .before .before .before .before .before .before .before .before .before .before .before .before .before .before .before .pre .0 .0) _ (g .before .before .before .before .before .before .before .before .before .before .before .before .before .before .before .pre .0 .1) (g .before .before .before .before .before .before .before .before .before .before .before .before .before .before .before .pre .1) (g .before .before .before .before .before .before .before .before .before .before .before .before .before .before .before .pre .0 .2) (sym (one-chain _ _ _ (g .before .before .before .before .before .before .before .before .before .before .both .ensures) (g .before .before .before .before .before .before .before .before .before .both2 .ensures) (g .before .before .before .before .before .before .before .before .ends-at .ensures) (g .before .before .before .before .before .before .before .both3 .ensures)) ∙ not-false _ (g .before .before .before .before .before .before .if1 .left)) (g .before .before .before .before .if2 .left) (sym (g .before .before .before .is-within .ensures) ∙ not-false _ (g .before .before .if3 .left)) _ (g .before .index-of .ensures) _ (g .advance-of .ensures) _ (c .rounded-of .ensures .0)
+    let a = c .before .before .before .before .before .before .before .before .before .before .before .before .before .before .before .before .pre in
+    one-read _ _ _ _ (a .0 .0) (a .0 .1) (a .1) (a .0 .2) (sym (well (c .before .before .before .before .before .before .before .before)) ∙ not-false _ (c .before .before .before .before .before .before .before .if1 .left)) (c .before .before .before .before .before .if2 .left) (sym (c .before .before .before .before .is-within .ensures) ∙ not-false _ (c .before .before .before .if3 .left)) _ (c .before .before .index-of .ensures) _ (c .before .advance-of .ensures)
+    _ (c .rounded-of .ensures .0)
 
 pub read-advance-spec : {M : Type 1} → statement M
 read-advance-spec =
