@@ -1,8 +1,10 @@
-use Prim.Native.Nat.{_+_, _-_, _<_}
+use Prim.Native.Nat.{ℕ, _+_, _-_, _<_}
 use native.Mathlib.Omega.{arith}
-use mathlib.Core.Path.{refl, sym, _∙_}
+use mathlib.Core.Path.{refl, sym, _∙_, ap}
 use borrow.Author.Needs.{needs}
 use lib.ListN.{length}
+use Rattle.label.specs.Calls.{readingOutcome}
+use Rattle.label.specs.Rounded.{beside}
 use Rattle.text.specs.Moves.{unitsFrom}
 use Rattle.reader.proofs.Endings.{nothing-is, run-nothing, run-stop, run-tail, refused-outcome}
 use Rattle.reader.proofs.Surveying.{Surveyed, surveyed-on, rounding-start, rounding-few, rounding-end, none-rounded}
@@ -119,7 +121,7 @@ returns-4 c =
     let us = unitsFrom (a .args .text .now) (a .args .start) in
     let l = p .loop .inv in
     let e = rounding-end _ _ _ (l .rounds) (c .before .before .before .if2 .left) in
-    (c .survey-tail .ensures .0 ∙ run-tail us (a .args .indices .now) _ (a .pre .1 .0) _ _ (p .loop .c) _ (l .stands) (l .ready) (l .at) (c .before .before .before .if2 .left) (c .before .if3 .left) (l .some), rw e at (c .survey-tail .ensures .1))
+    (c .survey-tail .ensures .0 ∙ run-tail us (a .args .indices .now) _ (a .pre .1 .0) _ _ (p .loop .c) _ (l .stands) (l .ready) (l .at) (c .before .before .before .if2 .left) (c .before .if3 .left) (l .some), c .survey-tail .ensures .1 ∙ ap (λ (n : ℕ). beside n (readingOutcome (c .survey-tail .result))) e)
 
 pub survey-run-spec : {M : Type 1} → statement M
 survey-run-spec =
