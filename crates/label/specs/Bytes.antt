@@ -1,10 +1,17 @@
--- Parts of byte lists: split at a byte, cut at the first byte of a kind, digits and their value; and the way back: join, trailing empty parts dropped,
--- digits of a number.
+-- Bytes of ASCII. Parts of byte lists: split at a byte, cut at the first byte of a kind, digits and their value; and the way back: join, trailing empty
+-- parts dropped, digits of a number.
 -- Assumes nothing.
 use Prim.Native.Nat.{ℕ, zero, suc, _+_, _*_, _-_, _/_, _%_}
+use Prim.Native.Char.{code}
+use Prim.Native.String.{String, [] as none, _∷_ as _then_}
 use mathlib.Core.Bool.{Bool, true, false, cond, not, _&&_}
 use mathlib.Core.List.{List, [], _∷_, _++_}
 use lib.Dec.{leb, ltb, eqb}
+
+-- a text of ASCII as its bytes, which are its code units too
+unfoldable pub ascii : String → List ℕ
+ascii none = []
+ascii (c then s) = code c ∷ ascii s
 
 -- no element
 abbrev pub empty : {A : Type 0} → List A → Bool

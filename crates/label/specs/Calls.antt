@@ -1,7 +1,8 @@
--- The calls with their lent buffers: 16 to 18, 20, 21, and 19 and 18 of the list of records; what each buffer holds afterwards; and for every answer enum
--- document 01's number, place and values of each of its cases, and document 02's count of rounded fields.
+-- The calls with their lent buffers: 16 to 18, 20, 21, 19 and 18 of the list of records, and document 02's 24; what each buffer holds afterwards; and for
+-- every answer enum the papers' number, place and values of each of its cases, and document 02's count of rounded fields.
 -- Assumes nothing.
 use Prim.Native.Nat.{ℕ, _*_}
+use mathlib.Core.Bool.{Bool, true, false}
 use mathlib.Core.List.{List, _++_}
 use lib.Dec.{leb}
 use lib.IntN.{ℤ}
@@ -10,6 +11,7 @@ use Rattle.label.specs.Outcome.{Outcome, ok, no, need, _>>=_, _>>_}
 use Rattle.label.specs.Run.{Run, read}
 use Rattle.label.specs.Sound.{flatClusters, flatGlyphs, sound, glyphsOf}
 use Rattle.label.specs.Write.{Label, write}
+use Rattle.label.specs.Attribute.{asAsked, resolve}
 use Rattle.label.specs.declared.Glyph.{Glyph}
 use Rattle.label.specs.declared.Refusal.{Refusal}
 use Rattle.label.specs.declared.Counts.{Counts}
@@ -23,6 +25,8 @@ use Rattle.label.specs.declared.Pick.{Pick}
 use Rattle.label.specs.declared.Pick.the-variants as P
 use Rattle.label.specs.declared.Listing.{Listing}
 use Rattle.label.specs.declared.Listing.the-variants as L
+use Rattle.label.specs.declared.Resolving.{Resolving}
+use Rattle.label.specs.declared.Resolving.the-variants as X
 
 -- ── answers ──
 
@@ -52,6 +56,10 @@ abbrev pub listingOutcome : Listing → Outcome ℕ
 listingOutcome (L.Listed n) = ok n
 listingOutcome (L.Refused x) = no (x .number) (x .place)
 
+abbrev pub resolvingOutcome : Resolving → Outcome ℕ
+resolvingOutcome (X.Resolved n) = ok n
+resolvingOutcome (X.Refused x) = no (x .number) (x .place)
+
 -- ── buffers ──
 
 -- a buffer that was filled from its start: "Places behind the run stay"
@@ -62,6 +70,15 @@ filled vs old = vs ++ drop (length vs) old
 abbrev pub after : {A B : Type 0} → (A → List B) → Outcome A → List B → List B
 after f (ok a) old = filled (f a) old
 after f (no n p) old = old
+
+-- document 02: "a call that fills a lent list or buffer returns how many places it filled"
+abbrev pub filledCount : {A : Type 0} → Outcome (List A) → Outcome ℕ
+filledCount (ok vs) = ok (length vs)
+filledCount (no n p) = no n p
+
+-- "and places behind them stay": such a list or buffer afterwards
+abbrev pub filledAfter : {A : Type 0} → Outcome (List A) → List A → List A
+filledAfter {A} o old = after (λ (vs : List A). vs) o old
 
 -- ── the reader ──
 
@@ -128,10 +145,30 @@ listInto room us cs gs = do
   need (leb (length (glyphsOf gs)) room) 18 (length (glyphsOf gs))
   ok (glyphsOf gs)
 
--- the answer of a listing, and the list afterwards
-abbrev pub listedCount : Outcome (List Glyph) → Outcome ℕ
-listedCount (ok gs) = ok (length gs)
-listedCount (no n p) = no n p
+-- ── raw attribute values: document 02, CR 2 ──
 
-abbrev pub recordsAfter : Outcome (List Glyph) → List Glyph → List Glyph
-recordsAfter o old = after (λ (gs : List Glyph). gs) o old
+-- into a buffer of `room` bytes: "24: lent buffer too short, place the bytes needed"
+unfoldable pub resolveInto : ℕ → List ℕ → Outcome (List ℕ)
+resolveInto room raw = do
+  s ← resolve raw
+  need (leb (length s) room) 24 (length s)
+  ok s
+
+-- a raw text and raw indices, "text before indices [...], and the reading is of what comes out"
+unfoldable pub readRaw : List ℕ → List ℕ → Outcome Run
+readRaw text indices = do
+  t ← resolve text
+  i ← resolve indices
+  read t i
+
+-- a label as the caller asks for it
+abbrev pub askedFor : Bool → Label → Label
+askedFor asked l = record { text = asAsked asked (l .text); indices = asAsked asked (l .indices) }
+
+-- the writer asked to escape, or not: what it then writes is "counted in 20 and 21". Not asked, it is `writeInto` (law `unasked`).
+unfoldable pub writeAsked : Bool → ℕ → ℕ → List ℕ → List ℤ → List ℤ → Outcome Label
+writeAsked asked text indices us cs gs = do
+  l ← write us cs gs
+  need (leb (length (askedFor asked l .text)) text) 20 (length (askedFor asked l .text))
+  need (leb (length (askedFor asked l .indices)) indices) 21 (length (askedFor asked l .indices))
+  ok (askedFor asked l)

@@ -7,7 +7,7 @@ use mathlib.Core.Bool.{true, false}
 use lib.IntN.{ℤ, pos, negsuc}
 use lib.ListN.{replicate}
 use Rattle.label.specs.Outcome.{Outcome, ok, no}
-use Rattle.label.specs.Bytes.{split, cut, allDigits, valueFrom, joinRest, join, trim, decimalFrom, decimal}
+use Rattle.label.specs.Bytes.{ascii, split, cut, allDigits, valueFrom, joinRest, join, trim, decimalFrom, decimal}
 use Rattle.label.specs.Text.{lead, trail, starts, scalar, xmlChar, unitsOf, decode, textUnits}
 use Rattle.label.specs.Entry.{unsigned, isDecimals, isNumber, mantissaDigits, fractionDigits, exponentDigits, nearest, scaled, thousandths, numberFits, isIndexPart, indexDigits, mapUnits, mapGlyphs, isAdvance, isOffset, wellFormed, fieldFits, indexOf, advanceOf, offsetOf, entryOf, entry, entries}
 use Rattle.label.specs.Rounded.{isWhole, isExact, roundedField, roundedEntry, roundedEntries, rounded, beside}
@@ -16,10 +16,9 @@ use Rattle.label.specs.Sound.{wholeClusters, wholeGlyphs, clustersOf, gl
 use Rattle.label.specs.Write.{utf8, unitBytes, unitsBytes, textOf, fraction, valueBytes, advanceBytes, offsetBytes, mapBytes, indexBytes, entryBytes, written, indicesOf, Label, write}
 use Rattle.label.specs.Pick.{stretch, holding, touched, turned, pickUnits, pickGlyphs}
 use Rattle.label.specs.Fault.{startOf, portion, faultPart}
-use Rattle.label.specs.Calls.{readInto, writeInto, listInto, listedCount, counted, lengths}
+use Rattle.label.specs.Calls.{readInto, writeInto, listInto, filledCount, counted, lengths}
 use Rattle.label.specs.Wire.{fromHalves, fromWords, halves, words, signed, evenBytes, wordBytes, readBytes, writeBytes, unitBytesAfter, clusterBytesAfter, glyphBytesAfter}
 use Rattle.label.specs.Relabel.{relabelRead}
-use Rattle.label.specs.Labels.{ascii}
 use Rattle.label.specs.declared.Part.{Part}
 use Rattle.label.specs.declared.Stretch.{Stretch}
 
@@ -153,8 +152,8 @@ unfolding ascii wholeClusters wholeGlyphs clustersOf glyphsOf properUnits fits s
 edge-picks = (refl, refl, refl)
 
 -- the list of records: 19, then 18 with the glyphs needed, then the count
-pub listings : (listedCount (listInto 5 (four .units) (four .clusters) (four .glyphs)) ≡ ok 5) × (listedCount (listInto 4 (four .units) (four .clusters) (four .glyphs)) ≡ no 18 5)
-    × (listedCount (listInto 0 (ascii "A") [] []) ≡ no 19 0)
+pub listings : (filledCount (listInto 5 (four .units) (four .clusters) (four .glyphs)) ≡ ok 5) × (filledCount (listInto 4 (four .units) (four .clusters) (four .glyphs)) ≡ no 18 5)
+    × (filledCount (listInto 0 (ascii "A") [] []) ≡ no 19 0)
 unfolding ascii wholeClusters wholeGlyphs clustersOf glyphsOf properUnits fits soundRun sound xmlChar listInto
 listings = (refl, refl, refl)
 

@@ -16,7 +16,9 @@ use Rattle.label.specs.Entry.{part, indexDigits, wellFormed, fieldFits, 
 use Rattle.label.specs.Run.{Run, Parts, fontGlyph, cluster, before, whole, State, start, opens, takes, allowed, next}
 use Rattle.label.specs.Sound.{sound, runOf, glyphsOf}
 use Rattle.label.specs.Write.{normal}
+use Rattle.label.specs.Attribute.{isGood, gives, more}
 use Rattle.label.specs.Pick.{inside}
+use Rattle.label.specs.Calls.{askedFor}
 use Rattle.label.specs.Wire.{halves, words, noLeftOver}
 
 -- whether a row's cause holds, its number and its place
@@ -158,3 +160,32 @@ writeByteChecks text indices us cs gs = check (not (noLeftOver us cs gs)) 19 0 �
 
 unfoldable pub pickByteChecks : List ℕ → List ℕ → List ℕ → ℕ → ℕ → ℕ → List Check
 pickByteChecks us cs gs first end count = check (not (noLeftOver us cs gs)) 19 0 ∷ pickChecks (halves us) (words cs) (words gs) first end count
+
+-- ── raw attribute values: document 02, CR 2 ──
+
+-- 23 of each place from the left; the first `skip` bytes belong to what was already judged
+unfoldable pub rawChecks : ℕ → ℕ → List ℕ → List Check
+rawChecks skip at [] = []
+rawChecks (suc skip) at (b ∷ bs) = rawChecks skip (suc at) bs
+rawChecks zero at (b ∷ bs) = check (not (isGood b bs)) 23 at ∷ rawChecks (more b bs) (suc at) bs
+
+-- the bytes that come out
+unfoldable pub rawGives : ℕ → List ℕ → List ℕ
+rawGives skip [] = []
+rawGives (suc skip) (b ∷ bs) = rawGives skip bs
+rawGives zero (b ∷ bs) = gives b bs ++ rawGives (more b bs) bs
+
+-- 23, then 24 of a buffer of `room` bytes
+unfoldable pub resolveChecks : ℕ → List ℕ → List Check
+resolveChecks room raw = rawChecks 0 0 raw ++ (check (not (leb (length (rawGives 0 raw)) room)) 24 (length (rawGives 0 raw)) ∷ [])
+
+-- 19, 20, 21 of the writer asked to escape, or not
+unfoldable pub askedChecks : Bool → ℕ → ℕ → List ℕ → List ℤ → List ℤ → List Check
+askedChecks asked text indices us cs gs =
+    check (not (sound us cs gs)) 19 0 ∷
+    check (not (leb (length (askedFor asked (normal (runOf us cs gs)) .text)) text)) 20 (length (askedFor asked (normal (runOf us cs gs)) .text)) ∷
+    check (not (leb (length (askedFor asked (normal (runOf us cs gs)) .indices)) indices)) 21 (length (askedFor asked (normal (runOf us cs gs)) .indices)) ∷
+    []
+
+unfoldable pub askedByteChecks : Bool → ℕ → ℕ → List ℕ → List ℕ → List ℕ → List Check
+askedByteChecks asked text indices us cs gs = check (not (noLeftOver us cs gs)) 19 0 ∷ askedChecks asked text indices (halves us) (words cs) (words gs)

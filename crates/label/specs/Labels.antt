@@ -2,13 +2,11 @@
 -- of rounded fields, and the example of `relabel`. Each is computed from the definitions.
 -- Assumes nothing.
 use Prim.Native.Nat.{ℕ}
-use Prim.Native.Char.{code}
-use Prim.Native.String.{String, [] as none, _∷_ as _then_}
 use mathlib.Core.Path.{_≡_, refl}
 use mathlib.Core.List.{List, [], _∷_, _++_, map}
 use lib.IntN.{pos}
 use Rattle.label.specs.Outcome.{Outcome, ok, no}
-use Rattle.label.specs.Bytes.{split, cut, allDigits, valueFrom, joinRest, join, trim, decimalFrom, decimal}
+use Rattle.label.specs.Bytes.{ascii, split, cut, allDigits, valueFrom, joinRest, join, trim, decimalFrom, decimal}
 use Rattle.label.specs.Text.{lead, trail, starts, scalar, xmlChar, unitsOf, decode, textUnits}
 use Rattle.label.specs.Entry.{unsigned, isDecimals, isNumber, mantissaDigits, fractionDigits, exponentDigits, nearest, scaled, thousandths, numberFits, isIndexPart, indexDigits, mapUnits, mapGlyphs, isAdvance, isOffset, wellFormed, fieldFits, indexOf, advanceOf, offsetOf, entryOf, entry, entries}
 use Rattle.label.specs.Rounded.{isWhole, isExact, roundedField, roundedEntry, roundedEntries, rounded, beside}
@@ -21,11 +19,6 @@ use Rattle.label.specs.declared.Glyph.{Glyph}
 use Rattle.label.specs.declared.Cluster.{Cluster}
 
 -- ── how the rows are written ──
-
--- a text of ASCII as its bytes, which are its code units too
-unfoldable pub ascii : String → List ℕ
-ascii none = []
-ascii (c then s) = code c ∷ ascii s
 
 -- what a label comes to: the run and its normal writing, or the number and the place
 pub data Said : Type 0 where

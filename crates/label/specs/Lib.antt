@@ -7,6 +7,7 @@ pub mod Rounded
 pub mod Run
 pub mod Sound
 pub mod Write
+pub mod Attribute
 pub mod Pick
 pub mod Fault
 pub mod Calls

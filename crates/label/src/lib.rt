@@ -170,6 +170,12 @@ pub enum Listing {
     Refused(Refusal),
 }
 
+// How many bytes came out of a raw attribute value.
+pub enum Resolving {
+    Resolved(usize),
+    Refused(Refusal),
+}
+
 // A part of the text or of the indices of a label.
 pub struct Part {
     pub in_indices: bool,

@@ -11,7 +11,7 @@ use lib.ListN.{length}
 use borrow.Author.Tests.{le-leb, lt-leb, leb-true}
 use Rattle.label.specs.Outcome.{Outcome, ok, no}
 use Rattle.label.specs.Sound.{sound, glyphsOf}
-use Rattle.label.specs.Calls.{refusal, listInto, listingOutcome, listedCount, recordsAfter}
+use Rattle.label.specs.Calls.{refusal, listInto, listingOutcome, filledCount, filledAfter}
 use Rattle.label.specs.declared.Glyph.{Glyph}
 use Rattle.label.specs.declared.Listing.the-variants.{Listed, Refused}
 use Rattle.label.proofs.Basics.{cases}
@@ -59,15 +59,15 @@ module _ (room : ℕ) (us : List ℕ) (cs gs : List ℤ) where
       three (λ e. rw e (zero-le, zero-le)) (λ e. rw e (zero-le, zero-le))
       (λ h l e. rw e (leb-true (length (glyphsOf gs)) room l, omega (arith, glyph-count gs)))
 
-  pub answer-is : listingOutcome (planOf room us cs gs .answer) ≡ listedCount (listInto room us cs gs)
+  pub answer-is : listingOutcome (planOf room us cs gs .answer) ≡ filledCount (listInto room us cs gs)
   unfolding planOf
   answer-is = of (listInto room us cs gs)
     where
-      of : (o : Outcome (List Glyph)) → listingOutcome (planned o .answer) ≡ listedCount o
+      of : (o : Outcome (List Glyph)) → listingOutcome (planned o .answer) ≡ filledCount o
       of (ok l) = refl
       of (no n p) = refl
 
-  pub records-are : (ys : List Glyph) → stored gs ys (planOf room us cs gs .count) ≡ recordsAfter (listInto room us cs gs) ys
+  pub records-are : (ys : List Glyph) → stored gs ys (planOf room us cs gs .count) ≡ filledAfter (listInto room us cs gs) ys
   unfolding planOf
   records-are ys =
       three (λ e. rw e (sym (none gs ys))) (λ e. rw e (sym (none gs ys)))

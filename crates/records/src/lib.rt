@@ -10,7 +10,7 @@ ghost use Prim.Native.Nat.{_<_, _≤_, _+_, _*_};
 ghost use lib.ListN.{length, drop};
 ghost use Rattle.words.specs.Places.{place};
 ghost use Rattle.label.specs.Sound.{numberAdvance};
-ghost use Rattle.label.specs.Calls.{refusal, listInto, listingOutcome, listedCount, recordsAfter};
+ghost use Rattle.label.specs.Calls.{refusal, listInto, listingOutcome, filledCount, filledAfter};
 ghost use Rattle.records.specs.Records.{indexOf, recordOf, records, planOf};
 
 // A number from 0 to the largest index names an index; any other leaves it to the font.
@@ -104,8 +104,8 @@ fn decide(units: &[u16], clusters: &[i32], glyphs: &[i32], room: usize) -> Plan
 
 // Lists the glyphs of a run in `out`: 19 where the run is not sound, 18 where `out` is too short. The records behind stay, and a refusal changes none.
 pub fn list_records(units: &[u16], clusters: &[i32], glyphs: &[i32], out: &mut [Glyph]) -> Listing
-    ensures result { λ r. ⌜ listingOutcome r ≡ listedCount (listInto (length (now (out .entry))) (now (units .entry)) (now (clusters .entry)) (now (glyphs .entry))) ⌝ }
-    ensures records { λ r. ⌜ now (out .exit) ≡ recordsAfter (listInto (length (now (out .entry))) (now (units .entry)) (now (clusters .entry)) (now (glyphs .entry))) (now (out .entry)) ⌝ }
+    ensures result { λ r. ⌜ listingOutcome r ≡ filledCount (listInto (length (now (out .entry))) (now (units .entry)) (now (clusters .entry)) (now (glyphs .entry))) ⌝ }
+    ensures records { λ r. ⌜ now (out .exit) ≡ filledAfter (listInto (length (now (out .entry))) (now (units .entry)) (now (clusters .entry)) (now (glyphs .entry))) (now (out .entry)) ⌝ }
 {
     let plan = decide(units, clusters, glyphs, out.len());
     fill(out, glyphs, plan.count);
@@ -120,8 +120,8 @@ pub struct Four {
 
 // The same with four records that are passed by value and handed back.
 pub fn list_four(units: &[u16], clusters: &[i32], glyphs: &[i32], records: [Glyph; 4]) -> Four
-    ensures result { λ r. ⌜ listingOutcome (r .answer) ≡ listedCount (listInto 4 (now (units .entry)) (now (clusters .entry)) (now (glyphs .entry))) ⌝ }
-    ensures records { λ r. ⌜ r .records ≡ recordsAfter (listInto 4 (now (units .entry)) (now (clusters .entry)) (now (glyphs .entry))) records ⌝ }
+    ensures result { λ r. ⌜ listingOutcome (r .answer) ≡ filledCount (listInto 4 (now (units .entry)) (now (clusters .entry)) (now (glyphs .entry))) ⌝ }
+    ensures records { λ r. ⌜ r .records ≡ filledAfter (listInto 4 (now (units .entry)) (now (clusters .entry)) (now (glyphs .entry))) records ⌝ }
 {
     let mut out = records;
     let answer = list_records(units, clusters, glyphs, &mut out);

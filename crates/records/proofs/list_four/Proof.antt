@@ -55,7 +55,7 @@ use Rattle.records.specs.declared.Four.{Four}
 use Rattle.label.specs.declared.Glyph.{Glyph}
 use Rattle.label.specs.declared.Listing.{Listing}
 use Rattle.label.specs.Outcome.{Outcome}
-use Rattle.label.specs.Calls.{listInto, listingOutcome, listedCount, recordsAfter}
+use Rattle.label.specs.Calls.{listInto, listingOutcome, filledCount, filledAfter}
 use Rattle.records.proofs.Facts.{says-both, heard-both}
 use Rattle.label.proofs.Glyph as T
 use Rattle.label.proofs.Glyph.Laws as T′
@@ -144,10 +144,10 @@ module _ {M : Type 1} (𝓤 : URA M) (H : Heap 𝓤) (A : Atoms 𝓤) (W : Given
 
   -- the contract's two clauses, for m records
   abbrev Answers : ℕ → Listing → Type 0
-  Answers m r = listingOutcome r ≡ listedCount (listed m)
+  Answers m r = listingOutcome r ≡ filledCount (listed m)
 
   abbrev Stores : ℕ → List Glyph → Type 0
-  Stores m zs = zs ≡ recordsAfter (listed m) xs
+  Stores m zs = zs ≡ filledAfter (listed m) xs
 
   -- the machine values
   abbrev v₀ : Val
