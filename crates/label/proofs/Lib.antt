@@ -5,6 +5,7 @@ pub mod Values
 pub mod Entries
 pub mod Walks
 pub mod Texts
+pub mod Attributes
 pub mod Sounds
 pub mod Rounded
 pub mod Parts

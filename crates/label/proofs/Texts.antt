@@ -300,7 +300,7 @@ pub record TextBack (us : List ℕ) : Type 0 where
   pub units : unmarked all ≡ us
   pub short : length us ≤ 4096 → length (textOf us) ≤ 16384
 
-utf8-short : (c : ℕ) → length (utf8 c) ≤ 4
+pub utf8-short : (c : ℕ) → length (utf8 c) ≤ 4
 unfolding utf8
 utf8-short c =
     cases (leb c 127) (λ t. rw t (omega arith))

@@ -1,0 +1,150 @@
+-- Raw attribute values: resolving restores what escaping made, from any place on; what resolving comes to at a place; how long its result is.
+-- Assumes nothing.
+use Prim.Native.Nat.{ℕ, zero, suc, _+_, _*_, _-_, _≤_, _<_}
+use native.Mathlib.Omega.{arith}
+use native.Mathlib.Nat.{add-zero, add-suc, suc-add}
+use mathlib.Core.Path.{_≡_, refl, sym, ap, _∙_}
+use mathlib.Core.Bool.{Bool, true, false, cond, not, _&&_, _||_, and-false}
+use mathlib.Core.List.{List, [], _∷_, _++_}
+use borrow.Author.Tests.{eqb-true}
+use lib.Dec.{eqb, ltb}
+use lib.ListN.{length, getD, drop, length-append, drop-of-length-le}
+use lib.Seq.{drop-cons, drop-drop}
+use Rattle.label.specs.Outcome.{Outcome, ok, no, need, _>>=_, _>>_}
+use Rattle.label.specs.Bytes.{ascii, cut}
+use Rattle.label.specs.Text.{xmlChar}
+use Rattle.label.specs.Write.{utf8}
+use Rattle.label.specs.Attribute.{same, named, digitValue, allOf, valueBehind, numbered, referred, body, isReference, isGood, spaced, gives, more, resolveFrom, resolve, escapeByte, escape}
+use Rattle.label.proofs.Basics.{and-l, and-r, clash, cases, need-ok, bind-ok}
+use Rattle.label.proofs.Texts.{utf8-short}
+use Rattle.label.proofs.Walks.{ok-path}
+use Rattle.label.proofs.Cursors.{onto}
+
+-- ── what was escaped is restored ──
+
+-- the place behind w, which stands at `at`
+abbrev past : List ℕ → ℕ → ℕ
+past [] at = at
+past (b ∷ w) at = past w (suc at)
+
+-- w, in front of anything, is resolved to the byte b
+abbrev Restores : List ℕ → ℕ → Type 0
+Restores w b = (at : ℕ) (x : List ℕ) → resolveFrom 0 at (w ++ x) ≡ onto (b ∷ []) (resolveFrom 0 (past w at) x)
+
+names : Restores (ascii "&amp;") 38 × Restores (ascii "&lt;") 60 × Restores (ascii "&quot;") 34
+unfolding resolveFrom isGood isReference more gives referred named same cut ascii xmlChar utf8
+names = (λ at x. refl, λ at x. refl, λ at x. refl)
+
+numbers : Restores (ascii "&#9;") 9 × Restores (ascii "&#10;") 10 × Restores (ascii "&#13;") 13
+unfolding resolveFrom isGood isReference more gives referred numbered allOf digitValue valueBehind cut ascii xmlChar utf8
+numbers = (λ at x. refl, λ at x. refl, λ at x. refl)
+
+-- a byte that is not escaped stands for itself
+plain : (b : ℕ) → eqb b 38 ≡ false → eqb b 60 ≡ false → eqb b 9 ≡ false → eqb b 10 ≡ false → eqb b 13 ≡ false → Restores (b ∷ []) b
+unfolding resolveFrom isGood more gives spaced
+plain b a l t n r at x = rw (a, l, t, n, r) refl
+
+byte-restored : (b : ℕ) → Restores (escapeByte b) b
+unfolding escapeByte
+byte-restored b at x =
+    cases (eqb b 38) (λ a. rw (a, eqb-true b 38 a) (names .0 at x))
+    (λ a. cases (eqb b 60) (λ l. rw (a, l, eqb-true b 60 l) (names .1 at x))
+    (λ l. cases (eqb b 34) (λ q. rw (a, l, q, eqb-true b 34 q) (names .2 at x))
+    (λ q. cases (eqb b 9) (λ t. rw (a, l, q, t, eqb-true b 9 t) (numbers .0 at x))
+    (λ t. cases (eqb b 10) (λ n. rw (a, l, q, t, n, eqb-true b 10 n) (numbers .1 at x))
+    (λ n. cases (eqb b 13) (λ r. rw (a, l, q, t, n, r, eqb-true b 13 r) (numbers .2 at x))
+    (λ r. rw (a, l, q, t, n, r) (plain b a l t n r at x)))))))
+
+pub restored : (s : List ℕ) (at : ℕ) → resolveFrom 0 at (escape s) ≡ ok s
+unfolding escape
+restored [] at = unfold resolveFrom in refl
+restored (b ∷ s) at = byte-restored b at (escape s) ∙ rw (restored s (past (escapeByte b) at))
+
+-- ── resolving at a place ──
+
+pub resolve-skip : (k at : ℕ) (s : List ℕ) → resolveFrom k at s ≡ resolveFrom 0 (at + k) (drop k s)
+unfolding resolveFrom
+resolve-skip zero at [] = refl
+resolve-skip zero at (b ∷ s) = rw (add-zero at)
+resolve-skip (suc k) at [] = refl
+resolve-skip (suc k) at (b ∷ s) = resolve-skip k (suc at) s ∙ rw (add-suc at k, suc-add at k)
+
+-- byte i of s, what stands behind it, and the place behind what stands there
+module _ (s : List ℕ) (i : ℕ) where
+  abbrev here : ℕ
+  here = getD s i 0
+
+  abbrev behind : List ℕ
+  behind = drop (suc i) s
+
+  abbrev next : ℕ
+  next = suc i + more here behind
+
+  pub resolve-good : i < length s → isGood here behind ≡ true → resolveFrom 0 i (drop i s) ≡ onto (gives here behind) (resolveFrom 0 next (drop next s))
+  unfolding resolveFrom
+  resolve-good h g = rw (drop-cons s i 0 h, g, resolve-skip (more here behind) (suc i) behind, drop-drop (more here behind) (suc i) s)
+
+  pub resolve-bad : i < length s → isGood here behind ≡ false → resolveFrom 0 i (drop i s) ≡ no 23 i
+  unfolding resolveFrom
+  resolve-bad h g = rw (drop-cons s i 0 h, g)
+
+  pub resolve-end : length s ≤ i → resolveFrom 0 i (drop i s) ≡ ok []
+  unfolding resolveFrom
+  resolve-end h = rw (drop-of-length-le s h)
+
+-- ── how long the result is ──
+
+pub cut-within : (t : ℕ → Bool) (s : List ℕ) → cut t s .found ≡ true → length (cut t s .before) < length s
+unfolding cut
+cut-within t [] h = clash false h refl
+cut-within t (b ∷ s) h = cases (t b) (λ e. rw e (omega arith)) (λ e. rw e (omega (arith, cut-within t s (rw e at h))))
+
+-- a reference has two bytes or more between `&` and `;`
+one-byte : (b : ℕ) → referred (b ∷ []) ≡ 0
+unfolding referred numbered named same ascii
+one-byte b =
+    cases (eqb b 35) (λ e. rw e)
+    (λ e. rw (e, and-false (eqb b 97), and-false (eqb b 108), and-false (eqb b 103), and-false (eqb b 113)))
+
+pub referred-long : (s : List ℕ) → xmlChar (referred s) ≡ true → 2 ≤ length s
+referred-long [] h = clash (xmlChar (referred [])) h (unfold xmlChar referred named same ascii in refl)
+referred-long (b ∷ []) h = clash (xmlChar 0) (rw (one-byte b) at h) (unfold xmlChar in refl)
+referred-long (b ∷ d ∷ s) h = omega arith
+
+-- what stands at a byte is there, and no longer than it was
+module _ (b : ℕ) (bs : List ℕ) (g : isGood b bs ≡ true) where
+  reference-is : eqb b 38 ≡ true → isReference bs ≡ true
+  unfolding isGood
+  reference-is e = rw e at (and-r (not (eqb b 60)) (not (eqb b 38) || isReference bs) g)
+
+  pub more-within : more b bs ≤ length bs
+  unfolding more isReference
+  more-within =
+      cases (eqb b 38)
+      (λ e. rw e (cut-within isEnd bs (and-l (cut isEnd bs .found) (xmlChar (referred (body bs))) (reference-is e))))
+      (λ e. rw e (cases (eqb b 13 && eqb (getD bs 0 0) 10) (λ k. rw k (some bs (eqb-true (getD bs 0 0) 10 (and-r (eqb b 13) (eqb (getD bs 0 0) 10) k)))) (λ k. rw k (omega arith))))
+    where
+      isEnd : ℕ → Bool
+      isEnd x = eqb x 59
+
+      some : (x : List ℕ) → getD x 0 0 ≡ 10 → 1 ≤ length x
+      some [] k = omega arith
+      some (y ∷ x) k = omega arith
+
+  pub gives-within : length (gives b bs) ≤ suc (more b bs)
+  unfolding gives more isReference
+  gives-within =
+      cases (eqb b 38)
+      (λ e. let l = referred-long (body bs) (and-r (cut (λ x. eqb x 59) bs .found) (xmlChar (referred (body bs))) (reference-is e)) in
+      rw e (omega (arith, utf8-short (referred (body bs)))))
+      (λ e. rw e (omega arith))
+
+pub resolved-within : (bs : List ℕ) (k at : ℕ) (r : List ℕ) → resolveFrom k at bs ≡ ok r → length r ≤ length bs - k
+unfolding resolveFrom
+resolved-within [] zero at r h = omega (arith, ap length (ok-path [] r h))
+resolved-within [] (suc k) at r h = omega (arith, ap length (ok-path [] r h))
+resolved-within (b ∷ bs) (suc k) at r h = omega (arith, resolved-within bs k (suc at) r h)
+resolved-within (b ∷ bs) zero at r h =
+    let (g, f) = need-ok (isGood b bs) 23 at _ r h in
+    let (s, e, q) = bind-ok (resolveFrom (more b bs) (suc at) bs) _ r f in
+    omega (arith, resolved-within bs (more b bs) (suc at) s e, gives-within b bs g, more-within b bs g, ap length (ok-path (gives b bs ++ s) r q), length-append (gives b bs) s)
