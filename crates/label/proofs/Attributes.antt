@@ -14,7 +14,7 @@ use Rattle.label.specs.Outcome.{Outcome, ok, no, need, _>>=_, _>>_}
 use Rattle.label.specs.Bytes.{ascii, cut}
 use Rattle.label.specs.Text.{xmlChar}
 use Rattle.label.specs.Write.{utf8}
-use Rattle.label.specs.Attribute.{same, named, digitValue, allOf, valueBehind, numbered, referred, body, isReference, isGood, spaced, gives, more, resolveFrom, resolve, escapeByte, escape}
+use Rattle.label.specs.Attribute.{same, named, digitValue, allOf, valueBehind, numbered, referred, body, isClosed, isReference, isGood, spaced, gives, more, resolveFrom, resolve, escapeByte, escape}
 use Rattle.label.proofs.Basics.{and-l, and-r, clash, cases, need-ok, bind-ok}
 use Rattle.label.proofs.Texts.{utf8-short}
 use Rattle.label.proofs.Walks.{ok-path}
@@ -32,11 +32,11 @@ abbrev Restores : List ℕ → ℕ → Type 0
 Restores w b = (at : ℕ) (x : List ℕ) → resolveFrom 0 at (w ++ x) ≡ onto (b ∷ []) (resolveFrom 0 (past w at) x)
 
 names : Restores (ascii "&amp;") 38 × Restores (ascii "&lt;") 60 × Restores (ascii "&quot;") 34
-unfolding resolveFrom isGood isReference more gives referred named same cut ascii xmlChar utf8
+unfolding resolveFrom isGood isReference body isClosed more gives referred named same cut ascii xmlChar utf8
 names = (λ at x. refl, λ at x. refl, λ at x. refl)
 
 numbers : Restores (ascii "&#9;") 9 × Restores (ascii "&#10;") 10 × Restores (ascii "&#13;") 13
-unfolding resolveFrom isGood isReference more gives referred numbered allOf digitValue valueBehind cut ascii xmlChar utf8
+unfolding resolveFrom isGood isReference body isClosed more gives referred numbered allOf digitValue valueBehind cut ascii xmlChar utf8
 numbers = (λ at x. refl, λ at x. refl, λ at x. refl)
 
 -- a byte that is not escaped stands for itself
@@ -92,12 +92,36 @@ module _ (s : List ℕ) (i : ℕ) where
   unfolding resolveFrom
   resolve-end h = rw (drop-of-length-le s h)
 
+-- ── what stands up to the first `;`, byte by byte ──
+
+pub closed-none : isClosed [] ≡ false
+unfolding isClosed cut
+closed-none = refl
+
+module _ (b : ℕ) (t : List ℕ) where
+  pub closed-here : eqb b 59 ≡ true → isClosed (b ∷ t) ≡ true
+  unfolding isClosed cut
+  closed-here e = rw (e, isClosed)
+
+  pub body-here : eqb b 59 ≡ true → body (b ∷ t) ≡ []
+  unfolding body cut
+  body-here e = rw (e, body)
+
+  pub closed-further : eqb b 59 ≡ false → isClosed (b ∷ t) ≡ isClosed t
+  unfolding isClosed cut
+  closed-further e = rw (e, isClosed)
+
+  pub body-further : eqb b 59 ≡ false → body (b ∷ t) ≡ b ∷ body t
+  unfolding body cut
+  body-further e = rw (e, body)
+
 -- ── how long the result is ──
 
-pub cut-within : (t : ℕ → Bool) (s : List ℕ) → cut t s .found ≡ true → length (cut t s .before) < length s
-unfolding cut
-cut-within t [] h = clash false h refl
-cut-within t (b ∷ s) h = cases (t b) (λ e. rw e (omega arith)) (λ e. rw e (omega (arith, cut-within t s (rw e at h))))
+pub closed-within : (s : List ℕ) → isClosed s ≡ true → length (body s) < length s
+closed-within [] h = clash (isClosed []) h closed-none
+closed-within (b ∷ s) h =
+    cases (eqb b 59) (λ e. rw (body-here b s e) (omega arith))
+    (λ e. rw (body-further b s e) (omega (arith, closed-within s (rw (closed-further b s e) at h))))
 
 -- a reference has two bytes or more between `&` and `;`
 one-byte : (b : ℕ) → referred (b ∷ []) ≡ 0
@@ -121,12 +145,9 @@ module _ (b : ℕ) (bs : List ℕ) (g : isGood b bs ≡ true) where
   unfolding more isReference
   more-within =
       cases (eqb b 38)
-      (λ e. rw e (cut-within isEnd bs (and-l (cut isEnd bs .found) (xmlChar (referred (body bs))) (reference-is e))))
+      (λ e. rw e (closed-within bs (and-l (isClosed bs) (xmlChar (referred (body bs))) (reference-is e))))
       (λ e. rw e (cases (eqb b 13 && eqb (getD bs 0 0) 10) (λ k. rw k (some bs (eqb-true (getD bs 0 0) 10 (and-r (eqb b 13) (eqb (getD bs 0 0) 10) k)))) (λ k. rw k (omega arith))))
     where
-      isEnd : ℕ → Bool
-      isEnd x = eqb x 59
-
       some : (x : List ℕ) → getD x 0 0 ≡ 10 → 1 ≤ length x
       some [] k = omega arith
       some (y ∷ x) k = omega arith
@@ -135,7 +156,7 @@ module _ (b : ℕ) (bs : List ℕ) (g : isGood b bs ≡ true) where
   unfolding gives more isReference
   gives-within =
       cases (eqb b 38)
-      (λ e. let l = referred-long (body bs) (and-r (cut (λ x. eqb x 59) bs .found) (xmlChar (referred (body bs))) (reference-is e)) in
+      (λ e. let l = referred-long (body bs) (and-r (isClosed bs) (xmlChar (referred (body bs))) (reference-is e)) in
       rw e (omega (arith, utf8-short (referred (body bs)))))
       (λ e. rw e (omega arith))
 

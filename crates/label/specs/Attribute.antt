@@ -53,13 +53,16 @@ referred s =
     (cond (eqb (getD s 1 0) 120) (numbered 16 (drop 2 s)) (numbered 10 (drop 1 s)))
     (named s)
 
--- what stands behind a `&`, up to the first `;`
-abbrev pub body : List ℕ → List ℕ
+-- what stands behind a `&`, up to the first `;`, and whether there is one
+unfoldable pub body : List ℕ → List ℕ
 body bs = cut (λ b. eqb b 59) bs .before
+
+unfoldable pub isClosed : List ℕ → Bool
+isClosed bs = cut (λ b. eqb b 59) bs .found
 
 -- a reference stands behind a `&`: it ends with `;`, and its character is a Char (XML 1.0, 4.1, "Legal Character")
 unfoldable pub isReference : List ℕ → Bool
-isReference bs = cut (λ b. eqb b 59) bs .found && xmlChar (referred (body bs))
+isReference bs = isClosed bs && xmlChar (referred (body bs))
 
 -- ── resolving ──
 

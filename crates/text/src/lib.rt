@@ -18,7 +18,7 @@ use label::Row;
 // ── bytes ──
 
 // A byte, or 0 past the end.
-fn byte_or_zero(s: &[u8], i: usize) -> u8
+pub fn byte_or_zero(s: &[u8], i: usize) -> u8
     ensures { λ r. ⌜ r ≡ getD (now (s .entry)) i 0 ⌝ }
 {
     if i < s.len() { s[i] } else { 0 }
@@ -27,7 +27,7 @@ fn byte_or_zero(s: &[u8], i: usize) -> u8
 // ── Table 3-7 ──
 
 // lo <= b <= hi
-fn is_within(lo: u8, hi: u8, b: u8) -> bool
+pub fn is_within(lo: u8, hi: u8, b: u8) -> bool
     ensures { λ r. ⌜ r ≡ within lo hi b ⌝ }
 {
     words::both(lo <= b, b <= hi)

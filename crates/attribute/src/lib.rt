@@ -1,0 +1,156 @@
+// Raw XML attribute values: references resolved and white space replaced, as XML 1.0 says.
+ghost use mathlib.Core.Path.{_≡_};
+ghost use Prim.Native.Nat.{_+_, _*_, _≤_, _<_, min};
+ghost use lib.ListN.{length, drop};
+ghost use Rattle.label.specs.Attribute.{named, digitValue, numbered, referred};
+ghost use Rattle.attribute.specs.References.{beyond, numberAt, begins, referenceBy};
+
+// ── references ──
+
+// The character that a reference stands for and the place behind its `;`; or no reference.
+enum Reference {
+    To { code: u32, next: usize },
+    Bad,
+}
+
+// A digit of base ten or sixteen as a number; 16 for any other byte.
+fn digit_value(b: u8) -> u32
+    ensures { λ r. ⌜ r ≡ digitValue b ⌝ }
+    ensures bounds { λ r. ⌜ r ≤ 16 ⌝ }
+{
+    if text::is_within(48, 57, b) {
+        return words::wide(b) - 48;
+    }
+    if text::is_within(97, 102, b) {
+        return words::wide(b) - 87;
+    }
+    if text::is_within(65, 70, b) {
+        return words::wide(b) - 55;
+    }
+    16
+}
+
+// The first number behind every character, where numbers are cut: it is no character, and no digit more makes it one.
+const BEYOND: u32 = 0x110000;
+
+// One more digit of the base behind n.
+fn with_digit(n: u32, base: u32, d: u32) -> u32
+    requires { ⌜ (n ≤ beyond) × (base ≤ 16) × (d ≤ 16) ⌝ }
+    ensures { λ r. ⌜ r ≡ min (n * base + d) beyond ⌝ }
+{
+    let m = n * base + d;
+    if m < BEYOND { m } else { BEYOND }
+}
+
+// The digits at a place: their value, cut, and the place behind them.
+struct Number {
+    value: u32,
+    end: usize,
+}
+
+fn number_at(s: &[u8], at: usize, base: u32) -> Number
+    requires { ⌜ (at ≤ length (now s)) × (1 ≤ base) × (base ≤ 16) ⌝ }
+    ensures { λ r. ⌜ r ≡ numberAt base (now (s .entry)) at ⌝ }
+    ensures bounds { λ r. ⌜ (at ≤ r .end) × (r .end ≤ length (now (s .entry))) ⌝ }
+{
+    let mut n = 0;
+    let mut i = at;
+    while i < s.len() {
+        let d = digit_value(s[i]);
+        if base <= d {
+            return Number { value: n, end: i };
+        }
+        n = with_digit(n, base, d);
+        i += 1;
+    }
+    Number { value: n, end: i }
+}
+
+// The reference whose digits stand at a place. Without digits the value is 0, which is no character.
+fn numbered_at(s: &[u8], at: usize, base: u32) -> Reference
+    requires { ⌜ (at ≤ length (now s)) × (1 ≤ base) × (base ≤ 16) ⌝ }
+    ensures { λ r. ⌜ r ≡ referenceBy (numbered base) (now (s .entry)) at ⌝ }
+{
+    let n = number_at(s, at, base);
+    let end = n.end;
+    if text::byte_or_zero(s, end) != 59 {
+        return Reference::Bad;
+    }
+    if !text::is_xml(n.value) {
+        return Reference::Bad;
+    }
+    Reference::To {
+        code: n.value,
+        next: end + 1,
+    }
+}
+
+// Whether the bytes w stand at a place.
+fn stands_at(s: &[u8], at: usize, w: &[u8]) -> bool
+    requires { ⌜ at ≤ length (now s) ⌝ }
+    ensures { λ r. ⌜ r ≡ begins (now (w .entry)) (drop at (now (s .entry))) ⌝ }
+{
+    let mut i = 0;
+    while i < w.len() {
+        if s.len() - at <= i {
+            return false;
+        }
+        if s[at + i] != w[i] {
+            return false;
+        }
+        i += 1;
+    }
+    true
+}
+
+// The reference whose name stands at a place.
+fn named_at(s: &[u8], at: usize) -> Reference
+    requires { ⌜ at ≤ length (now s) ⌝ }
+    ensures { λ r. ⌜ r ≡ referenceBy named (now (s .entry)) at ⌝ }
+{
+    if stands_at(s, at, b"amp;") {
+        return Reference::To {
+            code: 38,
+            next: at + 4,
+        };
+    }
+    if stands_at(s, at, b"lt;") {
+        return Reference::To {
+            code: 60,
+            next: at + 3,
+        };
+    }
+    if stands_at(s, at, b"gt;") {
+        return Reference::To {
+            code: 62,
+            next: at + 3,
+        };
+    }
+    if stands_at(s, at, b"quot;") {
+        return Reference::To {
+            code: 34,
+            next: at + 5,
+        };
+    }
+    if stands_at(s, at, b"apos;") {
+        return Reference::To {
+            code: 39,
+            next: at + 5,
+        };
+    }
+    Reference::Bad
+}
+
+// The reference whose `&` stands before a place.
+fn reference_at(s: &[u8], at: usize) -> Reference
+    requires { ⌜ at ≤ length (now s) ⌝ }
+    ensures { λ r. ⌜ r ≡ referenceBy referred (now (s .entry)) at ⌝ }
+{
+    if text::byte_or_zero(s, at) != 35 {
+        return named_at(s, at);
+    }
+    if text::byte_or_zero(s, at + 1) != 120 {
+        return numbered_at(s, at + 1, 10);
+    }
+    numbered_at(s, at + 2, 16)
+}
