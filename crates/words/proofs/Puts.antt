@@ -1,11 +1,12 @@
 -- Bytes stored from a place on: one store, one behind another, none; and the laws of a loop that stores. Assumes nothing.
 use mathlib.Core.Path.{_≡_, refl, sym, ap, _∙_, subst}
 use mathlib.Core.List.{List, [], _∷_, _++_}
-use Prim.Native.Nat.{ℕ, suc, _+_, _≤_}
+use Prim.Native.Nat.{ℕ, suc, _+_, _<_, _≤_}
 use native.Mathlib.Nat.{add-zero}
+use native.Mathlib.Numerals.{add-one}
 use native.Mathlib.Omega.{arith}
-use lib.ListN.{length, drop, set, length-append}
-use lib.Seq.{sets-eq, length-sets, set-out}
+use lib.ListN.{length, getD, drop, set, length-append}
+use lib.Seq.{sets-eq, length-sets, set-out, drop-cons}
 use Rattle.words.specs.Puts.{puts, Put}
 
 puts-append : (l : List ℕ) (i : ℕ) (x y : List ℕ) → puts (puts l i x) (i + length x) y ≡ puts l i (x ++ y)
@@ -78,3 +79,7 @@ left-end {old} {whole} {l} {from} {at} f = record { behind = omega (arith, f .co
 
 pub left-as : {old whole l x y : List ℕ} {from at : ℕ} → x ≡ y → Left old whole l from at x → Left old whole l from at y
 left-as {old} {whole} {l} {x} {y} {from} {at} e f = subst (λ (w : List ℕ). Left old whole l from at w) e f
+
+-- bytes of a list, from a place on
+pub byte-next : (s : List ℕ) (i : ℕ) → i < length s → drop i s ≡ (getD s i 0 ∷ []) ++ drop (i + 1) s
+byte-next s i h = rw (add-one, drop-cons s i 0)

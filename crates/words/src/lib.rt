@@ -254,7 +254,7 @@ pub fn unpack_numbers(src: &[u8], out: &mut [i32])
 
 // Stores a byte where there is such a place, and returns the place behind it: where `out` ends, storing only counts.
 pub fn put_byte(out: &mut [u8], at: usize, b: u8) -> usize
-    requires { ⌜ at < 1152921504606846976 ⌝ }
+    requires { ⌜ at < 18446744073709551615 ⌝ }
     ensures { λ r. ⌜ Put (now (out .entry)) at (b ∷ []) r (now (out .exit)) ⌝ }
     ensures bounds { λ r. ⌜ r ≡ at + 1 ⌝ }
 {
@@ -263,4 +263,19 @@ pub fn put_byte(out: &mut [u8], at: usize, b: u8) -> usize
     }
     out[at] = b;
     at + 1
+}
+
+// The bytes of s from `at` on, each where there is such a place; the place behind them.
+pub fn put_bytes(out: &mut [u8], at: usize, s: &[u8]) -> usize
+    requires { ⌜ at + length (now s) < 18446744073709551616 ⌝ }
+    ensures { λ r. ⌜ Put (now (out .entry)) at (now (s .entry)) r (now (out .exit)) ⌝ }
+    ensures bounds { λ r. ⌜ r ≡ at + length (now (s .entry)) ⌝ }
+{
+    let mut p = at;
+    let mut i = 0;
+    while i < s.len() {
+        p = put_byte(out, p, s[i]);
+        i += 1;
+    }
+    p
 }

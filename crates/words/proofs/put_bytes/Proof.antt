@@ -1,0 +1,54 @@
+-- `words::put_bytes` meets its contract. Assumes nothing.
+use Rattle.words.proofs.Puts.{Left, left-start, left-next, left-as, left-end, byte-next}
+use lib.ListN.{length, drop, drop-of-length-le}
+use borrow.Author.Needs.{needs}
+use mathlib.Core.Path.{_≡_}
+use native.Mathlib.Omega.{arith}
+use Prim.Native.Nat.{_+_, _-_, _≤_}
+use Rattle.words.proofs.put_bytes.Statement.{statement}
+use Rattle.words.proofs.put_bytes.Tie as tie
+
+abbrev Inv-loop : tie.InvT-loop
+Inv-loop out₀ at s p₀ i₀ out p i = Left out₀ s out at p (drop i s) × (p ≡ at + i) × (i ≤ length s)
+
+abbrev μ-loop : tie.MeasureT-loop
+μ-loop out₀ at s p₀ i₀ out p i = length s - i
+
+loop-holds : tie.Need-loop-holds Inv-loop μ-loop
+loop-holds c = (left-start, omega arith, omega arith)
+
+shared-slice-read-put-byte : tie.Need-shared-slice-read-put-byte Inv-loop μ-loop
+shared-slice-read-put-byte c = search needs
+
+put-byte-requires : tie.Need-put-byte-requires Inv-loop μ-loop
+put-byte-requires c κs = search needs
+
+add-i : tie.Need-add-i Inv-loop μ-loop
+add-i c = search needs
+
+loop-less : tie.Need-loop-less Inv-loop μ-loop
+loop-less c = search needs
+
+loop-again : tie.Need-loop-again Inv-loop μ-loop
+loop-again c = (left-next (left-as (byte-next (c .before .before .before .before .before .before .before .before .before .args .s .now) (c .before .before .before .before .before .before .loop .i) (c .before .before .before .before .before .loop-test .taken)) (c .before .before .before .before .before .before .loop .inv .0)) (c .before .before .put-byte .ensures .0), omega arith, omega arith)
+
+same-length : tie.Need-same-length Inv-loop μ-loop
+same-length c = c .before .loop .inv .0 .same
+
+returns : tie.Need-returns Inv-loop μ-loop
+returns c = (left-end (left-as (drop-of-length-le (c .before .before .before .before .args .s .now) (c .loop-test .left)) (c .before .loop .inv .0)), omega arith)
+
+pub put-bytes-spec : {M : Type 1} → statement M
+put-bytes-spec =
+    tie.close
+    (tie.spec
+    Inv-loop
+    μ-loop
+    loop-holds
+    shared-slice-read-put-byte
+    put-byte-requires
+    add-i
+    loop-less
+    loop-again
+    same-length
+    returns)
