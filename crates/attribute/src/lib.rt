@@ -2,8 +2,12 @@
 ghost use mathlib.Core.Path.{_≡_};
 ghost use Prim.Native.Nat.{_+_, _*_, _≤_, _<_, min};
 ghost use lib.ListN.{length, drop};
-ghost use Rattle.label.specs.Attribute.{named, digitValue, numbered, referred};
+ghost use Rattle.label.specs.Attribute.{named, digitValue, numbered, referred, spaced};
+ghost use Rattle.label.specs.Calls.{refusal, resolvingOutcome, resolveInto, filledCount, filledAfter};
 ghost use Rattle.attribute.specs.References.{beyond, numberAt, begins, referenceBy};
+ghost use Rattle.attribute.specs.Stores.{widthAt, Stores};
+use label::Refusal;
+use label::Resolving;
 
 // ── references ──
 
@@ -153,4 +157,92 @@ fn reference_at(s: &[u8], at: usize) -> Reference
         return numbered_at(s, at + 1, 10);
     }
     numbered_at(s, at + 2, 16)
+}
+
+// ── raw values ──
+
+// A raw tab, line feed or carriage return becomes a space.
+fn spaced_byte(b: u8) -> u8
+    ensures { λ r. ⌜ r ≡ spaced b ⌝ }
+{
+    if words::either(words::either(b == 9, b == 10), b == 13) {
+        return 32;
+    }
+    b
+}
+
+// How many bytes become one byte at a place: a carriage return with its line feed are two, any other is one.
+fn width_at(s: &[u8], at: usize) -> usize
+    requires { ⌜ at < length (now s) ⌝ }
+    ensures { λ r. ⌜ r ≡ widthAt (now (s .entry)) at ⌝ }
+    ensures bounds { λ r. ⌜ (1 ≤ r) × (r ≤ 2) ⌝ }
+{
+    if s[at] != 13 {
+        return 1;
+    }
+    if text::byte_or_zero(s, at + 1) != 10 {
+        return 1;
+    }
+    2
+}
+
+// How many bytes came out, or the place of a bad reference or a raw `<`.
+enum Stored {
+    Bytes(usize),
+    Bad(usize),
+}
+
+// Stores what the raw value resolves to from the start of `out`, as far as there is room, and counts it.
+fn put_resolved(out: &mut [u8], raw: &[u8]) -> Stored
+    ensures { λ r. ⌜ Stores (now (raw .entry)) (now (out .entry)) r (now (out .exit)) ⌝ }
+{
+    let mut n = 0;
+    let mut i = 0;
+    while i < raw.len() {
+        let b = raw[i];
+        if b == 60 {
+            return Stored::Bad(i);
+        }
+        if b != 38 {
+            n = words::put_byte(out, n, spaced_byte(b));
+            i += width_at(raw, i);
+            continue;
+        }
+        match reference_at(raw, i + 1) {
+            Reference::To { code, next } => {
+                n = text_bytes::put_utf8(out, n, code);
+                i = next;
+            }
+            Reference::Bad => {
+                return Stored::Bad(i);
+            }
+        }
+    }
+    Stored::Bytes(n)
+}
+
+// ── the call ──
+
+fn refused(number: usize, place: usize) -> Resolving
+    ensures { λ r. ⌜ r ≡ Resolving.Refused (refusal number place) ⌝ }
+{
+    Resolving::Refused(Refusal { number, place })
+}
+
+// One raw attribute value resolved into `out`, where it has room: a first pass judges and measures, a second one stores.
+pub fn resolve(raw: &[u8], out: &mut [u8]) -> Resolving
+    ensures result { λ r. ⌜ resolvingOutcome r ≡ filledCount (resolveInto (length (now (out .entry))) (now (raw .entry))) ⌝ }
+    ensures out { λ r. ⌜ now (out .exit) ≡ filledAfter (resolveInto (length (now (out .entry))) (now (raw .entry))) (now (out .entry)) ⌝ }
+{
+    let mut none = [0u8; 1];
+    match put_resolved(&mut none, raw) {
+        Stored::Bad(place) => refused(23, place),
+        Stored::Bytes(n) => {
+            if out.len() < n {
+                return refused(24, n);
+            }
+            put_resolved(out, raw);
+            Resolving::Resolved(n)
+        }
+    }
 }

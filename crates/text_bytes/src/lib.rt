@@ -76,8 +76,8 @@ fn tail_byte(c: u32) -> u8
     (128 + c % 64) as u8
 }
 
-fn put_utf8(out: &mut [u8], at: usize, c: u32) -> usize
-    requires { ⌜ (at < 1152921504606840000) × (c < 2097152) ⌝ }
+pub fn put_utf8(out: &mut [u8], at: usize, c: u32) -> usize
+    requires { ⌜ (at < 9223372036854775808) × (c < 2097152) ⌝ }
     ensures { λ r. ⌜ Put (now (out .entry)) at (utf8 c) r (now (out .exit)) ⌝ }
     ensures bounds { λ r. ⌜ r ≤ at + 4 ⌝ }
 {

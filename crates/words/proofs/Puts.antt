@@ -16,7 +16,7 @@ puts-append l i (a ∷ x) y =
     let e : i + suc (length x) ≡ suc i + length x = omega arith in
     rw e (puts-append (set l i a) (suc i) x y)
 
-puts-length : (l : List ℕ) (i : ℕ) (w : List ℕ) → length (puts l i w) ≡ length l
+pub puts-length : (l : List ℕ) (i : ℕ) (w : List ℕ) → length (puts l i w) ≡ length l
 unfolding puts
 puts-length l i w = length-sets l i w
 

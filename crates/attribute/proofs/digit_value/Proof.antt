@@ -1,3 +1,4 @@
+-- `attribute::digit_value` meets its contract. Assumes nothing.
 use Rattle.label.specs.Attribute.{digitValue}
 use Rattle.label.proofs.Texts.{within-lo, within-hi}
 use mathlib.Core.Path.{sym, _∙_}
@@ -5,63 +6,46 @@ use native.Mathlib.Omega.{arith}
 use borrow.Author.Needs.{needs}
 use Rattle.attribute.proofs.digit_value.Statement.{statement}
 use Rattle.attribute.proofs.digit_value.Tie as tie
-use Rattle.attribute.proofs.digit_value.Reads as reads
-use Rattle.attribute.proofs.digit_value.Lts as lts
-use Rattle.text.proofs.is_within.Reads as is-within-reads
-use Rattle.words.proofs.wide.Reads as wide-reads
 
--- src/lib.rt:21:8
 is-within-requires : tie.Need-is-within-requires
 is-within-requires c κs = search needs
 
--- src/lib.rt:22:16
 wide-requires : tie.Need-wide-requires
 wide-requires c κs = search needs
 
--- src/lib.rt:22:16
 sub-result : tie.Need-sub-result
 sub-result c = let h = within-lo 48 57 (c .before .before .before .args .b) (sym (c .before .before .is-within .ensures) ∙ c .before .if1 .taken) in omega arith
 
--- src/lib.rt:22:9
 returns : tie.Need-returns
 unfolding digitValue
 returns c = let e = sym (c .before .before .is-within .ensures) ∙ c .before .if1 .taken in let h = within-hi 48 57 (c .before .before .before .args .b) e in (rw e (omega arith), omega arith)
 
--- src/lib.rt:24:8
 is-within-requires-2 : tie.Need-is-within-requires-2
 is-within-requires-2 c κs = search needs
 
--- src/lib.rt:25:16
 wide-requires-2 : tie.Need-wide-requires-2
 wide-requires-2 c κs = search needs
 
--- src/lib.rt:25:16
 sub-result-2 : tie.Need-sub-result-2
 sub-result-2 c = let h = within-lo 97 102 (c .before .before .before .before .before .args .b) (sym (c .before .before .is-within2 .ensures) ∙ c .before .if2 .taken) in omega arith
 
--- src/lib.rt:25:9
 returns-2 : tie.Need-returns-2
 unfolding digitValue
 returns-2 c = let e = sym (c .before .before .is-within2 .ensures) ∙ c .before .if2 .taken in let h = within-hi 97 102 (c .before .before .before .before .before .args .b) e in (rw (sym (c .before .before .before .before .is-within .ensures) ∙ c .before .before .before .if1 .left, e) (omega arith), omega arith)
 
--- src/lib.rt:27:8
 is-within-requires-3 : tie.Need-is-within-requires-3
 is-within-requires-3 c κs = search needs
 
--- src/lib.rt:28:16
 wide-requires-3 : tie.Need-wide-requires-3
 wide-requires-3 c κs = search needs
 
--- src/lib.rt:28:16
 sub-result-3 : tie.Need-sub-result-3
 sub-result-3 c = let h = within-lo 65 70 (c .before .before .before .before .before .before .before .args .b) (sym (c .before .before .is-within3 .ensures) ∙ c .before .if3 .taken) in omega arith
 
--- src/lib.rt:28:9
 returns-3 : tie.Need-returns-3
 unfolding digitValue
 returns-3 c = let e = sym (c .before .before .is-within3 .ensures) ∙ c .before .if3 .taken in let h = within-hi 65 70 (c .before .before .before .before .before .before .before .args .b) e in (rw (sym (c .before .before .before .before .before .before .is-within .ensures) ∙ c .before .before .before .before .before .if1 .left, sym (c .before .before .before .before .is-within2 .ensures) ∙ c .before .before .before .if2 .left, e) (omega arith), omega arith)
 
--- src/lib.rt:17:1
 returns-4 : tie.Need-returns-4
 unfolding digitValue
 returns-4 c = (rw (sym (c .before .before .before .before .before .is-within .ensures) ∙ c .before .before .before .before .if1 .left, sym (c .before .before .before .is-within2 .ensures) ∙ c .before .before .if2 .left, sym (c .before .is-within3 .ensures) ∙ c .if3 .left), omega arith)

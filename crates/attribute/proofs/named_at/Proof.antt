@@ -1,3 +1,4 @@
+-- `attribute::named_at` meets its contract. Assumes nothing.
 use Rattle.attribute.proofs.Names.{hit, missed, names}
 use Rattle.label.specs.Text.{xmlChar}
 use Rattle.label.specs.Bytes.{ascii}
@@ -5,96 +6,72 @@ use mathlib.Core.Path.{refl}
 use borrow.Author.Needs.{needs}
 use Rattle.attribute.proofs.named_at.Statement.{statement}
 use Rattle.attribute.proofs.named_at.Tie as tie
-use Rattle.attribute.proofs.named_at.Reads as reads
-use Rattle.attribute.proofs.named_at.Lts as lts
-use Rattle.attribute.proofs.stands_at.Reads as stands-at-reads
 
--- src/lib.rt:111:25
 slice-aggregate-stands-at : tie.Need-slice-aggregate-stands-at
 slice-aggregate-stands-at c = search needs
 
--- src/lib.rt:111:8
 stands-at-requires : tie.Need-stands-at-requires
 stands-at-requires c κs = search needs
 
--- src/lib.rt:112:48
 add-t11 : tie.Need-add-t11
 add-t11 c = search needs
 
--- src/lib.rt:112:9
 returns : tie.Need-returns
 unfolding ascii xmlChar
 returns c = hit _ _ (ascii "amp") refl (c .before .stands-at .ensures) 38 (names .0) refl (c .if1 .taken)
 
--- src/lib.rt:114:25
 slice-aggregate-stands-at-2 : tie.Need-slice-aggregate-stands-at-2
 slice-aggregate-stands-at-2 c = search needs
 
--- src/lib.rt:114:8
 stands-at-requires-2 : tie.Need-stands-at-requires-2
 stands-at-requires-2 c κs = search needs
 
--- src/lib.rt:115:48
 add-t15 : tie.Need-add-t15
 add-t15 c = search needs
 
--- src/lib.rt:115:9
 returns-2 : tie.Need-returns-2
 unfolding ascii xmlChar
 returns-2 c = hit _ _ (ascii "lt") refl (c .before .stands-at2 .ensures) 60 (names .1) refl (c .if2 .taken)
 
--- src/lib.rt:117:25
 slice-aggregate-stands-at-3 : tie.Need-slice-aggregate-stands-at-3
 slice-aggregate-stands-at-3 c = search needs
 
--- src/lib.rt:117:8
 stands-at-requires-3 : tie.Need-stands-at-requires-3
 stands-at-requires-3 c κs = search needs
 
--- src/lib.rt:118:48
 add-t19 : tie.Need-add-t19
 add-t19 c = search needs
 
--- src/lib.rt:118:9
 returns-3 : tie.Need-returns-3
 unfolding ascii xmlChar
 returns-3 c = hit _ _ (ascii "gt") refl (c .before .stands-at3 .ensures) 62 (names .2) refl (c .if3 .taken)
 
--- src/lib.rt:120:25
 slice-aggregate-stands-at-4 : tie.Need-slice-aggregate-stands-at-4
 slice-aggregate-stands-at-4 c = search needs
 
--- src/lib.rt:120:8
 stands-at-requires-4 : tie.Need-stands-at-requires-4
 stands-at-requires-4 c κs = search needs
 
--- src/lib.rt:121:48
 add-t23 : tie.Need-add-t23
 add-t23 c = search needs
 
--- src/lib.rt:121:9
 returns-4 : tie.Need-returns-4
 unfolding ascii xmlChar
 returns-4 c = hit _ _ (ascii "quot") refl (c .before .stands-at4 .ensures) 34 (names .3) refl (c .if4 .taken)
 
--- src/lib.rt:123:25
 slice-aggregate-stands-at-5 : tie.Need-slice-aggregate-stands-at-5
 slice-aggregate-stands-at-5 c = search needs
 
--- src/lib.rt:123:8
 stands-at-requires-5 : tie.Need-stands-at-requires-5
 stands-at-requires-5 c κs = search needs
 
--- src/lib.rt:124:48
 add-t27 : tie.Need-add-t27
 add-t27 c = search needs
 
--- src/lib.rt:124:9
 returns-5 : tie.Need-returns-5
 unfolding ascii xmlChar
 returns-5 c = hit _ _ (ascii "apos") refl (c .before .stands-at5 .ensures) 39 (names .4) refl (c .if5 .taken)
 
--- src/lib.rt:107:1
 returns-6 : tie.Need-returns-6
 unfolding ascii
 returns-6 c = missed _ _ (c .before .before .before .before .before .before .before .before .before .before .before .before .before .stands-at .ensures) (c .before .before .before .before .before .before .before .before .before .before .stands-at2 .ensures) (c .before .before .before .before .before .before .before .stands-at3 .ensures) (c .before .before .before .before .stands-at4 .ensures) (c .before .stands-at5 .ensures) (c .before .before .before .before .before .before .before .before .before .before .before .before .if1 .left) (c .before .before .before .before .before .before .before .before .before .if2 .left) (c .before .before .before .before .before .before .if3 .left) (c .before .before .before .if4 .left) (c .if5 .left)

@@ -1,3 +1,4 @@
+-- `attribute::number_at` meets its contract. Assumes nothing.
 use Rattle.attribute.proofs.Digits.{Scanned, scan-start, scan-step, scan-other, scan-end}
 use lib.ListN.{length}
 use Prim.Native.Nat.{_-_}
@@ -5,10 +6,6 @@ use borrow.Author.Needs.{needs}
 use native.Mathlib.Omega.{arith}
 use Rattle.attribute.proofs.number_at.Statement.{statement}
 use Rattle.attribute.proofs.number_at.Tie as tie
-use Rattle.attribute.proofs.number_at.Reads as reads
-use Rattle.attribute.proofs.number_at.Lts as lts
-use Rattle.attribute.proofs.digit_value.Reads as digit-value-reads
-use Rattle.attribute.proofs.with_digit.Reads as with-digit-reads
 
 abbrev Inv-loop : tie.InvT-loop
 Inv-loop s at base n₀ i₀ n i = Scanned base s at i n
@@ -16,39 +13,30 @@ Inv-loop s at base n₀ i₀ n i = Scanned base s at i n
 abbrev μ-loop : tie.MeasureT-loop
 μ-loop s at base n₀ i₀ n i = length s - i
 
--- src/lib.rt:58:5
 loop-holds : tie.Need-loop-holds Inv-loop μ-loop
 loop-holds c = scan-start _ _ _ (c .before .pre .0)
 
--- src/lib.rt:59:29
 shared-slice-read-digit-value : tie.Need-shared-slice-read-digit-value Inv-loop μ-loop
 shared-slice-read-digit-value c = omega arith
 
--- src/lib.rt:59:13
 digit-value-requires : tie.Need-digit-value-requires Inv-loop μ-loop
 digit-value-requires c κs = search needs
 
--- src/lib.rt:61:13
 returns : tie.Need-returns Inv-loop μ-loop
 returns c = (scan-other (c .before .before .before .before .loop .inv) (c .before .digit-value .ensures .0) (c .before .before .before .loop-test .taken) (c .if1 .taken), (c .before .before .before .before .loop .inv .from, c .before .before .before .before .loop .inv .within))
 
--- src/lib.rt:63:9
 with-digit-requires : tie.Need-with-digit-requires Inv-loop μ-loop
 with-digit-requires c κs = (omega arith, omega arith, omega arith)
 
--- src/lib.rt:64:9
 add-i : tie.Need-add-i Inv-loop μ-loop
 add-i c = omega arith
 
--- src/lib.rt:58:5
 loop-less : tie.Need-loop-less Inv-loop μ-loop
 loop-less c = omega arith
 
--- src/lib.rt:58:5
 loop-again : tie.Need-loop-again Inv-loop μ-loop
 loop-again c = scan-step (c .before .before .before .before .before .loop .inv) (c .before .before .digit-value .ensures .0) (c .with-digit .ensures) (c .before .before .before .before .before .before .before .pre .1) (c .before .before .before .before .loop-test .taken) (c .before .if1 .left)
 
--- src/lib.rt:51:1
 returns-2 : tie.Need-returns-2 Inv-loop μ-loop
 returns-2 c = (scan-end (c .before .loop .inv) (c .loop-test .left), (c .before .loop .inv .from, c .before .loop .inv .within))
 

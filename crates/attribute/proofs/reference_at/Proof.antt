@@ -1,56 +1,41 @@
+-- `attribute::reference_at` meets its contract. Assumes nothing.
 use Rattle.attribute.proofs.Joins.{behind-in, by-name, by-ten, by-sixteen}
 use mathlib.Core.Path.{refl, _∙_}
 use native.Mathlib.Omega.{arith}
 use borrow.Author.Needs.{needs}
 use Rattle.attribute.proofs.reference_at.Statement.{statement}
 use Rattle.attribute.proofs.reference_at.Tie as tie
-use Rattle.attribute.proofs.reference_at.Reads as reads
-use Rattle.attribute.proofs.reference_at.Lts as lts
-use Rattle.attribute.proofs.named_at.Reads as named-at-reads
-use Rattle.attribute.proofs.numbered_at.Reads as numbered-at-reads
-use Rattle.text.proofs.byte_or_zero.Reads as byte-or-zero-reads
 
--- src/lib.rt:134:8
 byte-or-zero-requires : tie.Need-byte-or-zero-requires
 byte-or-zero-requires c κs = search needs
 
--- src/lib.rt:135:9
 named-at-requires : tie.Need-named-at-requires
 named-at-requires c κs = search needs
 
--- src/lib.rt:135:9
 returns : tie.Need-returns
 returns c = c .named-at .ensures ∙ by-name _ _ (c .before .before .byte-or-zero .ensures) (c .before .if1 .taken)
 
--- src/lib.rt:137:30
 add-byte-or-zero : tie.Need-add-byte-or-zero
 add-byte-or-zero c = search needs
 
--- src/lib.rt:137:8
 byte-or-zero-requires-2 : tie.Need-byte-or-zero-requires-2
 byte-or-zero-requires-2 c κs = search needs
 
--- src/lib.rt:138:31
 add-numbered-at : tie.Need-add-numbered-at
 add-numbered-at c = search needs
 
--- src/lib.rt:138:9
 numbered-at-requires : tie.Need-numbered-at-requires
 numbered-at-requires c κs = (behind-in (c .before .before .before .before .before .args .s .now) _ (c .before .before .before .byte-or-zero .ensures) 35 (c .before .before .if1 .left) (omega arith) refl, omega arith, omega arith)
 
--- src/lib.rt:138:9
 returns-2 : tie.Need-returns-2
 returns-2 c = c .numbered-at .ensures ∙ by-ten _ _ (c .before .before .before .before .byte-or-zero .ensures) (c .before .before .before .if1 .left) (c .before .before .byte-or-zero2 .ensures) (c .before .if2 .taken)
 
--- src/lib.rt:140:20
 add-numbered-at-2 : tie.Need-add-numbered-at-2
 add-numbered-at-2 c = search needs
 
--- src/lib.rt:140:5
 numbered-at-requires-2 : tie.Need-numbered-at-requires-2
 numbered-at-requires-2 c κs = (omega (arith, behind-in (c .before .before .before .before .before .args .s .now) _ (c .before .byte-or-zero2 .ensures) 120 (c .if2 .left) (omega arith) refl), omega arith, omega arith)
 
--- src/lib.rt:130:1
 returns-3 : tie.Need-returns-3
 returns-3 c = c .numbered-at2 .ensures ∙ by-sixteen _ _ (c .before .before .before .before .byte-or-zero .ensures) (c .before .before .before .if1 .left) (c .before .before .byte-or-zero2 .ensures) (c .before .if2 .left)
 

@@ -1,3 +1,4 @@
+-- `attribute::stands_at` meets its contract. Assumes nothing.
 use Rattle.attribute.proofs.Names.{left-end, left-short, left-other, left-next}
 use Rattle.attribute.specs.References.{begins}
 use lib.ListN.{length, drop}
@@ -8,8 +9,6 @@ use borrow.Author.Needs.{needs}
 use native.Mathlib.Omega.{arith}
 use Rattle.attribute.proofs.stands_at.Statement.{statement}
 use Rattle.attribute.proofs.stands_at.Tie as tie
-use Rattle.attribute.proofs.stands_at.Reads as reads
-use Rattle.attribute.proofs.stands_at.Lts as lts
 
 abbrev Inv-loop : tie.InvT-loop
 Inv-loop s at w i₀ i = (i ≤ length w) × (begins (drop i w) (drop (at + i) s) ≡ begins w (drop at s))
@@ -17,47 +16,36 @@ Inv-loop s at w i₀ i = (i ≤ length w) × (begins (drop i w) (drop (at + i) s
 abbrev μ-loop : tie.MeasureT-loop
 μ-loop s at w i₀ i = length w - i
 
--- src/lib.rt:94:5
 loop-holds : tie.Need-loop-holds Inv-loop μ-loop
 loop-holds c = (omega arith, rw (add-zero (c .args .at)))
 
--- src/lib.rt:95:12
 sub-if1 : tie.Need-sub-if1 Inv-loop μ-loop
 sub-if1 c = search needs
 
--- src/lib.rt:96:13
 returns : tie.Need-returns Inv-loop μ-loop
 returns c = sym (left-short _ _ _ _ (c .before .loop-test .taken) (omega arith)) ∙ c .before .before .loop .inv .1
 
--- src/lib.rt:98:14
 add-if2 : tie.Need-add-if2 Inv-loop μ-loop
 add-if2 c = search needs
 
--- src/lib.rt:98:12
 shared-slice-read-if2 : tie.Need-shared-slice-read-if2 Inv-loop μ-loop
 shared-slice-read-if2 c = omega arith
 
--- src/lib.rt:98:25
 shared-slice-read-if2-2 : tie.Need-shared-slice-read-if2-2 Inv-loop μ-loop
 shared-slice-read-if2-2 c = omega arith
 
--- src/lib.rt:99:13
 returns-2 : tie.Need-returns-2 Inv-loop μ-loop
 returns-2 c = sym (left-other _ _ _ _ (c .before .before .before .before .loop-test .taken) (omega arith) (c .if2 .taken)) ∙ c .before .before .before .before .before .loop .inv .1
 
--- src/lib.rt:101:9
 add-i : tie.Need-add-i Inv-loop μ-loop
 add-i c = omega arith
 
--- src/lib.rt:94:5
 loop-less : tie.Need-loop-less Inv-loop μ-loop
 loop-less c = omega arith
 
--- src/lib.rt:94:5
 loop-again : tie.Need-loop-again Inv-loop μ-loop
 loop-again c = (omega arith, left-next _ _ _ _ (c .before .before .before .before .loop-test .taken) (omega arith) (c .if2 .left) ∙ c .before .before .before .before .before .loop .inv .1)
 
--- src/lib.rt:89:1
 returns-3 : tie.Need-returns-3 Inv-loop μ-loop
 returns-3 c = sym (left-end _ _ _ _ (c .loop-test .left)) ∙ c .before .loop .inv .1
 

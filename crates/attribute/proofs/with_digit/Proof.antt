@@ -1,24 +1,19 @@
+-- `attribute::with_digit` meets its contract. Assumes nothing.
 use native.Mathlib.Nat.{mul-le-mul-right}
 use native.Mathlib.Omega.{arith}
 use borrow.Author.Needs.{needs}
 use Rattle.attribute.proofs.with_digit.Statement.{statement}
 use Rattle.attribute.proofs.with_digit.Tie as tie
-use Rattle.attribute.proofs.with_digit.Reads as reads
-use Rattle.attribute.proofs.with_digit.Lts as lts
 
--- src/lib.rt:41:13
 mul-m : tie.Need-mul-m
 mul-m c = omega (arith, mul-le-mul-right (c .args .base) (c .pre .0))
 
--- src/lib.rt:41:13
 add-m : tie.Need-add-m
 add-m c = omega (arith, mul-le-mul-right (c .args .base) (c .pre .0))
 
--- src/lib.rt:37:1
 returns : tie.Need-returns
 returns c = search needs
 
--- src/lib.rt:37:1
 returns-2 : tie.Need-returns-2
 returns-2 c = search needs
 

@@ -1,0 +1,42 @@
+-- `attribute::width_at` meets its contract. Assumes nothing.
+use Rattle.attribute.specs.Stores.{widthAt}
+use lib.Dec.{eqb}
+use mathlib.Core.Path.{sym, _∙_}
+use borrow.Author.Tests.{eq-eqb, ne-eqb}
+use mathlib.Core.Bool.{and-false}
+use native.Mathlib.Omega.{arith}
+use borrow.Author.Needs.{needs}
+use Rattle.attribute.proofs.width_at.Statement.{statement}
+use Rattle.attribute.proofs.width_at.Tie as tie
+
+shared-slice-read-if1 : tie.Need-shared-slice-read-if1
+shared-slice-read-if1 c = search needs
+
+returns : tie.Need-returns
+unfolding widthAt
+returns c = (rw (ne-eqb _ 13 (c .if1 .taken)), (omega arith, omega arith))
+
+add-byte-or-zero : tie.Need-add-byte-or-zero
+add-byte-or-zero c = search needs
+
+byte-or-zero-requires : tie.Need-byte-or-zero-requires
+byte-or-zero-requires c κs = search needs
+
+returns-2 : tie.Need-returns-2
+unfolding widthAt
+returns-2 c = (rw (eq-eqb _ 13 (c .before .before .if1 .left), ne-eqb _ 10 (λ k. c .if2 .taken (c .before .byte-or-zero .ensures ∙ k))), (omega arith, omega arith))
+
+returns-3 : tie.Need-returns-3
+unfolding widthAt
+returns-3 c = (rw (eq-eqb _ 13 (c .before .before .if1 .left), eq-eqb _ 10 (sym (c .before .byte-or-zero .ensures) ∙ c .if2 .left)), (omega arith, omega arith))
+
+pub width-at-spec : {M : Type 1} → statement M
+width-at-spec =
+    tie.close
+    (tie.spec
+    shared-slice-read-if1
+    returns
+    add-byte-or-zero
+    byte-or-zero-requires
+    returns-2
+    returns-3)
