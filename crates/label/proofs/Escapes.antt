@@ -15,6 +15,7 @@ use Rattle.label.specs.Run.{Run}
 use Rattle.label.specs.Sound.{soundRun}
 use Rattle.label.specs.Write.{utf8, paired, unitBytes, unitsBytes, textOf, fraction, valueBytes, advanceBytes, offsetBytes, mapBytes, indexBytes, entryBytes, written, indicesOf}
 use Rattle.label.specs.Attribute.{escapeByte, escape, asAsked}
+use Rattle.label.specs.Calls.{writeInto, writeAsked}
 use Rattle.label.specs.declared.Index.{Index}
 use Rattle.label.specs.declared.Index.the-variants.{Named, Font}
 use Rattle.label.specs.declared.Advance.{Advance}
@@ -228,3 +229,10 @@ asked-indices e cs gs =
 
 pub indices-plain : (cs : List Cluster) (gs : List Glyph) → escape (indicesOf cs gs) ≡ indicesOf cs gs
 indices-plain cs gs = asked-indices true cs gs
+
+-- ── the calls ──
+
+-- not asked to escape, the writer is the writer of document 01
+pub unasked : (text indices : ℕ) (us : List ℕ) (cs gs : List ℤ) → writeAsked false text indices us cs gs ≡ writeInto text indices us cs gs
+unfolding writeAsked writeInto
+unasked text indices us cs gs = refl
