@@ -16,3 +16,4 @@ pub mod Picks
 pub mod Wires
 pub mod Checks
 pub mod Sizes
+pub mod Escapes

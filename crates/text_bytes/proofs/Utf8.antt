@@ -1,20 +1,22 @@
--- Laws of a run's text: the bytes of a character, of a unit, and of the units from a place on.
+-- Laws of a run's text: the bytes of a character, of a unit, of a unit as it is asked for, and of the units from a place on.
 -- Assumes nothing.
 use Prim.Native.Nat.{ℕ, _+_, _/_, _%_, _<_, _≤_}
 use native.Mathlib.Nat.{add-zero}
 use native.Mathlib.Numerals.{add-one}
 use native.Mathlib.Omega.{arith}
-use mathlib.Core.Path.{_≡_, sym, ap, _∙_}
-use mathlib.Core.Bool.{Bool, true, false, cond, and-false}
+use mathlib.Core.Path.{_≡_, refl, sym, ap, _∙_}
+use mathlib.Core.Bool.{Bool, true, false, cond, _&&_, and-false, false≢true}
 use mathlib.Core.List.{List, [], _∷_, _++_}
-use borrow.Author.Tests.{le-leb, lt-leb, leb-true, eq-eqb, ne-eqb}
+use borrow.Author.Tests.{le-leb, lt-leb, leb-true, leb-false, eq-eqb, ne-eqb}
 use lib.Dec.{leb}
 use lib.ListN.{length, getD, drop, length-append, drop-of-length-le}
 use lib.Seq.{drop-cons, getD-drop}
 use Rattle.label.specs.Text.{isLow, isHigh, braced}
 use Rattle.label.specs.Write.{utf8, paired, unitBytes, unitsBytes, textOf}
+use Rattle.label.specs.Attribute.{escapeByte, escape, asAsked}
 use Rattle.label.proofs.Basics.{and-l, and-r, cases}
-use Rattle.text_bytes.specs.Units.{unitLength, markLength}
+use Rattle.label.proofs.Escapes.{asked-append, asked-nil, asked-stays, unit-none, unit-ascii}
+use Rattle.text_bytes.specs.Units.{unitLength, askedLength, markLength}
 
 -- ── a character ──
 
@@ -54,24 +56,54 @@ module _ (u v : ℕ) {a : Bool} (e : a ≡ isLow u) where
 pub high-range : (u : ℕ) {b : Bool} → b ≡ isHigh u → b ≡ true → (55296 ≤ u) × (u ≤ 56319)
 high-range u f h = (leb-true 55296 u (and-l _ _ (sym f ∙ h)), leb-true u 56319 (and-r (leb 55296 u) _ (sym f ∙ h)))
 
+-- ── as it is asked for ──
+
+-- a byte that is none of the six
+pub escape-other : (b : ℕ) → (b ≡ 38 → ⊥) → (b ≡ 60 → ⊥) → (b ≡ 34 → ⊥) → (b ≡ 9 → ⊥) → (b ≡ 10 → ⊥) → (b ≡ 13 → ⊥) → b ∷ [] ≡ escapeByte b
+unfolding escapeByte
+escape-other b n o p q r s = rw (ne-eqb b 38 n, ne-eqb b 60 o, ne-eqb b 34 p, ne-eqb b 9 q, ne-eqb b 10 r, ne-eqb b 13 s)
+
+pub asked-ascii : (e : Bool) (u v : ℕ) → (e && leb u 127) ≡ true → escapeByte u ≡ asAsked e (unitBytes u v)
+asked-ascii true u v h = sym (unit-ascii u v (leb-true u 127 h))
+asked-ascii false u v h = absurd (false≢true h)
+
+pub asked-plain : (e : Bool) (u v : ℕ) → (e && leb u 127) ≡ false → unitBytes u v ≡ asAsked e (unitBytes u v)
+asked-plain true u v h = sym (asked-stays true (unitBytes u v) (unit-none u v (leb-false u 127 h)))
+asked-plain false u v h = refl
+
+pub ascii-most : (e : Bool) (u : ℕ) → (e && leb u 127) ≡ true → u ≤ 127
+ascii-most e u h = leb-true u 127 (and-r e (leb u 127) h)
+
+marked : (e : Bool) (s : List ℕ) → 123 ∷ 125 ∷ asAsked e s ≡ asAsked e (123 ∷ 125 ∷ s)
+unfolding escape escapeByte
+marked true s = refl
+marked false s = refl
+
 -- ── the units from a place on ──
 
-pub units-at : (us : List ℕ) (i : ℕ) → i < length us → unitsBytes (drop i us) ≡ unitBytes (getD us i 0) (getD us (i + 1) 0) ++ unitsBytes (drop (i + 1) us)
+units-at : (us : List ℕ) (i : ℕ) → i < length us → unitsBytes (drop i us) ≡ unitBytes (getD us i 0) (getD us (i + 1) 0) ++ unitsBytes (drop (i + 1) us)
 unfolding unitsBytes
 units-at us i h = rw (drop-cons us i 0 h, unitsBytes, getD-drop, add-zero, add-one)
 
-pub units-end : (us : List ℕ) (i : ℕ) → length us ≤ i → unitsBytes (drop i us) ≡ []
+units-end : (us : List ℕ) (i : ℕ) → length us ≤ i → unitsBytes (drop i us) ≡ []
 unfolding unitsBytes
 units-end us i h = rw (drop-of-length-le us h)
 
-module _ (us : List ℕ) {n : ℕ} (e : n ≡ getD us 0 0) where
-  pub text-braced : n ≡ 123 → (123 ∷ []) ++ ((125 ∷ []) ++ unitsBytes us) ≡ textOf us
-  unfolding textOf
-  text-braced h = rw (eq-eqb (getD us 0 0) 123 (sym e ∙ h))
+pub asked-at : (e : Bool) (us : List ℕ) (i : ℕ) → i < length us
+    → asAsked e (unitsBytes (drop i us)) ≡ asAsked e (unitBytes (getD us i 0) (getD us (i + 1) 0)) ++ asAsked e (unitsBytes (drop (i + 1) us))
+asked-at e us i h = ap (asAsked e) (units-at us i h) ∙ asked-append e (unitBytes (getD us i 0) (getD us (i + 1) 0)) (unitsBytes (drop (i + 1) us))
 
-  pub text-plain : (n ≡ 123 → ⊥) → unitsBytes us ≡ textOf us
+pub asked-end : (e : Bool) (us : List ℕ) (i : ℕ) → length us ≤ i → asAsked e (unitsBytes (drop i us)) ≡ []
+asked-end e us i h = ap (asAsked e) (units-end us i h) ∙ asked-nil e
+
+module _ (us : List ℕ) {n : ℕ} (e : n ≡ getD us 0 0) where
+  pub text-braced : (a : Bool) → n ≡ 123 → (123 ∷ 125 ∷ []) ++ asAsked a (unitsBytes us) ≡ asAsked a (textOf us)
   unfolding textOf
-  text-plain h = rw (ne-eqb (getD us 0 0) 123 (λ z. h (e ∙ z)))
+  text-braced a h = rw (eq-eqb (getD us 0 0) 123 (sym e ∙ h)) (marked a (unitsBytes us))
+
+  pub text-plain : (a : Bool) → (n ≡ 123 → ⊥) → asAsked a (unitsBytes us) ≡ asAsked a (textOf us)
+  unfolding textOf
+  text-plain a h = rw (ne-eqb (getD us 0 0) 123 (λ z. h (e ∙ z)))
 
   pub mark-two : n ≡ 123 → 2 ≡ markLength us
   unfolding markLength
@@ -89,7 +121,7 @@ utf-length c =
     cases (leb c 127) (λ a. rw a)
     (λ a. cases (leb c 2047) (λ b. rw (a, b)) (λ b. cases (leb c 65535) (λ d. rw (a, b, d)) (λ d. rw (a, b, d))))
 
-pub unit-length : (u v : ℕ) → u < 65536 → length (unitBytes u v) ≡ unitLength u
+unit-length : (u v : ℕ) → u < 65536 → length (unitBytes u v) ≡ unitLength u
 unfolding unitBytes unitLength
 unit-length u v h =
     cases (isLow u)
@@ -102,16 +134,24 @@ unit-length u v h =
     rw (a, b, utf-length (paired u v), lt-leb (paired u v) 127 (omega arith), lt-leb (paired u v) 2047 (omega arith), lt-leb (paired u v) 65535 (omega arith), lt-leb u 127 (omega arith), lt-leb u 2047 (omega arith)))
     (λ b. rw (a, b, utf-length u, le-leb u 65535 (omega arith))))
 
+asked-length : (e : Bool) (u v : ℕ) → u < 65536 → length (asAsked e (unitBytes u v)) ≡ askedLength e u
+unfolding askedLength
+asked-length e u v h =
+    cases (e && leb u 127)
+    (λ t. rw t (ap length (sym (asked-ascii e u v t))))
+    (λ t. rw t (ap length (sym (asked-plain e u v t)) ∙ unit-length u v h))
+
 -- what is left to count of the units' bytes, one unit further
-pub length-next : (us : List ℕ) (i n r w : ℕ) → i < length us → getD us i 0 < 65536 → r ≡ unitLength (getD us i 0) → n + length (unitsBytes (drop i us)) ≡ w
-    → n + r + length (unitsBytes (drop (i + 1) us)) ≡ w
-length-next us i n r w h f e k =
-    let q = unit-length (getD us i 0) (getD us (i + 1) 0) f in
-    omega (arith, rw length-append at (ap length (units-at us i h)))
+pub length-next : (e : Bool) (us : List ℕ) (i n r w : ℕ) → i < length us → getD us i 0 < 65536 → r ≡ askedLength e (getD us i 0)
+    → n + length (asAsked e (unitsBytes (drop i us))) ≡ w → n + r + length (asAsked e (unitsBytes (drop (i + 1) us))) ≡ w
+length-next e us i n r w h f p k =
+    let q = asked-length e (getD us i 0) (getD us (i + 1) 0) f in
+    omega (arith, rw length-append at (ap length (asked-at e us i h)))
 
-pub length-start : (us : List ℕ) {n : ℕ} → n ≡ markLength us → n + length (unitsBytes us) ≡ length (textOf us)
+pub length-start : (e : Bool) (us : List ℕ) {n : ℕ} → n ≡ markLength us → n + length (asAsked e (unitsBytes us)) ≡ length (asAsked e (textOf us))
 unfolding markLength textOf
-length-start us {n} e = cases (braced us) (λ a. rw (e, a) (omega arith)) (λ a. rw (e, a) (omega arith))
+length-start e us {n} p =
+    cases (braced us) (λ a. rw (p, a) (omega (arith, ap length (marked e (unitsBytes us))))) (λ a. rw (p, a) (omega arith))
 
-pub length-end : (us : List ℕ) (i n w : ℕ) → length us ≤ i → n + length (unitsBytes (drop i us)) ≡ w → n ≡ w
-length-end us i n w h k = sym (add-zero n) ∙ rw (units-end us i h) at k
+pub length-end : (e : Bool) (us : List ℕ) (i n w : ℕ) → length us ≤ i → n + length (asAsked e (unitsBytes (drop i us))) ≡ w → n ≡ w
+length-end e us i n w h k = sym (add-zero n) ∙ rw (asked-end e us i h) at k

@@ -1,4 +1,4 @@
-// The code units of a run: whether they are those of a text, and the text's bytes in UTF-8.
+// The code units of a run: whether they are those of a text, and the text's bytes in UTF-8, escaped where that is asked for.
 ghost use mathlib.Core.Path.{_≡_};
 ghost use mathlib.Core.Bool.{false};
 ghost use Prim.Native.Nat.{_+_, _-_, _%_, _≤_, _<_};
@@ -6,8 +6,9 @@ ghost use lib.ListN.{length, getD};
 ghost use Rattle.label.specs.Text.{isHigh, isLow};
 ghost use Rattle.label.specs.Sound.{properUnits};
 ghost use Rattle.label.specs.Write.{utf8, paired, unitBytes, unitsBytes, textOf};
+ghost use Rattle.label.specs.Attribute.{escapeByte, asAsked};
 ghost use Rattle.words.specs.Puts.{Put};
-ghost use Rattle.text_bytes.specs.Units.{unitOk, nextHalf, unitLength, markLength};
+ghost use Rattle.text_bytes.specs.Units.{unitOk, nextHalf, unitLength, askedLength, markLength};
 
 // ── units ──
 
@@ -117,7 +118,7 @@ fn pair_of(h: u16, l: u16) -> u32
 
 // The bytes of unit i: a pair's stand at its high half.
 fn put_unit(out: &mut [u8], at: usize, us: &[u16], i: usize) -> usize
-    requires { ⌜ (at < 1152921504606840000) × (i < length (now us)) ⌝ }
+    requires { ⌜ (at < 9223372036854775808) × (i < length (now us)) ⌝ }
     ensures { λ r. ⌜ Put (now (out .entry)) at (unitBytes (getD (now (us .entry)) i 0) (getD (now (us .entry)) (i + 1) 0)) r (now (out .exit)) ⌝ }
     ensures bounds { λ r. ⌜ r ≤ at + 4 ⌝ }
 {
@@ -132,30 +133,69 @@ fn put_unit(out: &mut [u8], at: usize, us: &[u16], i: usize) -> usize
     put_utf8(out, at, u as u32)
 }
 
-fn put_units(out: &mut [u8], from: usize, us: &[u16]) -> usize
+// A byte escaped: one of six as its reference, any other as it is.
+fn put_escaped(out: &mut [u8], at: usize, b: u8) -> usize
+    requires { ⌜ at < 9223372036854775808 ⌝ }
+    ensures { λ r. ⌜ Put (now (out .entry)) at (escapeByte b) r (now (out .exit)) ⌝ }
+    ensures bounds { λ r. ⌜ r ≤ at + 6 ⌝ }
+{
+    if b == 38 {
+        return words::put_bytes(out, at, b"&amp;");
+    }
+    if b == 60 {
+        return words::put_bytes(out, at, b"&lt;");
+    }
+    if b == 34 {
+        return words::put_bytes(out, at, b"&quot;");
+    }
+    if b == 9 {
+        return words::put_bytes(out, at, b"&#9;");
+    }
+    if b == 10 {
+        return words::put_bytes(out, at, b"&#10;");
+    }
+    if b == 13 {
+        return words::put_bytes(out, at, b"&#13;");
+    }
+    words::put_byte(out, at, b)
+}
+
+// The bytes of unit i as they are asked for. Only a character of one byte can be one of the six.
+fn put_asked(escape: bool, out: &mut [u8], at: usize, us: &[u16], i: usize) -> usize
+    requires { ⌜ (at < 9223372036854775808) × (i < length (now us)) ⌝ }
+    ensures { λ r. ⌜ Put (now (out .entry)) at (asAsked escape (unitBytes (getD (now (us .entry)) i 0) (getD (now (us .entry)) (i + 1) 0))) r (now (out .exit)) ⌝ }
+    ensures bounds { λ r. ⌜ r ≤ at + 6 ⌝ }
+{
+    let u = us[i];
+    if words::both(escape, u <= 0x7f) {
+        return put_escaped(out, at, u as u8);
+    }
+    put_unit(out, at, us, i)
+}
+
+fn put_units(escape: bool, out: &mut [u8], from: usize, us: &[u16]) -> usize
     requires { ⌜ (from ≤ 2) × (length (now us) ≤ 1000000000000) ⌝ }
-    ensures { λ r. ⌜ Put (now (out .entry)) from (unitsBytes (now (us .entry))) r (now (out .exit)) ⌝ }
+    ensures { λ r. ⌜ Put (now (out .entry)) from (asAsked escape (unitsBytes (now (us .entry)))) r (now (out .exit)) ⌝ }
 {
     let mut at = from;
     let mut i = 0;
     while i < us.len() {
-        at = put_unit(out, at, us, i);
+        at = put_asked(escape, out, at, us, i);
         i += 1;
     }
     at
 }
 
-// The text of a run's units.
-pub fn put_text(out: &mut [u8], us: &[u16]) -> usize
+// The text of a run's units. `{}` has none of the six bytes.
+pub fn put_text(escape: bool, out: &mut [u8], us: &[u16]) -> usize
     requires { ⌜ length (now us) ≤ 1000000000000 ⌝ }
-    ensures { λ r. ⌜ Put (now (out .entry)) 0 (textOf (now (us .entry))) r (now (out .exit)) ⌝ }
+    ensures { λ r. ⌜ Put (now (out .entry)) 0 (asAsked escape (textOf (now (us .entry)))) r (now (out .exit)) ⌝ }
 {
     if unit_or_zero(us, 0) == 123 {
-        let p = words::put_byte(out, 0, 123);
-        let q = words::put_byte(out, p, 125);
-        return put_units(out, q, us);
+        let p = words::put_bytes(out, 0, b"{}");
+        return put_units(escape, out, p, us);
     }
-    put_units(out, 0, us)
+    put_units(escape, out, 0, us)
 }
 
 // How many bytes stand for a unit: those of a pair at its high half.
@@ -178,6 +218,26 @@ fn unit_length(u: u16) -> usize
     3
 }
 
+// How many bytes a byte becomes, escaped: it is stored where there is no place for more than one.
+fn escaped_length(b: u8) -> usize
+    ensures { λ r. ⌜ r ≡ length (escapeByte b) ⌝ }
+    ensures bounds { λ r. ⌜ r ≤ 6 ⌝ }
+{
+    let mut none = [0u8; 1];
+    put_escaped(&mut none, 0, b)
+}
+
+// How many bytes stand for a unit as they are asked for.
+fn asked_length(escape: bool, u: u16) -> usize
+    ensures { λ r. ⌜ r ≡ askedLength escape u ⌝ }
+    ensures bounds { λ r. ⌜ r ≤ 6 ⌝ }
+{
+    if words::both(escape, u <= 0x7f) {
+        return escaped_length(u as u8);
+    }
+    unit_length(u)
+}
+
 // The bytes of `{}`, where the text of these units begins with it.
 fn mark_length(us: &[u16]) -> usize
     ensures { λ r. ⌜ r ≡ markLength (now (us .entry)) ⌝ }
@@ -187,14 +247,14 @@ fn mark_length(us: &[u16]) -> usize
 }
 
 // How many bytes the text of a run has.
-pub fn text_length(us: &[u16]) -> usize
+pub fn text_length(escape: bool, us: &[u16]) -> usize
     requires { ⌜ length (now us) ≤ 1000000000000 ⌝ }
-    ensures { λ r. ⌜ r ≡ length (textOf (now (us .entry))) ⌝ }
+    ensures { λ r. ⌜ r ≡ length (asAsked escape (textOf (now (us .entry)))) ⌝ }
 {
     let mut n = mark_length(us);
     let mut i = 0;
     while i < us.len() {
-        n += unit_length(us[i]);
+        n += asked_length(escape, us[i]);
         i += 1;
     }
     n

@@ -9,11 +9,13 @@ use borrow.Author.Tests.{le-leb, lt-leb, not-true, not-false}
 use lib.IntN.{ℤ}
 use lib.ListN.{length}
 use Rattle.label.specs.Outcome.{Outcome, ok, no}
-use Rattle.label.specs.Calls.{refusal, writingOutcome, writeInto, lengths, textAfter, indicesAfter}
-use Rattle.label.specs.Write.{Label, textOf, indicesOf, write, normal}
-use Rattle.label.specs.Sound.{sound, runOf, clustersOf, glyphsOf}
+use Rattle.label.specs.Calls.{refusal, writingOutcome, writeAsked, lengths, textAfter, indicesAfter}
+use Rattle.label.specs.Write.{Label, textOf, indicesOf, write}
+use Rattle.label.specs.Sound.{sound, clustersOf, glyphsOf}
+use Rattle.label.specs.Attribute.{asAsked}
 use Rattle.label.specs.declared.Writing.{Writing}
 use Rattle.label.specs.declared.Writing.the-variants.{Written, Refused}
+use Rattle.label.proofs.Escapes.{asked-indices}
 use Rattle.words.specs.Puts.{Put}
 use Rattle.words.proofs.Puts.{put-room}
 use Rattle.sound.proofs.Facts.{few-units, few-numbers}
@@ -25,18 +27,18 @@ Answer w r T T′ I I′ = (writingOutcome r ≡ lengths w) × ((T′ ≡ textAf
 refuses : {w : Outcome Label} {r : Writing} (n p : ℕ) (T I : List ℕ) → r ≡ Refused (refusal n p) → w ≡ no n p → Answer w r T T I I
 refuses n p T I f e = rw (e, f) (refl, (refl, refl))
 
-module _ (us : List ℕ) (cs gs : List ℤ) (T I : List ℕ) {x : Bool} (e : x ≡ sound us cs gs) where
+module _ (a : Bool) (us : List ℕ) (cs gs : List ℤ) (T I : List ℕ) {x : Bool} (e : x ≡ sound us cs gs) where
   abbrev W : Outcome Label
-  W = writeInto (length T) (length I) us cs gs
+  W = writeAsked a (length T) (length I) us cs gs
 
   abbrev t : ℕ
-  t = length (textOf us)
+  t = length (asAsked a (textOf us))
 
   abbrev i : ℕ
   i = length (indicesOf (clustersOf cs) (glyphsOf gs))
 
   pub refuses-19 : {r : Writing} → r ≡ Refused (refusal 19 0) → not x ≡ true → Answer W r T T I I
-  unfolding writeInto write
+  unfolding writeAsked write
   refuses-19 f k = refuses 19 0 T I f is
     where
       is : W ≡ no 19 0
@@ -54,7 +56,7 @@ module _ (us : List ℕ) (cs gs : List ℤ) (T I : List ℕ) {x : Bool} (e : x �
 
     module _ {n : ℕ} (et : n ≡ t) where
       pub refuses-20 : {r : Writing} → r ≡ Refused (refusal 20 n) → length T < n → Answer W r T T I I
-      unfolding writeInto write
+      unfolding writeAsked write
       refuses-20 f h = refuses 20 n T I f is
         where
           is : W ≡ no 20 n
@@ -62,17 +64,17 @@ module _ (us : List ℕ) (cs gs : List ℤ) (T I : List ℕ) {x : Bool} (e : x �
 
       module _ (h : n ≤ length T) {m : ℕ} (ei : m ≡ i) where
         pub refuses-21 : {r : Writing} → r ≡ Refused (refusal 21 m) → length I < m → Answer W r T T I I
-        unfolding writeInto write
+        unfolding writeAsked write
         refuses-21 f l = refuses 21 m T I f is
           where
             is : W ≡ no 21 m
-            is = rw (yes, le-leb t (length T) (omega arith), lt-leb i (length I) (omega arith), ei)
+            is = rw (yes, le-leb t (length T) (omega arith), asked-indices a (clustersOf cs) (glyphsOf gs), lt-leb i (length I) (omega arith), ei)
 
         module _ (l : m ≤ length I) where
-          accepts : W ≡ ok (normal (runOf us cs gs))
-          unfolding writeInto write
-          accepts = rw (yes, le-leb t (length T) (omega arith), le-leb i (length I) (omega arith))
+          accepts : W ≡ ok (record { text = asAsked a (textOf us); indices = indicesOf (clustersOf cs) (glyphsOf gs) })
+          unfolding writeAsked write
+          accepts = rw (yes, le-leb t (length T) (omega arith), asked-indices a (clustersOf cs) (glyphsOf gs), le-leb i (length I) (omega arith))
 
-          pub writes : {T′ I′ : List ℕ} {p q : ℕ} → Put T 0 (textOf us) p T′ → Put I 0 (indicesOf (clustersOf cs) (glyphsOf gs)) q I′
+          pub writes : {T′ I′ : List ℕ} {p q : ℕ} → Put T 0 (asAsked a (textOf us)) p T′ → Put I 0 (indicesOf (clustersOf cs) (glyphsOf gs)) q I′
               → Answer W (Written (record { text = n; indices = m })) T T′ I I′
-          writes a b = rw (accepts, et, ei) (refl, (put-room a (omega arith), put-room b (omega arith)))
+          writes b d = rw (accepts, et, ei) (refl, (put-room b (omega arith), put-room d (omega arith)))

@@ -1,9 +1,9 @@
-// The writer: a sound run's normal writing, text and indices.
+// The writer: a sound run's normal writing, text and indices, escaped where that is asked for.
 ghost use mathlib.Core.Path.{_≡_};
-ghost use mathlib.Core.Bool.{cond};
+ghost use mathlib.Core.Bool.{true, cond};
 ghost use Prim.Native.Nat.{_+_, _<_, _≤_};
 ghost use lib.ListN.{length};
-ghost use Rattle.label.specs.Calls.{refusal, writingOutcome, writeInto, lengths, textAfter, indicesAfter};
+ghost use Rattle.label.specs.Calls.{refusal, writingOutcome, writeInto, writeAsked, lengths, textAfter, indicesAfter};
 ghost use Rattle.label.specs.Write.{entryBytes, indicesOf};
 ghost use Rattle.label.specs.Sound.{clustersOf, glyphsOf};
 ghost use Rattle.words.specs.Puts.{Put};
@@ -104,6 +104,39 @@ fn refused(number: usize, place: usize) -> Writing
     Writing::Refused(Refusal { number, place })
 }
 
+// The writing of a run as it is asked for, where the run is sound and both outputs have room. Indices have no byte to escape.
+fn write_as(
+    escape: bool,
+    units: &[u16],
+    clusters: &[i32],
+    glyphs: &[i32],
+    text: &mut [u8],
+    indices: &mut [u8],
+) -> Writing
+    ensures result { λ r. ⌜ writingOutcome r ≡ lengths (writeAsked escape (length (now (text .entry))) (length (now (indices .entry))) (now (units .entry)) (now (clusters .entry)) (now (glyphs .entry))) ⌝ }
+    ensures text { λ r. ⌜ now (text .exit) ≡ textAfter (writeAsked escape (length (now (text .entry))) (length (now (indices .entry))) (now (units .entry)) (now (clusters .entry)) (now (glyphs .entry))) (now (text .entry)) ⌝ }
+    ensures indices { λ r. ⌜ now (indices .exit) ≡ indicesAfter (writeAsked escape (length (now (text .entry))) (length (now (indices .entry))) (now (units .entry)) (now (clusters .entry)) (now (glyphs .entry))) (now (indices .entry)) ⌝ }
+{
+    let is_sound = sound::is_sound(units, clusters, glyphs);
+    if !is_sound {
+        return refused(19, 0);
+    }
+    let text_bytes = text_bytes::text_length(escape, units);
+    if text.len() < text_bytes {
+        return refused(20, text_bytes);
+    }
+    let indices_bytes = indices_length(clusters, glyphs);
+    if indices.len() < indices_bytes {
+        return refused(21, indices_bytes);
+    }
+    text_bytes::put_text(escape, text, units);
+    put_indices(indices, clusters, glyphs);
+    Writing::Written(Lengths {
+        text: text_bytes,
+        indices: indices_bytes,
+    })
+}
+
 // The normal writing of a run, where it is sound and both outputs have room.
 pub fn write(
     units: &[u16],
@@ -116,22 +149,20 @@ pub fn write(
     ensures text { λ r. ⌜ now (text .exit) ≡ textAfter (writeInto (length (now (text .entry))) (length (now (indices .entry))) (now (units .entry)) (now (clusters .entry)) (now (glyphs .entry))) (now (text .entry)) ⌝ }
     ensures indices { λ r. ⌜ now (indices .exit) ≡ indicesAfter (writeInto (length (now (text .entry))) (length (now (indices .entry))) (now (units .entry)) (now (clusters .entry)) (now (glyphs .entry))) (now (indices .entry)) ⌝ }
 {
-    let is_sound = sound::is_sound(units, clusters, glyphs);
-    if !is_sound {
-        return refused(19, 0);
-    }
-    let text_bytes = text_bytes::text_length(units);
-    if text.len() < text_bytes {
-        return refused(20, text_bytes);
-    }
-    let indices_bytes = indices_length(clusters, glyphs);
-    if indices.len() < indices_bytes {
-        return refused(21, indices_bytes);
-    }
-    text_bytes::put_text(text, units);
-    put_indices(indices, clusters, glyphs);
-    Writing::Written(Lengths {
-        text: text_bytes,
-        indices: indices_bytes,
-    })
+    write_as(false, units, clusters, glyphs, text, indices)
+}
+
+// The same with `&`, `<`, `"`, tab, line feed and carriage return as references, for an attribute of XML.
+pub fn write_escaped(
+    units: &[u16],
+    clusters: &[i32],
+    glyphs: &[i32],
+    text: &mut [u8],
+    indices: &mut [u8],
+) -> Writing
+    ensures result { λ r. ⌜ writingOutcome r ≡ lengths (writeAsked true (length (now (text .entry))) (length (now (indices .entry))) (now (units .entry)) (now (clusters .entry)) (now (glyphs .entry))) ⌝ }
+    ensures text { λ r. ⌜ now (text .exit) ≡ textAfter (writeAsked true (length (now (text .entry))) (length (now (indices .entry))) (now (units .entry)) (now (clusters .entry)) (now (glyphs .entry))) (now (text .entry)) ⌝ }
+    ensures indices { λ r. ⌜ now (indices .exit) ≡ indicesAfter (writeAsked true (length (now (text .entry))) (length (now (indices .entry))) (now (units .entry)) (now (clusters .entry)) (now (glyphs .entry))) (now (indices .entry)) ⌝ }
+{
+    write_as(true, units, clusters, glyphs, text, indices)
 }

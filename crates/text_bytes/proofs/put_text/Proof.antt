@@ -1,6 +1,6 @@
 -- `text_bytes::put_text` meets its contract. Assumes nothing.
-use Rattle.text_bytes.proofs.Utf8.{text-braced, text-plain}
 use Rattle.words.proofs.Puts.{then, put-as}
+use Rattle.text_bytes.proofs.Utf8.{text-braced, text-plain}
 use borrow.Author.Needs.{needs}
 use Rattle.text_bytes.proofs.put_text.Statement.{statement}
 use Rattle.text_bytes.proofs.put_text.Tie as tie
@@ -8,11 +8,11 @@ use Rattle.text_bytes.proofs.put_text.Tie as tie
 unit-or-zero-requires : tie.Need-unit-or-zero-requires
 unit-or-zero-requires c κs = search needs
 
-put-byte-requires : tie.Need-put-byte-requires
-put-byte-requires c κs = search needs
+slice-aggregate-put-bytes : tie.Need-slice-aggregate-put-bytes
+slice-aggregate-put-bytes c = search needs
 
-put-byte-requires-2 : tie.Need-put-byte-requires-2
-put-byte-requires-2 c κs = search needs
+put-bytes-requires : tie.Need-put-bytes-requires
+put-bytes-requires c κs = search needs
 
 put-units-requires : tie.Need-put-units-requires
 put-units-requires c κs = search needs
@@ -21,7 +21,7 @@ same-length : tie.Need-same-length
 same-length c = search needs
 
 returns : tie.Need-returns
-returns c = put-as (text-braced (c .before .before .before .before .before .before .before .before .before .before .before .before .before .before .before .before .args .us .now) (c .before .before .before .before .before .before .before .before .before .before .before .before .before .unit-or-zero .ensures) (c .before .before .before .before .before .before .before .before .before .before .before .before .if1 .taken)) (then (c .before .before .before .before .before .before .before .before .before .before .put-byte .ensures .0) (then (c .before .before .before .before .before .before .put-byte2 .ensures .0) (c .before .before .put-units .ensures)))
+returns c = put-as (text-braced (c .before .before .before .before .before .before .before .before .before .before .before .before .before .args .us .now) (c .before .before .before .before .before .before .before .before .before .before .unit-or-zero .ensures) (c .before .before .before .before .before .before .before .before .before .before .before .before .before .args .escape) (c .before .before .before .before .before .before .before .before .before .if1 .taken)) (then (c .before .before .before .before .before .before .put-bytes .ensures .0) (c .before .before .put-units .ensures))
 
 put-units-requires-2 : tie.Need-put-units-requires-2
 put-units-requires-2 c κs = search needs
@@ -30,15 +30,15 @@ same-length-2 : tie.Need-same-length-2
 same-length-2 c = search needs
 
 returns-2 : tie.Need-returns-2
-returns-2 c = put-as (text-plain (c .before .before .before .before .before .before .before .before .args .us .now) (c .before .before .before .before .before .unit-or-zero .ensures) (c .before .before .before .before .if1 .left)) (c .before .before .put-units2 .ensures)
+returns-2 c = put-as (text-plain (c .before .before .before .before .before .before .before .before .args .us .now) (c .before .before .before .before .before .unit-or-zero .ensures) (c .before .before .before .before .before .before .before .before .args .escape) (c .before .before .before .before .if1 .left)) (c .before .before .put-units2 .ensures)
 
 pub put-text-spec : {M : Type 1} → statement M
 put-text-spec =
     tie.close
     (tie.spec
     unit-or-zero-requires
-    put-byte-requires
-    put-byte-requires-2
+    slice-aggregate-put-bytes
+    put-bytes-requires
     put-units-requires
     same-length
     returns

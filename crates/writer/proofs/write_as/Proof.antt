@@ -1,0 +1,82 @@
+use Rattle.writer.proofs.Answers.{refuses-19, units-few, numbers-few, refuses-20, refuses-21, writes}
+use borrow.Author.Needs.{needs}
+use Rattle.writer.proofs.write_as.Statement.{statement}
+use Rattle.writer.proofs.write_as.Tie as tie
+
+is-sound-requires : tie.Need-is-sound-requires
+is-sound-requires c κs = search needs
+
+refused-requires : tie.Need-refused-requires
+refused-requires c κs = search needs
+
+returns : tie.Need-returns
+returns c =
+    let a = c .before .before .before .before .before .before .args in
+    refuses-19 (a .escape) (a .units .now) (a .clusters .now) (a .glyphs .now) (a .text .now) (a .indices .now) (c .before .before .is-sound .ensures) (c .refused .ensures) (c .before .if1 .taken)
+
+text-length-requires : tie.Need-text-length-requires
+text-length-requires c κs =
+    let a = c .before .before .before .before .before .args in
+    units-few (a .escape) (a .units .now) (a .clusters .now) (a .glyphs .now) (a .text .now) (a .indices .now) (c .before .is-sound .ensures) (c .if1 .left)
+
+refused-requires-2 : tie.Need-refused-requires-2
+refused-requires-2 c κs = search needs
+
+returns-2 : tie.Need-returns-2
+returns-2 c =
+    let a = c .before .before .before .before .before .before .before .before .args in
+    refuses-20 (a .escape) (a .units .now) (a .clusters .now) (a .glyphs .now) (a .text .now) (a .indices .now) (c .before .before .before .before .is-sound .ensures) (c .before .before .before .if1 .left) (c .before .before .text-length .ensures) (c .refused2 .ensures) (c .before .if2 .taken)
+
+indices-length-requires : tie.Need-indices-length-requires
+indices-length-requires c κs =
+    let a = c .before .before .before .before .before .before .before .args in
+    numbers-few (a .escape) (a .units .now) (a .clusters .now) (a .glyphs .now) (a .text .now) (a .indices .now) (c .before .before .before .is-sound .ensures) (c .before .before .if1 .left)
+
+refused-requires-3 : tie.Need-refused-requires-3
+refused-requires-3 c κs = search needs
+
+returns-3 : tie.Need-returns-3
+returns-3 c =
+    let a = c .before .before .before .before .before .before .before .before .before .before .args in
+    refuses-21 (a .escape) (a .units .now) (a .clusters .now) (a .glyphs .now) (a .text .now) (a .indices .now) (c .before .before .before .before .before .before .is-sound .ensures) (c .before .before .before .before .before .if1 .left) (c .before .before .before .before .text-length .ensures) (c .before .before .before .if2 .left) (c .before .before .indices-length .ensures) (c .refused3 .ensures) (c .before .if3 .taken)
+
+put-text-requires : tie.Need-put-text-requires
+put-text-requires c κs =
+    let a = c .before .before .before .before .before .before .before .before .before .before .args in
+    units-few (a .escape) (a .units .now) (a .clusters .now) (a .glyphs .now) (a .text .now) (a .indices .now) (c .before .before .before .before .before .before .is-sound .ensures) (c .before .before .before .before .before .if1 .left)
+
+put-indices-requires : tie.Need-put-indices-requires
+put-indices-requires c κs =
+    let a = c .before .before .before .before .before .before .before .before .before .before .before .before .before .before .args in
+    numbers-few (a .escape) (a .units .now) (a .clusters .now) (a .glyphs .now) (a .text .now) (a .indices .now) (c .before .before .before .before .before .before .before .before .before .before .is-sound .ensures) (c .before .before .before .before .before .before .before .before .before .if1 .left)
+
+same-length : tie.Need-same-length
+same-length c = search needs
+
+same-length-2 : tie.Need-same-length-2
+same-length-2 c = search needs
+
+returns-4 : tie.Need-returns-4
+returns-4 c =
+    let a = c .before .before .before .before .before .before .before .before .before .before .before .before .before .before .before .before .before .args in
+    writes (a .escape) (a .units .now) (a .clusters .now) (a .glyphs .now) (a .text .now) (a .indices .now) (c .before .before .before .before .before .before .before .before .before .before .before .before .before .is-sound .ensures) (c .before .before .before .before .before .before .before .before .before .before .before .before .if1 .left) (c .before .before .before .before .before .before .before .before .before .before .before .text-length .ensures) (c .before .before .before .before .before .before .before .before .before .before .if2 .left) (c .before .before .before .before .before .before .before .before .before .indices-length .ensures) (c .before .before .before .before .before .before .before .before .if3 .left)
+    (c .before .before .before .before .before .before .put-text .ensures) (c .before .before .put-indices .ensures)
+
+pub write-as-spec : {M : Type 1} → statement M
+write-as-spec =
+    tie.close
+    (tie.spec
+    is-sound-requires
+    refused-requires
+    returns
+    text-length-requires
+    refused-requires-2
+    returns-2
+    indices-length-requires
+    refused-requires-3
+    returns-3
+    put-text-requires
+    put-indices-requires
+    same-length
+    same-length-2
+    returns-4)
