@@ -1,5 +1,6 @@
 /* Reading and writing through the C calls beside a plain loop of the kind that viewers use: digits by hand, strtof for the rest, no checks, no clusters
-   tied to the text. Both in one run, best of several rounds; the ratio is what counts. Then the growth with the label, and the stack that the calls take. */
+   tied to the text. Both in one run, best of several rounds; the ratio is what counts. Then the growth with the label, and the stack that the calls take;
+   and resolving beside a plain loop, escaped writing beside the normal one. */
 #include <alloca.h>
 #include <pthread.h>
 #include <stdio.h>
@@ -96,6 +97,42 @@ static int plain_write(int n)
     return (int)(p - (char *)out_indices);
 }
 
+static char *plain_utf8(char *o, unsigned long c)
+{
+    if (c < 0x80) *o++ = (char)c;
+    else if (c < 0x800) { *o++ = (char)(0xc0 | c >> 6); *o++ = (char)(0x80 | (c & 63)); }
+    else if (c < 0x10000) { *o++ = (char)(0xe0 | c >> 12); *o++ = (char)(0x80 | (c >> 6 & 63)); *o++ = (char)(0x80 | (c & 63)); }
+    else { *o++ = (char)(0xf0 | c >> 18); *o++ = (char)(0x80 | (c >> 12 & 63)); *o++ = (char)(0x80 | (c >> 6 & 63)); *o++ = (char)(0x80 | (c & 63)); }
+    return o;
+}
+
+static const char *plain_reference(const char *p, char **o)
+{
+    if (p[1] == '#') {
+        char *e;
+        unsigned long c = p[2] == 'x' ? strtoul(p + 3, &e, 16) : strtoul(p + 2, &e, 10);
+        *o = plain_utf8(*o, c);
+        return e + 1;
+    }
+    if (strncmp(p, "&amp;", 5) == 0) { *(*o)++ = '&'; return p + 5; }
+    if (strncmp(p, "&lt;", 4) == 0) { *(*o)++ = '<'; return p + 4; }
+    if (strncmp(p, "&gt;", 4) == 0) { *(*o)++ = '>'; return p + 4; }
+    if (strncmp(p, "&quot;", 6) == 0) { *(*o)++ = '"'; return p + 6; }
+    if (strncmp(p, "&apos;", 6) == 0) { *(*o)++ = '\''; return p + 6; }
+    *(*o)++ = *p;
+    return p + 1;
+}
+
+static size_t plain_resolve(const char *p, size_t n, char *out)
+{
+    char *o = out;
+    for (const char *end = p + n; p < end;) {
+        if (*p == '&') p = plain_reference(p, &o);
+        else *o++ = *p++;
+    }
+    return (size_t)(o - out);
+}
+
 /* ── labels ── */
 
 static char text[4 * MAX + 16], indices[262145];
@@ -169,6 +206,102 @@ static void measure(const char *name, int n)
     printf("%-34s %9.0f %9.0f %6.2f   %9.0f %9.0f %6.2f\n", name, a, b, b / a, c, d, d / c);
 }
 
+/* ── resolving, and escaped writing ── */
+
+/* n characters: four letters, then one of these, and so on. */
+static void make_text(int n, const char *const *some, int count)
+{
+    char *t = text;
+    for (int i = 0; i < n; i++) t += sprintf(t, "%s", i % 5 == 4 ? some[i / 5 % count] : "A");
+    *t = 0;
+}
+
+static void call_plain_resolve(const char *raw, size_t n) { sink += (int)plain_resolve(raw, n, (char *)out_text); }
+
+static void call_resolve(const char *raw, size_t n) { sink += (int)glyph_label_resolve((const uint8_t *)raw, n, out_text, sizeof out_text).filled; }
+
+static void call_write(const char *unused, size_t n)
+{
+    (void)unused, (void)n;
+    sink += (int)glyph_label_write(units, last.units * 2, clusters, last.clusters * 8, glyphs, last.glyphs * 16, out_text, sizeof out_text, out_indices,
+        sizeof out_indices).text;
+}
+
+static void call_write_escaped(const char *unused, size_t n)
+{
+    (void)unused, (void)n;
+    sink += (int)glyph_label_write_escaped(units, last.units * 2, clusters, last.clusters * 8, glyphs, last.glyphs * 16, out_text, sizeof out_text,
+        out_indices, sizeof out_indices).text;
+}
+
+/* As best, of one of these calls on the text. */
+static double best_call(void (*call)(const char *, size_t), int rounds)
+{
+    size_t n = strlen(text);
+    double least = 1e30;
+    for (int k = 0; k < ROUNDS; k++) {
+        char *t0 = memcpy(text_at + k * STEP, text, n + 1);
+        volatile char *deeper = alloca(STEP);
+        deeper[0] = 0;
+        double start = now();
+        for (int r = 0; r < rounds; r++) call(t0, n);
+        double t = (now() - start) / rounds;
+        if (t < least) least = t;
+    }
+    return least;
+}
+
+static void measure_resolving(const char *name)
+{
+    size_t n = strlen(text), m = plain_resolve(text, n, (char *)out_indices);
+    glyph_label_filled f = glyph_label_resolve((uint8_t *)text, n, out_text, sizeof out_text);
+    if (f.number || f.filled != m || memcmp(out_text, out_indices, m) != 0) { printf("%s: not resolved alike\n", name); exit(1); }
+    int rounds = n < 100 ? 100000 : 2000;
+    double a = best_call(call_plain_resolve, rounds), b = best_call(call_resolve, rounds);
+    printf("%-34s %9.0f %9.0f %6.2f\n", name, a, b, b / a);
+}
+
+static void measure_escaping(const char *name)
+{
+    last = glyph_label_read((uint8_t *)text, strlen(text), (uint8_t *)indices, strlen(indices), units, sizeof units, clusters, sizeof clusters, glyphs, sizeof glyphs);
+    if (last.number) { printf("%s: refused with %u\n", name, last.number); exit(1); }
+    int rounds = last.units < 100 ? 20000 : 500;
+    double a = best_call(call_write, rounds), b = best_call(call_write_escaped, rounds);
+    printf("%-34s %9.0f %9.0f %6.2f\n", name, a, b, b / a);
+}
+
+static void measure_raw(void)
+{
+    static const char *const letter[] = {"A"};
+    static const char *const names[] = {"&amp;", "&lt;", "&quot;", "&apos;"}, *const characters[] = {"&#233;", "&#xE33;", "&#8364;", "&#x1F600;"};
+    static const char *const six[] = {"&", "<", "\"", "\t", "\n", "\r"};
+    printf("%-34s %9s %9s %6s\n", "raw value (ns a call)", "plain", "resolve", "ratio");
+    make_text(12, letter, 1);
+    measure_resolving("12 bytes, no references");
+    make_text(1000, letter, 1);
+    measure_resolving("1,000 bytes, no references");
+    make_text(12, names, 4);
+    measure_resolving("12 characters, 2 names");
+    make_text(1000, names, 4);
+    measure_resolving("1,000 characters, 200 names");
+    make_text(1000, characters, 4);
+    measure_resolving("1,000 characters, 200 numbers");
+    printf("%-34s %9s %9s %6s\n", "run (ns a call)", "write", "escaped", "ratio");
+    make(12, "%d,55.5", "A");
+    measure_escaping("12 glyphs, none escaped");
+    make_text(12, six, 6);
+    measure_escaping("12 glyphs, every fifth escaped");
+    make(1000, "%d,55.5", "A");
+    measure_escaping("1,000 glyphs, none escaped");
+    make_text(1000, six, 6);
+    measure_escaping("1,000 glyphs, every fifth escaped");
+    indices[0] = 0;
+    make_text(1000, letter, 1);
+    measure_escaping("1,000 in the tail, none escaped");
+    make_text(1000, six, 6);
+    measure_escaping("1,000 in the tail, every fifth");
+}
+
 /* ── the stack of a call ── */
 
 #define STACK (1 << 20)
@@ -181,6 +314,14 @@ static void *both_calls(void *unused)
 {
     last = glyph_label_read((uint8_t *)text, strlen(text), (uint8_t *)indices, strlen(indices), units, sizeof units, clusters, sizeof clusters, glyphs, sizeof glyphs);
     glyph_label_write(units, last.units * 2, clusters, last.clusters * 8, glyphs, last.glyphs * 16, out_text, sizeof out_text, out_indices, sizeof out_indices);
+    return unused;
+}
+
+static void *raw_calls(void *unused)
+{
+    both_calls(unused);
+    call_write_escaped(NULL, 0);
+    call_resolve(text, strlen(text));
     return unused;
 }
 
@@ -198,10 +339,10 @@ static long touched(void *(*run)(void *))
     return STACK - k;
 }
 
-static long stack_of_calls(int n)
+static long stack_of_calls(void *(*calls)(void *), int n)
 {
     make(n, "%d,55.5", "A");
-    return touched(both_calls) - touched(no_call);
+    return touched(calls) - touched(no_call);
 }
 
 int main(void)
@@ -229,6 +370,8 @@ int main(void)
     make(4000, "%d,55.5,-1.25,.5", "A");
     measure("4,000 glyphs, all fields", 4000);
     printf("growth of reading from 100 to 4,000 glyphs: %.1f times (40 is linear)\n", reading_ns / small);
-    printf("stack of a reading and a writing, bytes: %ld for 32 glyphs, %ld for 4,096\n", stack_of_calls(32), stack_of_calls(4096));
+    printf("stack of a reading and a writing, bytes: %ld for 32 glyphs, %ld for 4,096\n", stack_of_calls(both_calls, 32), stack_of_calls(both_calls, 4096));
+    measure_raw();
+    printf("stack with an escaped writing and a resolving, bytes: %ld for 32 glyphs, %ld for 4,096\n", stack_of_calls(raw_calls, 32), stack_of_calls(raw_calls, 4096));
     return 0;
 }

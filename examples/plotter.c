@@ -4,6 +4,7 @@
  *     cc -I include examples/plotter.c target/staticlib/libglyph_label.a -o plotter
  *     ./plotter 'flow' '(2:1)192;7,55.5'            picks all glyphs
  *     ./plotter 'flow' '(2:1)192;7,55.5' 1 2        picks glyph 1
+ *     ./plotter --raw 'A&amp;B' '5;6;7'             resolves text and indices first, and escapes what it writes back
  */
 #include <stdio.h>
 #include <stdlib.h>
@@ -11,8 +12,8 @@
 
 #include "glyph_label.h"
 
-/* Large enough for every label. */
-enum { UNITS = 2 * 4096, CLUSTERS = 8 * 4096, GLYPHS = 16 * 4096, TEXT = 16384, INDICES = 262144 };
+/* Large enough for every label, TEXT for an escaped one too. */
+enum { UNITS = 2 * 4096, CLUSTERS = 8 * 4096, GLYPHS = 16 * 4096, TEXT = 24576, INDICES = 262144 };
 
 static uint8_t units[UNITS], clusters[CLUSTERS], glyphs[GLYPHS], text_out[TEXT], indices_out[INDICES];
 
@@ -76,44 +77,78 @@ static void print_bytes(const char *name, const uint8_t *bytes, size_t n) {
     printf("\n");
 }
 
+/* A text or its indices. */
+typedef struct {
+    const uint8_t *bytes;
+    size_t len;
+} value;
+
 /* Number and place of a refusal, and the part of the label that it is about. */
-static int refused(const uint8_t *text, size_t text_len, const uint8_t *indices, size_t indices_len, uint32_t number,
-                   uint32_t place) {
-    glyph_label_part p = glyph_label_fault(text, text_len, indices, indices_len, number, place);
+static int refused(value text, value indices, uint32_t number, uint32_t place) {
+    glyph_label_part p = glyph_label_fault(text.bytes, text.len, indices.bytes, indices.len, number, place);
     printf("refused: number %u, place %u\n", number, place);
     if (p.in_indices)
-        print_bytes("entry: ", indices + p.start, p.length);
+        print_bytes("entry: ", indices.bytes + p.start, p.length);
     else if (p.length != 0)
-        print_bytes("text: ", text + p.start, p.length);
+        print_bytes("text: ", text.bytes + p.start, p.length);
     return 1;
 }
 
-int main(int argc, char **argv) {
-    if (argc != 2 && argc != 3 && argc != 5) {
-        fprintf(stderr, "usage: plotter TEXT [INDICES [FIRST END]]\n");
-        return 2;
+/* Resolves a raw value into memory as long as the value, which is always enough; or shows it from the bad place on. */
+static int resolve(const char *name, value *v) {
+    uint8_t *out = malloc(v->len + 1); /* malloc(0) may give NULL */
+    if (out == NULL)
+        exit(2);
+    glyph_label_filled f = glyph_label_resolve(v->bytes, v->len, out, v->len);
+    if (f.number != 0) {
+        printf("refused: number %u, place %u\n", f.number, f.place);
+        print_bytes(name, v->bytes + f.place, v->len - f.place);
+        return 1;
     }
-    const uint8_t *text = (const uint8_t *)argv[1], *indices = argc < 3 ? NULL : (const uint8_t *)argv[2];
-    size_t text_len = strlen(argv[1]), indices_len = argc < 3 ? 0 : strlen(argv[2]);
+    v->bytes = out;
+    v->len = f.filled;
+    return 0;
+}
 
-    glyph_label_reading r =
-        glyph_label_read(text, text_len, indices, indices_len, units, UNITS, clusters, CLUSTERS, glyphs, GLYPHS);
+/* Reads the label, picks the glyphs from pick[0] to pick[1] or all of them, and writes it back, escaped where it was
+ * raw. */
+static int plot(value text, value indices, char **pick, int raw) {
+    glyph_label_reading r = glyph_label_read(text.bytes, text.len, indices.bytes, indices.len, units, UNITS, clusters,
+                                             CLUSTERS, glyphs, GLYPHS);
     if (r.number != 0)
-        return refused(text, text_len, indices, indices_len, r.number, r.place);
+        return refused(text, indices, r.number, r.place);
     print_run(r);
 
     /* From here on the run is handed in, with its exact sizes. */
     size_t u = 2 * (size_t)r.units, c = 8 * (size_t)r.clusters, g = 16 * (size_t)r.glyphs;
-    size_t first = argc < 5 ? 0 : strtoul(argv[3], NULL, 10), end = argc < 5 ? r.glyphs : strtoul(argv[4], NULL, 10);
+    size_t first = pick ? strtoul(pick[0], NULL, 10) : 0, end = pick ? strtoul(pick[1], NULL, 10) : r.glyphs;
     glyph_label_stretch s = glyph_label_units_of(units, u, clusters, c, glyphs, g, first, end);
     if (s.number != 0)
-        return refused(text, text_len, indices, indices_len, s.number, s.place);
+        return refused(text, indices, s.number, s.place);
     printf("glyphs %zu to %zu touch the code units %u to %u\n", first, end, s.first, s.end);
 
-    glyph_label_writing w = glyph_label_write(units, u, clusters, c, glyphs, g, text_out, TEXT, indices_out, INDICES);
+    glyph_label_writing w =
+        raw ? glyph_label_write_escaped(units, u, clusters, c, glyphs, g, text_out, TEXT, indices_out, INDICES)
+            : glyph_label_write(units, u, clusters, c, glyphs, g, text_out, TEXT, indices_out, INDICES);
     if (w.number != 0)
-        return refused(text, text_len, indices, indices_len, w.number, w.place);
+        return refused(text, indices, w.number, w.place);
     print_bytes("text:    ", text_out, w.text);
     print_bytes("indices: ", indices_out, w.indices);
     return 0;
+}
+
+int main(int argc, char **argv) {
+    int raw = argc > 1 && strcmp(argv[1], "--raw") == 0;
+    argc -= raw;
+    argv += raw;
+    if (argc != 2 && argc != 3 && argc != 5) {
+        fprintf(stderr, "usage: plotter [--raw] TEXT [INDICES [FIRST END]]\n");
+        return 2;
+    }
+    value text = {(const uint8_t *)argv[1], strlen(argv[1])}, indices = {NULL, 0};
+    if (argc > 2)
+        indices.bytes = (const uint8_t *)argv[2], indices.len = strlen(argv[2]);
+    if (raw && (resolve("raw text: ", &text) || resolve("raw indices: ", &indices)))
+        return 1;
+    return plot(text, indices, argc < 5 ? NULL : argv + 3, raw);
 }

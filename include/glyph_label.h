@@ -1,10 +1,13 @@
 /* Glyph labels of OpenXPS (ECMA-388, 12.1): from the text and the indices of a Glyphs element to a run of code units,
  * clusters and glyphs, and back.
  *
- * A label is a text (the value of UnicodeString in UTF-8, its XML references resolved) with its indices (the value of
- * Indices). Reading it gives a run: its UTF-16 code units, its clusters, and its glyph records. Writing a run gives
- * its normal writing, the one label that stands for all those that read as this run. Picking goes from a stretch of
- * glyphs to the code units of all clusters that they touch, and back.
+ * A label is a text (the value of UnicodeString in UTF-8) with its indices (the value of Indices), the XML references
+ * of both resolved. Reading it gives a run: its UTF-16 code units, its clusters, and its glyph records. Writing a run
+ * gives its normal writing, the one label that stands for all those that read as this run. Picking goes from a stretch
+ * of glyphs to the code units of all clusters that they touch, and back.
+ *
+ * An attribute value as it stands on the page is raw: its references are not resolved. Whoever holds raw values
+ * resolves the text, then the indices, and reads what comes out. A run can also be written escaped, ready for a page.
  *
  * Link target/staticlib/libglyph_label.a (made by `rt staticlib glyph_label`). Nothing is allocated, nothing is kept
  * between calls, and there is no state: any number of threads may call at once. A call takes at most 110 KiB of stack,
@@ -57,10 +60,14 @@
  *         20  text has too little room                                bytes needed
  *         21  indices has too little room                             bytes needed
  *         22  the stretch is empty, reversed or passes the end        0
+ *         23  bad reference or raw `<`                                byte of the raw value where the first begins
+ *         24  out has too little room                                 bytes needed
  *
  * Bytes, entries, code units, clusters and glyphs are numbered from 0. The checks are made in this order, but for
  * 14, which comes before the tail's 13; entries are checked one by one, each from 7 to 13. The first that fails gives
- * the answer. */
+ * the answer. 23 and 24, in this order, come before 1: resolving is a call of its own, made before a reading, for the
+ * text and then for the indices. A place above 4,294,967,295, which only a raw value of 4 GiB or more can have, is
+ * given as 4,294,967,295. */
 #ifndef GLYPH_LABEL_H
 #define GLYPH_LABEL_H
 
@@ -78,10 +85,16 @@ typedef struct {
     uint32_t number, place, units, clusters, glyphs, rounded;
 } glyph_label_reading;
 
-/* Bytes that were written: at most 16,384 of text and 262,144 of indices. */
+/* Bytes that were written: at most 16,384 of text, 24,576 where it is escaped, and 262,144 of indices. */
 typedef struct {
     uint32_t number, place, text, indices;
 } glyph_label_writing;
+
+/* Bytes that were filled. */
+typedef struct {
+    uint32_t number, place;
+    size_t filled;
+} glyph_label_filled;
 
 /* A stretch from `first` up to and without `end`. */
 typedef struct {
@@ -93,6 +106,14 @@ typedef struct {
     uint32_t in_indices;
     size_t start, length;
 } glyph_label_part;
+
+/* Resolves one raw attribute value, of any size. `&amp;` `&lt;` `&gt;` `&quot;` `&apos;` and character references,
+ * `&#65;` or `&#x41;`, become their character in UTF-8. A raw tab, line feed or carriage return becomes a blank, a
+ * carriage return with its line feed one blank; a referenced one stays. Every other byte is copied, for the reading to
+ * judge. What a reference gives is not looked at again. A reference is bad where XML 1.0 has no such form, where its
+ * name is none of the five, or where XML 1.0 does not allow its character. Refusals 23 and 24. What comes out is never
+ * longer than the raw value, so that raw_len bytes of out are always large enough; out may not be raw itself. */
+glyph_label_filled glyph_label_resolve(const uint8_t *raw, size_t raw_len, uint8_t *out, size_t out_len);
 
 /* Reads a label into the three buffers of a run. Refusals 1 to 18. Buffers of 8,192, 32,768 and 65,536 bytes are
  * large enough for every label; to learn what one needs, read it with empty buffers and look at 16, 17 and 18 one
@@ -107,6 +128,14 @@ glyph_label_reading glyph_label_read(const uint8_t *text, size_t text_len, const
 glyph_label_writing glyph_label_write(const uint8_t *units, size_t units_len, const uint8_t *clusters,
                                       size_t clusters_len, const uint8_t *glyphs, size_t glyphs_len, uint8_t *text,
                                       size_t text_len, uint8_t *indices, size_t indices_len);
+
+/* As glyph_label_write, with the text escaped: `&` `<` `"` tab, line feed and carriage return are written as `&amp;`
+ * `&lt;` `&quot;` `&#9;` `&#10;` and `&#13;`. Both outputs can then stand between double quotes as attribute values.
+ * Resolving gives back the bytes of glyph_label_write; the indices have nothing to escape. Refusals 19 to 21, where 20
+ * counts the escaped bytes. Buffers of 24,576 and 262,144 bytes are large enough for every run. */
+glyph_label_writing glyph_label_write_escaped(const uint8_t *units, size_t units_len, const uint8_t *clusters,
+                                              size_t clusters_len, const uint8_t *glyphs, size_t glyphs_len,
+                                              uint8_t *text, size_t text_len, uint8_t *indices, size_t indices_len);
 
 /* The code units of all clusters touched by the glyphs from `first` up to and without `end`: 0 to 0 in a run without
  * code units. The run's sizes are exact, as in glyph_label_write. Refusals 19 and 22. */

@@ -1,6 +1,6 @@
 #!/bin/sh
 # Builds the archive, then compiles and runs the tests of the calls for C and the example: plainly, and under valgrind.
-# Quiet but for failures; the last line says what passed.
+# Quiet but for failures; the last line says what passed. With the argument `large`, raw values above 4 GiB as well, which takes half a minute.
 set -eu
 cd "$(dirname "$0")/../.."
 out=target/c
@@ -21,6 +21,11 @@ checked=$(valgrind -q --error-exitcode=9 "$out/test_calls" 2000)
 "$out/plotter" '{}flow' '(2:1)192;07,+55.50,,0' 1 2 > "$out/plotter.out"
 "$out/plotter" A '5,.0005,1.5,-1e-4' >> "$out/plotter.out"
 "$out/plotter" AB '(2:2)5' >> "$out/plotter.out" && exit 1
+"$out/plotter" --raw "$(printf '&lt;\r\n&#9;&#x42;')" '&#53;;6,1' 0 1 >> "$out/plotter.out"
+"$out/plotter" --raw 'a&nbsp;b' '<' >> "$out/plotter.out" && exit 1
+"$out/plotter" --raw '&amp;' '5;<6' >> "$out/plotter.out" && exit 1
+"$out/plotter" --raw '&#123;a' >> "$out/plotter.out" && exit 1
 diff tests/c/plotter.expected "$out/plotter.out"
+[ "${1-}" != large ] || "$out/test_calls" large
 echo "tests/c: $passed"
 echo "tests/c: passed, under valgrind too: ${checked%%;*}; header as C and C++, example"

@@ -1,14 +1,18 @@
 /* Tests of the calls of glyph_label.h: labels with their runs and normal writings, refusals that must change nothing,
- * sizes one byte short, left-over bytes, picks, faults, and runs and labels from random bytes.
+ * sizes one byte short, left-over bytes, picks, faults, raw values, escaped writings, and runs, labels and raw values
+ * from random bytes.
  *
- *     test_calls [ROUNDS]     how many random cases of each kind
+ *     test_calls [ROUNDS]     how many random cases of each kind; with fewer than 200,000 the exhaustive ones are thinned out
+ *     test_calls large        only raw values above 4 GiB, which takes half a minute
  *
  * Inputs are allocated at their exact sizes and outputs stand between guard bytes, so that valgrind or a compare sees
  * any byte read or written outside. */
+#define _DEFAULT_SOURCE /* for MAP_ANONYMOUS */
 #include <stdarg.h>
 #include <stdio.h>
 #include <stdlib.h>
 #include <string.h>
+#include <sys/mman.h>
 
 #include "glyph_label.h"
 
@@ -91,6 +95,8 @@ static uint8_t *new_input(const void *from, size_t size) {
     return p;
 }
 
+static int same_bytes(const void *a, const void *b, size_t n) { return n == 0 || (a && b && memcmp(a, b, n) == 0); }
+
 static void put_number(uint8_t *p, int32_t v) {
     uint32_t bits = (uint32_t)v;
     for (int i = 0; i < 4; i++)
@@ -143,6 +149,10 @@ static int is_stretch(glyph_label_stretch s, uint32_t number, uint32_t first, ui
     return s.number == number && s.place == 0 && s.first == first && s.end == end;
 }
 
+static int is_filled(glyph_label_filled f, uint32_t number, uint32_t place, size_t filled) {
+    return f.number == number && f.place == place && f.filled == filled;
+}
+
 static int is_part(glyph_label_part p, uint32_t in_indices, size_t start, size_t length) {
     return p.in_indices == in_indices && p.start == start && p.length == length;
 }
@@ -172,9 +182,12 @@ static glyph_label_reading read_into(const char *what, const uint8_t *text, size
     return r;
 }
 
-static glyph_label_writing write_into(const char *what, const run *r, size_t t, size_t i, uint8_t **text, uint8_t **indices) {
+typedef glyph_label_writing writing_call(const uint8_t *, size_t, const uint8_t *, size_t, const uint8_t *, size_t, uint8_t *, size_t, uint8_t *,
+                                         size_t);
+
+static glyph_label_writing write_by(writing_call *call, const char *what, const run *r, size_t t, size_t i, uint8_t **text, uint8_t **indices) {
     output ts = new_output(t), is = new_output(i);
-    glyph_label_writing w = glyph_label_write(RUN(*r), ts.bytes, t, is.bytes, i);
+    glyph_label_writing w = call(RUN(*r), ts.bytes, t, is.bytes, i);
     int stays = stays_behind(&ts, w.text) && stays_behind(&is, w.indices);
     check(stays, "%s: a writing into %zu %zu changed other bytes", what, t, i);
     check(w.number == 0 || (w.text == 0 && w.indices == 0), "%s: lengths of a refusal", what);
@@ -187,12 +200,80 @@ static glyph_label_writing write_into(const char *what, const run *r, size_t t, 
     return w;
 }
 
-/* A run from any hand: it is written, and read back as it was; or it is refused with 19, by the picks too. A sound one has at most 3 bytes of text
- * a unit, and 57 of indices a glyph. */
+static glyph_label_writing write_into(const char *what, const run *r, size_t t, size_t i, uint8_t **text, uint8_t **indices) {
+    return write_by(glyph_label_write, what, r, t, i, text, indices);
+}
+
+static glyph_label_writing escape_into(const char *what, const run *r, size_t t, size_t i, uint8_t **text, uint8_t **indices) {
+    return write_by(glyph_label_write_escaped, what, r, t, i, text, indices);
+}
+
+/* The first bytes of a raw value for a message. */
+static const char *shown(const uint8_t *raw, size_t n) {
+    static char text[4 * 40 + 1];
+    char *p = text;
+    for (size_t k = 0; k < n && k < 40; k++)
+        p += sprintf(p, raw[k] < 0x20 || raw[k] >= 0x7F ? "\\x%02X" : "%c", raw[k]);
+    *p = 0;
+    return text;
+}
+
+/* Resolves into `room` bytes: the answer must be this one, with these bytes where it is no refusal, and the rest must stay. */
+static void resolve_into(const uint8_t *raw, size_t n, size_t room, uint32_t number, uint32_t place, const void *bytes, size_t size) {
+    output o = new_output(room);
+    glyph_label_filled f = glyph_label_resolve(raw, n, o.bytes, room);
+    int right = number != 0 ? is_filled(f, number, place, 0) : is_filled(f, 0, 0, size) && same_bytes(o.bytes, bytes, size);
+    int stays = stays_behind(&o, f.filled);
+    check(right, "%s resolved into %zu bytes: %u %u, %zu filled", right ? "" : shown(raw, n), room, f.number, f.place, f.filled);
+    check(stays, "%s resolved into %zu bytes: other bytes changed", stays ? "" : shown(raw, n), room);
+    free_output(&o);
+}
+
+/* Escapes n bytes as document 02 says; gives how many they become, at most 6 for each. */
+static size_t escape(const uint8_t *from, size_t n, uint8_t *to) {
+    static const char escaped[] = "&<\"\t\n\r";
+    static const char *const become[] = {"&amp;", "&lt;", "&quot;", "&#9;", "&#10;", "&#13;"};
+    size_t size = 0;
+    for (size_t k = 0; k < n; k++) {
+        const char *found = memchr(escaped, from[k], 6);
+        size_t more = found ? strlen(become[found - escaped]) : 1;
+        memcpy(to + size, found ? (const void *)become[found - escaped] : from + k, more);
+        size += more;
+    }
+    return size;
+}
+
+/* The escaped writing of a run that is written like this: the same indices and the text escaped, counted so in 20 and 21. Resolving gives back
+ * the writing. Where the run was refused, it is again. */
+static void try_escaped(const char *what, const run *r, glyph_label_writing w, const uint8_t *text, const uint8_t *indices) {
+    uint8_t *wanted = new_bytes(6 * (size_t)w.text), *t, *i;
+    size_t n = escape(text, w.text, wanted), more = w.number == 0 ? 0 : 40;
+    glyph_label_writing e = escape_into(what, r, n + more, w.indices + more, &t, &i);
+    int ok = is_writing(e, w.number, w.place, (uint32_t)n, w.indices) && same_bytes(t, wanted, n) && same_bytes(i, indices, w.indices);
+    check(ok, "%s: escaped %u %u, %u and %u bytes", what, e.number, e.place, e.text, e.indices);
+    if (w.number != 0)
+        check(is_writing(escape_into(what, r, 0, 0, NULL, NULL), w.number, w.place, 0, 0), "%s: escaped, %u before 20", what, w.number);
+    else if (ok) {
+        resolve_into(t, n, w.text, 0, 0, text, w.text);
+        resolve_into(i, w.indices, w.indices, 0, 0, indices, w.indices);
+        check(is_writing(escape_into(what, r, n + 9, w.indices + 9, NULL, NULL), 0, 0, (uint32_t)n, w.indices), "%s: escaped, large", what);
+        if (n > 0)
+            check(is_writing(escape_into(what, r, n - 1, 0, NULL, NULL), 20, (uint32_t)n, 0, 0), "%s: escaped, 20", what);
+        if (w.indices > 0)
+            check(is_writing(escape_into(what, r, n, w.indices - 1, NULL, NULL), 21, w.indices, 0, 0), "%s: escaped, 21", what);
+    }
+    free(wanted);
+    free(t);
+    free(i);
+}
+
+/* A run from any hand: it is written, escaped too, and read back as it was; or it is refused with 19, by the picks too. A sound one has at most 3
+ * bytes of text a unit, and 57 of indices a glyph. */
 static int try_run(const char *what, const run *r) {
     uint8_t *text, *indices;
     glyph_label_writing w = write_into(what, r, 2 * r->units_len + 2, 4 * r->glyphs_len, &text, &indices);
     glyph_label_stretch to_units = glyph_label_units_of(RUN(*r), 0, 1), to_glyphs = glyph_label_glyphs_of(RUN(*r), 0, 1);
+    try_escaped(what, r, w, text, indices);
     if (w.number != 0) {
         check(is_writing(w, 19, 0, 0, 0), "%s: refused with %u %u", what, w.number, w.place);
         check(is_stretch(to_units, 19, 0, 0) && is_stretch(to_glyphs, 19, 0, 0), "%s: a pick of an unsound run", what);
@@ -350,6 +431,10 @@ static void test_null(void) {
     check(is_reading(glyph_label_read(NULL, 0, NULL, 0, NULL, 0, NULL, 0, NULL, 0), 6, 0, 0, 0, 0), "an empty label");
     check(is_reading(glyph_label_read(NULL, 0, (const uint8_t *)"5", 1, NULL, 0, NULL, 0, NULL, 0), 17, 1, 0, 0, 0), "no units, no buffers");
     check(is_writing(glyph_label_write(NULL, 0, NULL, 0, NULL, 0, NULL, 0, NULL, 0), 19, 0, 0, 0), "an empty run");
+    check(is_writing(glyph_label_write_escaped(NULL, 0, NULL, 0, NULL, 0, NULL, 0, NULL, 0), 19, 0, 0, 0), "an empty run, escaped");
+    check(is_filled(glyph_label_resolve(NULL, 0, NULL, 0), 0, 0, 0), "an empty raw value");
+    check(is_filled(glyph_label_resolve((const uint8_t *)"&#65;", 5, NULL, 0), 24, 1, 0), "a raw value into no buffer");
+    check(is_filled(glyph_label_resolve((const uint8_t *)"aaa<", 4, NULL, 0), 23, 3, 0), "a raw `<` into no buffer");
     check(is_stretch(glyph_label_units_of(NULL, 0, NULL, 0, NULL, 0, 0, 1), 19, 0, 0), "units of an empty run");
     check(is_stretch(glyph_label_glyphs_of(NULL, 0, NULL, 0, NULL, 0, 0, 1), 19, 0, 0), "glyphs of an empty run");
     check(is_part(glyph_label_fault(NULL, 0, NULL, 0, 7, 0), 0, 0, 0), "a part of nothing");
@@ -545,12 +630,373 @@ static void test_all_rounded(size_t n) {
     free(indices);
 }
 
+/* ---- A plain model of resolving ---- */
+
+static int xml_char(double c) {
+    return c == 0x9 || c == 0xA || c == 0xD || (c >= 0x20 && c <= 0xD7FF) || (c >= 0xE000 && c <= 0xFFFD) || (c >= 0x10000 && c <= 0x10FFFF);
+}
+
+static size_t put_utf8(uint8_t *p, uint32_t c) {
+    size_t n = c < 0x80 ? 1 : c < 0x800 ? 2 : c < 0x10000 ? 3 : 4;
+    for (size_t k = n; k > 1; k--, c >>= 6)
+        p[k - 1] = (uint8_t)(0x80 | (c & 0x3F));
+    p[0] = (uint8_t)(n == 1 ? c : (0xF00 >> n & 0xFF) | c);
+    return n;
+}
+
+/* The reference that this `&` begins: its size, 0 where it is bad, and its character. The value is a double, which no digits overflow. */
+static size_t model_reference(const uint8_t *p, size_t n, uint32_t *c) {
+    static const char *const names[] = {"&amp;", "&lt;", "&gt;", "&quot;", "&apos;"};
+    static const char digits[] = "0123456789abcdefABCDEF";
+    const uint8_t *end = memchr(p, ';', n);
+    size_t size = end ? (size_t)(end - p) + 1 : 0, hex = size > 2 && p[2] == 'x';
+    double v = 0;
+    for (int k = 0; k < 5; k++)
+        if (size == strlen(names[k]) && memcmp(p, names[k], size) == 0)
+            return *c = (uint8_t)"&<>\"'"[k], size;
+    if (size < 4 + hex || p[1] != '#')
+        return 0;
+    for (const uint8_t *q = p + 2 + hex; q < end; q++) {
+        const char *d = memchr(digits, *q, hex ? 22 : 10);
+        if (!d)
+            return 0;
+        v = v * (hex ? 16 : 10) + (d - digits < 16 ? d - digits : d - digits - 6);
+    }
+    *c = xml_char(v) ? (uint32_t)v : 0;
+    return xml_char(v) ? size : 0;
+}
+
+/* What comes of a raw value, into `out` of as many bytes. */
+static glyph_label_filled model(const uint8_t *raw, size_t n, uint8_t *out) {
+    size_t size = 0, used;
+    for (size_t i = 0; i < n; i += used) {
+        uint32_t c = 0;
+        used = raw[i] == '&' ? model_reference(raw + i, n - i, &c) : raw[i] != '<';
+        if (used == 0)
+            return (glyph_label_filled){23, (uint32_t)i, 0};
+        if (raw[i] == '&')
+            size += put_utf8(out + size, c);
+        else if (raw[i] != '\n' || i == 0 || raw[i - 1] != '\r')
+            out[size++] = raw[i] == '\t' || raw[i] == '\n' || raw[i] == '\r' ? ' ' : raw[i];
+    }
+    return (glyph_label_filled){0, 0, size};
+}
+
+/* ---- Resolving ---- */
+
+/* A raw value and what must come of it: 23 whatever the room, or these bytes, and 24 where there is no room for them. */
+static void test_raw(const void *raw, size_t n, uint32_t number, uint32_t place, const void *bytes, size_t size) {
+    uint8_t *in = new_input(raw, n);
+    resolve_into(in, n, n + 3, number, place, bytes, size);
+    resolve_into(in, n, size, number, place, bytes, size);
+    if (size > 0) {
+        resolve_into(in, n, size - 1, 24, (uint32_t)size, NULL, 0);
+        resolve_into(in, n, 0, 24, (uint32_t)size, NULL, 0);
+    }
+    free(in);
+}
+
+/* A raw value against the model. */
+static glyph_label_filled test_model(const uint8_t *raw, size_t n) {
+    uint8_t *out = new_bytes(n);
+    glyph_label_filled f = model(raw, n, out);
+    test_raw(raw, n, f.number, f.place, out, f.filled);
+    free(out);
+    return f;
+}
+
+typedef struct {
+    const char *raw;
+    size_t n;
+    uint32_t number, place; /* of the refusal, or 0 and: */
+    const char *out;
+    size_t size;
+} raw_row;
+
+#define GIVES(raw, out) {raw, sizeof raw - 1, 0, 0, out, sizeof out - 1}
+#define BAD(raw, place) {raw, sizeof raw - 1, 23, place, "", 0}
+
+static const raw_row raw_rows[] = {
+    GIVES("", ""), GIVES("flow", "flow"), GIVES("&amp;&lt;&gt;&quot;&apos;", "&<>\"'"), GIVES("a&#65;b&#x42;c", "aAbBc"),
+    /* Characters that may not stand, and the last ones that may. */
+    BAD("&#0;", 0), BAD("&#x0;", 0), BAD("&#8;", 0), BAD("&#xB;", 0), BAD("&#12;", 0), BAD("&#14;", 0), BAD("&#31;", 0), BAD("&#xD800;", 0),
+    BAD("&#xDBFF;&#xDC00;", 0), BAD("&#xdfff;", 0), BAD("&#xFFFE;", 0), BAD("&#65535;", 0), BAD("&#x110000;", 0), BAD("&#1114112;", 0),
+    GIVES("&#x9;&#10;&#xD;&#32;", "\t\n\r "), GIVES("&#x7F;", "\x7F"), GIVES("&#x80;&#x7FF;", "\xC2\x80\xDF\xBF"),
+    GIVES("&#x800;&#xD7FF;&#xE000;", "\xE0\xA0\x80\xED\x9F\xBF\xEE\x80\x80"), GIVES("&#xFFFD;", "\xEF\xBF\xBD"),
+    GIVES("&#x10000;&#x10FFFF;", "\xF0\x90\x80\x80\xF4\x8F\xBF\xBF"), GIVES("&#128512;", "\xF0\x9F\x98\x80"), GIVES("&#x1FFFE;", "\xF0\x9F\xBF\xBE"),
+    /* The form of a character reference. */
+    BAD("&#X41;", 0), GIVES("&#x4a;&#x4A;", "JJ"), GIVES("&#xaF;&#xAf;", "\xC2\xAF\xC2\xAF"), GIVES("&#0065;&#x00041;", "AA"), BAD("&#4294967361;", 0),
+    BAD("&#18446744073709551681;", 0), BAD("&#x100000041;", 0), BAD("&#x10000000000000041;", 0), BAD("&#;", 0), BAD("&#x;", 0), BAD("&#65", 0),
+    BAD("&#x41", 0), BAD("&#", 0), BAD("&#x", 0), BAD("&# 65;", 0), BAD("&#65 ;", 0), BAD("&#x 41;", 0), BAD("&#x41 ;", 0), BAD("& #65;", 0),
+    BAD("&#6a;", 0), BAD("&#A;", 0), BAD("&#x4G;", 0), BAD("&#xx41;", 0), BAD("&#0x41;", 0), BAD("&#-65;", 0), BAD("&#+65;", 0), BAD("&#6&#65;", 0),
+    BAD("&x41;", 0), BAD("&65;", 0), BAD("&#6\r\n5;", 0),
+    /* The form of a name. */
+    BAD("&nbsp;", 0), BAD("&AMP;", 0), BAD("&Lt;", 0), BAD("&amp", 0), BAD("&lt &gt;", 0), BAD("&quot&quot;", 0), BAD("& amp;", 0), BAD("&amp ;", 0),
+    BAD("&", 0), BAD("&;", 0), BAD("&&amp;", 0), BAD("&am;", 0), BAD("&amps;", 0), BAD("&a", 0), BAD("&apo;", 0), BAD("&ap", 0), BAD("&l;", 0),
+    BAD("a & b", 2), BAD("&amp\0;", 0),
+    /* What a reference gives is not looked at again, and only a raw `<` is bad. */
+    GIVES("&amp;lt;", "&lt;"), GIVES("&#38;lt;", "&lt;"), GIVES("&#x26;#60;", "&#60;"), GIVES("&amp;amp;amp;", "&amp;amp;"), GIVES("&#60;&lt;", "<<"),
+    BAD("<", 0), BAD("&lt;<", 4), GIVES(">\"']]>", ">\"']]>"), GIVES("&lt;b>&#x3C;/b>", "<b></b>"),
+    /* White space. */
+    GIVES("\t\n\r", "   "), GIVES("a\r\nb", "a b"), GIVES("\n\r", "  "), GIVES("\r\r\n", "  "), GIVES("\r\n\n", "  "), GIVES("\r\n\r\n", "  "),
+    GIVES("\r&#10;", " \n"), GIVES("&#13;\n", "\r "), GIVES("&#13;&#10;", "\r\n"), GIVES("\r&#13;\n\r", " \r  "), GIVES("&#9;\t", "\t "),
+    GIVES("a\r", "a "), GIVES("  a  b  ", "  a  b  "), GIVES(" &#32; ", "   "), GIVES("\xC2\x85\xE2\x80\xA8", "\xC2\x85\xE2\x80\xA8"),
+    /* The mark and what looks like it. */
+    GIVES("&#123;a", "{a"), GIVES("&#123;&#125;a", "{}a"), GIVES("{}&lt;", "{}<"),
+    /* Bytes that no text has are copied. */
+    GIVES("\xFF\xC3", "\xFF\xC3"), GIVES("\x00\x01\x0B", "\x00\x01\x0B"), GIVES("\xED\xA0\x80\xEF\xBF\xBE", "\xED\xA0\x80\xEF\xBF\xBE"),
+    GIVES("\xE0&#65;\xB8", "\xE0" "A\xB8"), BAD("\xC3<", 1), GIVES("&#195;\xC3", "\xC3\x83\xC3"),
+    /* The place is that of the first, in the raw bytes. */
+    BAD("aaa<", 3), BAD("a&b<", 1), BAD("<&", 0), BAD("a<&", 1), BAD("&amp;&x;", 5), BAD("\r\n<", 2), BAD("&#x1F600;&#0;&#1;", 9), BAD("&lt;&gt;&quot", 8),
+};
+
+static void test_raw_rows(void) {
+    check(sizeof(glyph_label_filled) == 8 + sizeof(size_t), "the size of a filling");
+    for (size_t k = 0; k < sizeof raw_rows / sizeof raw_rows[0]; k++) {
+        const raw_row *w = &raw_rows[k];
+        test_raw(w->raw, w->n, w->number, w->place, w->out, w->size);
+        check(is_filled(test_model((const uint8_t *)w->raw, w->n), w->number, w->place, w->size), "the model of %s", w->raw);
+    }
+}
+
+/* The references to all numbers up to past the last character, or to every step-th. */
+static void test_references(uint32_t step) {
+    static const char *const forms[] = {"&#%lu;", "&#x%lx;", "&#x%lX;"};
+    for (uint32_t c = 0; c <= 0x110100; c += step) {
+        uint8_t utf8[4];
+        size_t size = put_utf8(utf8, c);
+        for (int k = 0; k < 3; k++) {
+            char raw[16];
+            size_t n = (size_t)sprintf(raw, forms[k], (unsigned long)c);
+            resolve_into((const uint8_t *)raw, n, n, xml_char(c) ? 0 : 23, 0, utf8, size);
+        }
+    }
+}
+
+/* All raw values of n of these bytes. */
+static void test_all_raw(const uint8_t *bytes, size_t count, size_t n) {
+    uint8_t raw[8];
+    size_t total = 1;
+    for (size_t k = 0; k < n; k++)
+        total *= count;
+    for (size_t number = 0; number < total; number++) {
+        size_t rest = number;
+        for (size_t k = 0; k < n; k++, rest /= count)
+            raw[k] = bytes[rest % count];
+        test_model(raw, n);
+    }
+}
+
+static void test_small_raw(int full) {
+    uint8_t any[256];
+    for (int k = 0; k < 256; k++)
+        any[k] = (uint8_t)k;
+    test_all_raw(any, 256, 1);
+    if (full)
+        test_all_raw(any, 256, 2);
+    for (size_t n = 2; n <= (full ? 5 : 3); n++)
+        test_all_raw((const uint8_t *)"&#x;lt\r\n\t< 4", 12, n);
+}
+
+/* Something at every place of a text, as a copy may go in larger steps. */
+static void test_places(void) {
+    static const char *const some[] = {"<", "&", "&amp;", "&#x1F600;", "&lt", "&#xD800;", "\r\n", "\r", "\n", "\t", "&#13;\n"};
+    for (size_t k = 0; k < sizeof some / sizeof some[0]; k++) {
+        for (size_t at = 0; at <= 40; at++) {
+            uint8_t raw[64];
+            size_t n = strlen(some[k]);
+            memset(raw, 'a', sizeof raw);
+            memcpy(raw + at, some[k], n);
+            test_model(raw, 40 + n);
+            test_model(raw, at + n);
+        }
+    }
+}
+
+/* A byte many times, between a start and an end. */
+static glyph_label_filled test_long(const char *start, int byte, size_t count, const char *end) {
+    size_t n = strlen(start), m = strlen(end);
+    uint8_t *raw = new_bytes(n + count + m);
+    memcpy(raw, start, n);
+    memset(raw + n, byte, count);
+    memcpy(raw + n + count, end, m);
+    glyph_label_filled f = test_model(raw, n + count + m);
+    free(raw);
+    return f;
+}
+
+static void test_long_raw(void) {
+    check(is_filled(test_long("&#", '0', 100000, "65;"), 0, 0, 1), "a reference with many zeros");
+    check(is_filled(test_long("&#x", '0', 100000, "10FFFF;"), 0, 0, 4), "a reference with many zeros, hexadecimal");
+    check(is_filled(test_long("&#", '0', 100000, ";"), 23, 0, 0), "a reference of zeros");
+    check(is_filled(test_long("&#", '9', 100000, ";"), 23, 0, 0), "a reference with many digits");
+    check(is_filled(test_long("&#x", 'F', 100000, ";"), 23, 0, 0), "a reference with many digits, hexadecimal");
+    for (size_t zeros = 4; zeros < 40; zeros++) {
+        check(is_filled(test_long("&#x1", '0', zeros, "41;"), 23, 0, 0), "16 to the power %zu and 65", zeros + 2);
+        check(is_filled(test_long("&#1", '0', zeros + 2, "65;"), 23, 0, 0), "10 to the power %zu and 65", zeros + 4);
+    }
+    check(is_filled(test_long("", 'a', 1 << 20, ""), 0, 0, 1 << 20), "a long raw value");
+    check(is_filled(test_long("", 'a', 1 << 20, "<"), 23, 1 << 20, 0), "a long raw value and `<`");
+    check(is_filled(test_long("", 'a', 70000, "&"), 23, 70000, 0), "a long raw value and `&`");
+    check(is_filled(test_long("&amp;", '\r', 70000, "\n"), 0, 0, 70001), "many carriage returns");
+}
+
+/* Raw values above 4 GiB: a place that 32 bits cannot hold is the largest that they can. Pages of zeros that are only read take no memory. */
+static void test_large(void) {
+    const size_t four = (size_t)1 << 32, n = four + 16;
+    uint8_t *raw = mmap(NULL, n, PROT_READ | PROT_WRITE, MAP_PRIVATE | MAP_ANONYMOUS | MAP_NORESERVE, -1, 0);
+    check(raw != MAP_FAILED, "no address space for a large raw value");
+    if (raw == MAP_FAILED)
+        return;
+    check(is_filled(glyph_label_resolve(raw, n, NULL, 0), 24, 4294967295u, 0), "24 of a large raw value");
+    check(is_filled(glyph_label_resolve(raw, four - 2, NULL, 0), 24, 4294967294u, 0), "24 of 2 bytes below 4 GiB");
+    raw[n - 1] = '<';
+    check(is_filled(glyph_label_resolve(raw, n, NULL, 0), 23, 4294967295u, 0), "23 at the end of a large raw value");
+    raw[four] = '&';
+    check(is_filled(glyph_label_resolve(raw, n, NULL, 0), 23, 4294967295u, 0), "23 at 4 GiB");
+    raw[four - 2] = '<';
+    check(is_filled(glyph_label_resolve(raw, n, NULL, 0), 23, 4294967294u, 0), "23 at 2 bytes below 4 GiB");
+    munmap(raw, n);
+}
+
+/* ---- Raw labels and escaped writings ---- */
+
+typedef struct {
+    const char *text, *indices; /* raw */
+    int where;                  /* the refusal is of the text (1), of the indices (2) or of the reading (3); or 0 and: */
+    uint32_t number, place;
+    const char *escaped_text, *normal_indices;
+} page_row;
+
+static const page_row page_rows[] = {
+    {"a&amp;b", "5;6", 0, 0, 0, "a&amp;b", "5;6"},
+    {"&lt;&gt;&quot;&apos;", "", 0, 0, 0, "&lt;>&quot;'", ""},
+    {"&#x9;&#xA;&#xD;", "", 0, 0, 0, "&#9;&#10;&#13;", ""},
+    {"a\tb\r\nc\n", "", 0, 0, 0, "a b c ", ""},
+    {"\r&#10;", "", 0, 0, 0, " &#10;", ""},
+    {"&amp;lt;", "", 0, 0, 0, "&amp;lt;", ""},
+    {"f&#x6C;", "&#40;2:1)192", 0, 0, 0, "fl", "(2)192"},
+    {"&#x1F600;", "(2)9", 0, 0, 0, "\xF0\x9F\x98\x80", "(2)9"},
+    {"", "&#53;;6", 0, 0, 0, "", "5;6"},
+    {"&#123;&#125;a", "5", 0, 0, 0, "a", "5"},
+    {"{}&#123;&lt;", "", 0, 0, 0, "{}{&lt;", ""},
+    {"{}{}&quot;", "", 0, 0, 0, "{}{}&quot;", ""},
+    {"{}&quot;{", "", 0, 0, 0, "&quot;{", ""},
+    {"&amp", "<", 1, 23, 0, 0, 0},
+    {"a<", "&#0;", 1, 23, 1, 0, 0},
+    {"a", "5;<", 2, 23, 2, 0, 0},
+    {"{a", "5;&", 2, 23, 2, 0, 0},
+    {"&#123;a", "5", 3, 4, 0, 0, 0},
+    {"a", " 5", 3, 7, 0, 0, 0},
+    {"a", "5\n", 3, 7, 0, 0, 0},
+    {"A", "5&#59;6", 3, 12, 1, 0, 0},
+    {"a\xFF", "", 3, 2, 1, 0, 0},
+    {"a\x01", "", 3, 3, 1, 0, 0},
+    {"&amp;\x01", "", 3, 3, 1, 0, 0},
+    {"a&#1;", "", 1, 23, 1, 0, 0},
+    {"", "", 3, 6, 0, 0, 0},
+};
+
+/* What resolved values read as, and how that is written back. */
+static void test_resolved(const page_row *w, const uint8_t *text, size_t text_len, const uint8_t *indices, size_t indices_len) {
+    run r;
+    glyph_label_reading a = read_into("raw label", text, text_len, indices, indices_len, 64, 256, 512, &r);
+    check((w->where == 0 || w->where == 3) && a.number == w->number && a.place == w->place, "%s %s: %u %u", w->text, w->indices, a.number, a.place);
+    if (w->where == 0 && a.number == 0) {
+        uint8_t *t, *i;
+        size_t tn = strlen(w->escaped_text), in = strlen(w->normal_indices);
+        glyph_label_writing e = escape_into("raw label", &r, tn, in, &t, &i);
+        check(is_writing(e, 0, 0, (uint32_t)tn, (uint32_t)in) && same_bytes(t, w->escaped_text, tn) && same_bytes(i, w->normal_indices, in),
+              "%s %s: escaped", w->text, w->indices);
+        check(try_run("raw label", &r), "the run of %s is sound", w->text);
+        free(t);
+        free(i);
+    }
+    free_run(&r);
+}
+
+/* Text, then indices, then the reading of what comes out. */
+static void test_page(const page_row *w) {
+    size_t tn = strlen(w->text), in = strlen(w->indices);
+    uint8_t *t = new_bytes(tn), *i = new_bytes(in);
+    glyph_label_filled a = glyph_label_resolve((const uint8_t *)w->text, tn, t, tn);
+    glyph_label_filled b = glyph_label_resolve((const uint8_t *)w->indices, in, i, in);
+    if (a.number != 0)
+        check(w->where == 1 && is_filled(a, w->number, w->place, 0), "%s: %u %u", w->text, a.number, a.place);
+    else if (b.number != 0)
+        check(w->where == 2 && is_filled(b, w->number, w->place, 0), "%s: %u %u", w->indices, b.number, b.place);
+    else
+        test_resolved(w, t, a.filled, i, b.filled);
+    free(t);
+    free(i);
+}
+
+/* A run of these units, each with a glyph of the font. */
+static run font_run(const uint8_t *units, size_t n) {
+    run r = new_run(2 * n, 8 * n, 16 * n);
+    for (size_t k = 0; k < n; k++) {
+        r.units[2 * k] = units[k];
+        for (size_t j = 0; j < 2; j++) {
+            put_number(r.clusters + 8 * k + 4 * j, 1);
+            put_number(r.glyphs + 16 * k + 4 * j, -1);
+        }
+    }
+    return r;
+}
+
+/* Runs of all n units of these: the six, the other two that have names, the mark, a letter. */
+static void test_all_escapes(size_t n) {
+    static const uint8_t some[] = {'&', '<', '"', '\t', '\n', '\r', '>', '\'', '{', '}', 'a'};
+    uint8_t units[8];
+    size_t count = sizeof some, total = 1;
+    for (size_t k = 0; k < n; k++)
+        total *= count;
+    for (size_t number = 0; number < total; number++) {
+        size_t rest = number;
+        for (size_t k = 0; k < n; k++, rest /= count)
+            units[k] = some[rest % count];
+        run r = font_run(units, n);
+        check(try_run("escapes", &r), "a run of %.*s is sound", (int)n, (const char *)units);
+        free_run(&r);
+    }
+}
+
+/* n units that are 6 bytes each when escaped; then the same with the mark before them. As raw text they may be longer than a text may be. */
+static void test_quotes(size_t n) {
+    uint8_t *units = new_bytes(n), *text, *indices, *out = new_bytes(n);
+    memset(units, '"', n);
+    run r = font_run(units, n), back;
+    check(is_writing(escape_into("quotes", &r, 6 * n - 1, 0, NULL, NULL), 20, (uint32_t)(6 * n), 0, 0), "20 of %zu quotes", n);
+    check(is_writing(escape_into("quotes", &r, 6 * n, 0, &text, &indices), 0, 0, (uint32_t)(6 * n), 0), "%zu quotes", n);
+    check(text && is_filled(glyph_label_resolve(text, 6 * n, out, n), 0, 0, n) && memcmp(out, units, n) == 0, "%zu quotes resolved", n);
+    glyph_label_reading a = read_into("quotes", out, n, NULL, 0, 2 * n, 8 * n, 16 * n, &back);
+    check(a.number == 0 && same_run(&r, &back), "%zu quotes read back", n);
+    check(try_run("quotes", &r), "a run of %zu quotes is sound", n);
+    r.units[0] = '{';
+    check(is_writing(escape_into("quotes", &r, 6 * n - 3, 0, NULL, NULL), 0, 0, (uint32_t)(6 * n - 3), 0), "the mark and %zu quotes", n);
+    check(is_writing(escape_into("quotes", &r, 6 * n - 4, 0, NULL, NULL), 20, (uint32_t)(6 * n - 3), 0, 0), "20 of the mark and %zu quotes", n);
+    check(try_run("quotes", &r), "a run of the mark and %zu quotes is sound", n);
+    free(units);
+    free(text);
+    free(indices);
+    free(out);
+    free_run(&r);
+    free_run(&back);
+}
+
+static void test_escapes(int full) {
+    for (size_t k = 0; k < sizeof page_rows / sizeof page_rows[0]; k++)
+        test_page(&page_rows[k]);
+    for (size_t n = 1; n <= (full ? 4 : 2); n++)
+        test_all_escapes(n);
+}
+
 /* ---- Random cases ---- */
 
 /* A run of small numbers, most of them plausible, some of them any. */
 static run random_run(void) {
     size_t u = random_below(6), c = random_below(5), g = random_below(6);
-    static const uint16_t some[] = {0x41, 0x7B, 0x7D, 0xE33, 0xD83D, 0xDE00, 0x20, 0xFFFD, 0x9};
+    static const uint16_t some[] = {0x41, 0x7B, 0x7D, 0xE33, 0xD83D, 0xDE00, 0x20, 0xFFFD, 0x9, 0x26, 0x3C, 0x22, 0xD};
     if (random_below(4))
         c = g, u = random_below(4) ? g : u;
     run r = new_run(2 * u, 8 * c, 16 * g);
@@ -605,29 +1051,61 @@ static int random_label(void) {
     return a.number == 0;
 }
 
+/* A raw value from pieces, against the model. */
+static int random_raw(void) {
+    static const char *const pieces[] = {"a", "flow", " ", "\r", "\n", "\t", "&amp;", "&lt;", "&gt;", "&quot;", "&apos;", "&#65;", "&#x1f600;", "&#0013;", "&#xA;",
+                                         "\xE0\xB8\xB3", "\xFF", ";", "#", "x41;", "&", "<", "&#", "&#x", "&#xD800;", "&lt", "&nbsp;"};
+    char raw[256] = "";
+    uint32_t left_out = random_below(2) ? 7 : 0; /* the last seven are bad, most of them */
+    for (uint32_t k = random_below(12); k > 0; k--)
+        strcat(raw, pieces[random_below((uint32_t)(sizeof pieces / sizeof pieces[0]) - left_out)]);
+    return test_model((const uint8_t *)raw, strlen(raw)).number == 0;
+}
+
+static void test_sizes(void) {
+    static const size_t sizes[] = {31, 32, 33, 100, 255, 256, 257, 1023, 1024, 1025, 4095, 4096};
+    for (size_t k = 0; k < sizeof sizes / sizeof sizes[0]; k++) {
+        test_size(sizes[k]);
+        test_quotes(sizes[k]);
+    }
+}
+
 int main(int argc, char **argv) {
-    unsigned long rounds = argc < 2 ? 200000 : strtoul(argv[1], NULL, 10), written = 0, wild = 0, accepted = 0;
+    if (argc > 1 && strcmp(argv[1], "large") == 0) {
+        test_large();
+        printf("%lu checks, %lu failed\n", checks, failures);
+        return failures != 0;
+    }
+    unsigned long rounds = argc < 2 ? 200000 : strtoul(argv[1], NULL, 10), written = 0, wild = 0, accepted = 0, resolved = 0;
+    int full = rounds >= 200000;
     for (size_t k = 0; k < sizeof rows / sizeof rows[0]; k++)
         test_row(&rows[k]);
     test_null();
     test_picks();
     test_faults();
-    static const size_t sizes[] = {31, 32, 33, 100, 255, 256, 257, 1023, 1024, 1025, 4095, 4096};
-    for (size_t k = 0; k < sizeof sizes / sizeof sizes[0]; k++)
-        test_size(sizes[k]);
+    test_sizes();
     test_beyond();
     test_rounded();
     test_all_rounded(4096);
+    test_raw_rows();
+    test_references(full ? 1 : 199);
+    test_small_raw(full);
+    test_places();
+    test_long_raw();
+    test_escapes(full);
     for (unsigned long k = 0; k < rounds; k++) {
         run r = random_run(), w = wild_run();
         written += (unsigned long)try_run("random run", &r);
         wild += (unsigned long)try_run("run from random bytes", &w);
         accepted += (unsigned long)random_label();
+        resolved += (unsigned long)random_raw();
         free_run(&r);
         free_run(&w);
     }
-    check(written > 0 && written < rounds && accepted > 0 && accepted < rounds, "random labels and runs, good and bad");
-    printf("%lu checks, %lu failed; of %lu random runs %lu were sound, of as many from random bytes %lu, of as many labels %lu were accepted\n",
-           checks, failures, rounds, written, wild, accepted);
+    check(written > 0 && written < rounds && accepted > 0 && accepted < rounds && resolved > 0 && resolved < rounds,
+          "random labels, runs and raw values, good and bad");
+    printf("%lu checks, %lu failed; of %lu random runs %lu were sound, of as many from random bytes %lu, of as many labels %lu were accepted, "
+           "of as many raw values %lu were resolved\n",
+           checks, failures, rounds, written, wild, accepted, resolved);
     return failures != 0;
 }
