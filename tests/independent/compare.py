@@ -1,12 +1,13 @@
-"""Compares another implementation with labels.py on generated cases; exits non-zero on a difference.
+"""Compares another implementation with labels.py and attributes.py on generated cases; exits non-zero on a difference.
 
     compare.py relabel PROGRAM    a program that reads one label on two lines and prints what came of it
     compare.py trials PROGRAM     a program that reads many labels, each on two lines, and prints the same for each
     compare.py archive LIB.so     a shared library with the C functions of include/glyph_label.h
 
     --seed N --count N            which random cases, and how many
-    --kinds edges,valid,..        only these kinds; `edges` and `lines` are fixed cases, all tried before the random ones
-                                  (relabel: of the edges the papers' slips, then some of the others)
+    --kinds edges,valid,..        only these kinds; `edges`, `raw-edges` (those of resolving and escaping) and `lines` are
+                                  fixed cases, all tried before the random ones (relabel: of the edges the papers' slips,
+                                  then some of the others)
     --trace                       prints each case before it is tried, to find one that ends the process
 """
 
@@ -19,9 +20,12 @@ from collections import Counter, defaultdict
 from itertools import chain
 from random import Random
 
+import attributes
 import edges
 import generate
 import labels
+
+FIXED_KINDS = 'edges', 'raw-edges', 'lines'
 
 class Report:
     """Outcomes by call, and the differences found."""
@@ -46,7 +50,7 @@ class Report:
         for call, outcomes in self.outcomes.items():
             words = sorted(name for name in outcomes if isinstance(name, str))
             numbers = sorted(name for name in outcomes if not isinstance(name, str))
-            print(f'{call:10}', sum(outcomes.values()), 'calls:', ', '.join(
+            print(f'{call:13}', sum(outcomes.values()), 'calls:', ', '.join(
                 [f'{name} {outcomes[name]}' for name in words] + [f'refused with {n}: {outcomes[n]}' for n in numbers]))
         for difference in sorted(self.differences, key=len)[:3]:
             print('DIFFERENCE\n' + difference)
@@ -60,7 +64,7 @@ def shown(value):
 
 def random_cases(rng, count, kinds):
     """(kind, case) of the kinds that aren't fixed."""
-    kinds = {kind: made for kind, made in kinds.items() if kind not in ('edges', 'lines')}
+    kinds = {kind: made for kind, made in kinds.items() if kind not in FIXED_KINDS}
     draw = generate.chooser(rng, kinds)
     return (draw() for _ in range(count if kinds else 0))
 
@@ -146,9 +150,11 @@ Reading = result_type('Reading', number=U32, place=U32, units=U32, clusters=U32,
 Writing = result_type('Writing', number=U32, place=U32, text=U32, indices=U32)
 Stretch = result_type('Stretch', number=U32, place=U32, first=U32, end=U32)
 Part = result_type('Part', in_indices=U32, start=SIZE, length=SIZE)
+Filled = result_type('Filled', number=U32, place=U32, filled=SIZE)
 FUNCTIONS = {
     'read': (Reading, *SLICE * 5), 'write': (Writing, *SLICE * 5), 'units_of': (Stretch, *SLICE * 3, SIZE, SIZE),
-    'glyphs_of': (Stretch, *SLICE * 3, SIZE, SIZE), 'fault': (Part, *SLICE * 2, U32, SIZE)}
+    'glyphs_of': (Stretch, *SLICE * 3, SIZE, SIZE), 'fault': (Part, *SLICE * 2, U32, SIZE),
+    'resolve': (Filled, *SLICE * 2), 'write_escaped': (Writing, *SLICE * 5)}
 STEPS = 2, 8, 16                # bytes of a unit, of a cluster, of a glyph
 RUN = 'units', 'clusters', 'glyphs'
 LABEL = 'text', 'indices'
@@ -173,14 +179,14 @@ class Buffer:
         self.base = ctypes.addressof(self.memory)
         self.pool = bytes(rng.choices(alphabet, k=self.MEMORY))
 
-    def slice(self, data=None, length=None):
+    def slice(self, data=None, length=None, behind=b''):
         """The data, or else room of that length, as a slice in C: at any alignment, and NULL now and then where it has no
-        byte. Bytes around it are of the pool, as are those of the room."""
+        byte. Bytes around it are of the pool, as are those of the room; those next after the data are `behind`."""
         self.start, at = self.GUARD + int(self.rng.random() * 8), int(self.rng.random() * 1000)
         if data is None:
             self.whole = self.pool[at:at + self.start + length + self.GUARD]
         else:
-            self.whole, length = self.pool[at:at + self.start] + data + self.pool[at:at + self.GUARD], len(data)
+            self.whole, length = self.pool[at:at + self.start] + data + behind + self.pool[at:at + self.GUARD], len(data)
         ctypes.memmove(self.base, self.whole, len(self.whole))
         return (None if length == 0 and self.rng.random() < .5 else self.base + self.start), length
 
@@ -194,17 +200,23 @@ class Archive:
     def __init__(self, path, rng, report):
         self.rng, self.report, self.functions = rng, report, {}
         library = ctypes.CDLL(path)
+        missing = [name for name in FUNCTIONS if not hasattr(library, 'glyph_label_' + name)]
+        if missing:
+            sys.exit(f'{path} has no ' + ', '.join('glyph_label_' + name for name in missing))
         for name, (result, *arguments) in FUNCTIONS.items():
             self.functions[name] = getattr(library, 'glyph_label_' + name)
             self.functions[name].restype, self.functions[name].argtypes = result, arguments
         self.buffers = {name: Buffer(rng, b'0123456789;,.:()+-eE5{}A\x80\xbf') for name in LABEL}
         self.buffers |= {name: Buffer(rng, range(256)) for name in RUN}
+        self.buffers |= {'raw': Buffer(rng, generate.RAW_BYTES), 'out': Buffer(rng, range(256))}
 
-    def call(self, name, answer, expected, inputs, outputs=(), extra=()):
-        """One call. `inputs` are (buffer, bytes), `outputs` (buffer, size, bytes it must begin with afterwards)."""
-        slices = [self.buffers[buffer].slice(data) for buffer, data in inputs]
+    def call(self, name, answer, expected, inputs, outputs=(), extra=(), behind=b''):
+        """One call. `inputs` are (buffer, bytes), `outputs` (buffer, size, bytes it must begin with afterwards). Returns what
+        the outputs now begin with where it was accepted and nothing differs."""
+        slices = [self.buffers[buffer].slice(data, behind=behind) for buffer, data in inputs]
         slices += [self.buffers[buffer].slice(length=size) for buffer, size, _ in outputs]
-        self.report.announce(call=name, inputs=inputs, outputs=[(buffer, size) for buffer, size, _ in outputs], extra=extra)
+        sizes = {buffer: size for buffer, size, _ in outputs}
+        self.report.announce(call=name, inputs=inputs, behind=behind, sizes=sizes, extra=extra)
         result = self.functions[name](*chain(*slices), *extra)
         fields = [field for field, _ in result._fields_]
         got = tuple(getattr(result, field) for field in fields)
@@ -216,8 +228,10 @@ class Archive:
             for buffer, change in changes:
                 if change:
                     shown_changes |= zip((f'{buffer}, guard bytes in front', f'{buffer}, expected', f'{buffer}, got'), change)
-            self.report.differ(call=name, **dict(inputs), sizes={buffer: size for buffer, size, _ in outputs}, extra=extra,
+            self.report.differ(call=name, **dict(inputs), behind=behind or None, sizes=sizes, extra=extra,
                                expected=dict(zip(fields, expected)), got=dict(zip(fields, got)), **shown_changes)
+            return None
+        return [after for _, _, after in outputs] if answer[0] == 'ok' else None
 
     def read(self, text, indices, answer, sizes):
         """The reader, with buffers of these sizes in bytes; `answer` is that of large enough ones."""
@@ -226,7 +240,7 @@ class Archive:
         if answer[0] == 'ok':
             stored = as_bytes(labels.flat(answer[1]))
             expected = (0, 0, *map(len, answer[1]), labels.rounded(indices, answer))
-        self.call('read', answer, expected, [('text', text), ('indices', indices)], list(zip(RUN, sizes, stored)))
+        return self.call('read', answer, expected, [('text', text), ('indices', indices)], list(zip(RUN, sizes, stored)))
 
     def needed(self, answer):
         return [len(part) * step for part, step in zip(answer[1], STEPS)] if answer[0] == 'ok' else [0, 0, 0]
@@ -234,10 +248,12 @@ class Archive:
     def read_around(self, text, indices, answer):
         self.read(text, indices, answer, [generate.around(self.rng, n, step) for n, step in zip(self.needed(answer), STEPS)])
 
-    def write(self, run, sizes=None):
-        """The writer on three byte strings, with outputs of these sizes, or exact and short ones by chance."""
-        numbers = as_numbers(run)
-        answer = labels.write(*numbers) if numbers else ('no', 19, 0)
+    def write(self, run, sizes=None, escaped=False, answer=None):
+        """The writer on three byte strings, with outputs of these sizes, or exact and short ones by chance; `answer` is that
+        of large enough ones, where it is known."""
+        if answer is None:
+            numbers, write = as_numbers(run), attributes.write_escaped if escaped else labels.write
+            answer = write(*numbers) if numbers else ('no', 19, 0)
         if sizes is None:
             lengths = map(len, answer[1:]) if answer[0] == 'ok' else (self.rng.randrange(40), self.rng.randrange(40))
             sizes = [generate.around(self.rng, length, 1) for length in lengths]
@@ -245,7 +261,51 @@ class Archive:
         stored, expected = (b'', b''), (*answer[1:], 0, 0)
         if answer[0] == 'ok':
             stored, expected = answer[1:], (0, 0, len(answer[1]), len(answer[2]))
-        self.call('write', answer, expected, list(zip(RUN, run)), list(zip(LABEL, sizes, stored)))
+        name = 'write_escaped' if escaped else 'write'
+        return self.call(name, answer, expected, list(zip(RUN, run)), list(zip(LABEL, sizes, stored)))
+
+    def resolve(self, raw, room=None, behind=b'', answer=None):
+        """Resolving, into room of that size, or exact and short room by chance, with these bytes behind the raw ones; `answer`
+        is that of large enough room, where it is known."""
+        answer = answer or attributes.resolve(raw)
+        if room is None:
+            room = generate.around(self.rng, len(answer[1]) if answer[0] == 'ok' else self.rng.randrange(len(raw) + 1), 1)
+        answer = attributes.fit_resolving(answer, room)
+        stored, expected = (answer[1], (0, 0, len(answer[1]))) if answer[0] == 'ok' else (b'', (*answer[1:], 0))
+        return self.call('resolve', answer, expected, [('raw', raw)], [('out', room, stored)], behind=behind)
+
+    def resolve_cut(self, raw):
+        """Resolving of the beginning alone, while what would go on with it lies behind."""
+        at = self.rng.randrange(len(raw) + 1)
+        self.resolve(raw[:at], behind=raw[at:at + 16])
+
+    def there_and_back(self, run):
+        """A sound run is written escaped, both outputs are resolved, what comes out is read: each call is lent what the one
+        before gave. It is what the writer gives unasked, and reads as the run."""
+        unasked, run, sizes = labels.write(*run), as_bytes(run), (24_700, 262_144)
+        written = self.write(run, sizes, answer=unasked)
+        escaped = self.write(run, sizes, escaped=True, answer=('ok', *map(attributes.escape, unasked[1:])))
+        resolved = [self.resolve(raw, len(raw)) for raw in escaped or ()]
+        if not written or not escaped or None in resolved:
+            return                                                  # reported there
+        resolved = [given for outputs in resolved for given in outputs]
+        back = self.read(*resolved, labels.read(*resolved), list(map(len, run)))
+        self.report.count('there and back', ('accepted',))
+        if resolved != written or back != run:
+            self.report.differ(chain='write_escaped, resolve, read', **dict(zip(RUN, run)), written=written, escaped=escaped,
+                               resolved=resolved, back=back)
+
+    def raw_label(self, *raws):
+        """Text before indices is resolved, and what comes out is read."""
+        resolved = []
+        for raw in raws:
+            given = self.resolve(raw, len(raw))
+            if given is None:
+                return
+            resolved += given
+        answer = labels.read(*resolved)
+        self.report.count('raw labels', ('accepted',) if answer[0] == 'ok' else answer)
+        self.read_around(*resolved, answer)
 
     def picks(self, run, first, end):
         numbers = as_numbers(run)
@@ -294,8 +354,34 @@ class Archive:
             for end in ends if small else {first, min(4097, first + 1), 4096}:
                 self.picks(run, first, end)
 
+    def raw_edge(self, raw):
+        """Exact room, a byte less, more; where it is refused none, and room for all; the beginning alone."""
+        answer = attributes.resolve(raw)
+        needed = len(answer[1]) if answer[0] == 'ok' else 0
+        for room in {needed, max(0, needed - 1), needed + self.rng.randint(1, 9)} if answer[0] == 'ok' else (0, len(raw)):
+            self.resolve(raw, room, answer=answer)
+        if len(raw) < 1000:
+            self.resolve_cut(raw)
+
+    def cut_edge(self, whole):
+        """Every beginning, while the rest lies behind."""
+        for at in range(len(whole) + 1):
+            self.resolve(whole[:at], behind=whole[at:])
+
+    def escape_edge(self, *run):
+        """Exact outputs, each too short by a byte, as long as the writing unasked, and empty; left-over bytes; there and back."""
+        answer, unasked = attributes.write_escaped(*run), labels.write(*run)
+        (text, indices), plain = ([len(part) for part in one[1:]] if one[0] == 'ok' else [9, 9] for one in (answer, unasked))
+        parts = as_bytes(run)
+        for sizes in ((text, indices), (max(0, text - 1), indices), (text, max(0, indices - 1)), plain, (plain[0], 0), (0, 0)):
+            self.write(parts, sizes, escaped=True, answer=answer)
+        for which, off in ((0, 1), (1, 1), (1, 4), (2, 1), (2, 8)) if len(parts[1]) < 80 else ():
+            self.write(parts[:which] + [parts[which] + bytes(off)] + parts[which + 1:], (text, indices), escaped=True)
+        if answer[0] == 'ok':
+            self.there_and_back(run)
+
     def case(self, kind, case):
-        if kind in ('label_edge', 'run_edge', 'fault'):
+        if kind in ('label_edge', 'run_edge', 'fault', 'raw_edge', 'cut_edge', 'escape_edge'):
             getattr(self, kind)(*case)
         elif kind in generate.LABEL_KINDS:
             answer = labels.read(*case)
@@ -306,13 +392,28 @@ class Archive:
             self.write(self.cut(case))
         elif kind in generate.PICK_KINDS:
             self.picks(self.cut(case[0]), *case[1:])
+        elif kind in generate.RAW_KINDS:
+            self.resolve(case)
+            if self.rng.random() < .2:
+                self.resolve_cut(case)
+        elif kind in generate.RAW_LABEL_KINDS:
+            self.raw_label(*case)
+        elif kind in generate.ESCAPED_KINDS:
+            self.write(self.cut(case), escaped=True)
+            if self.rng.random() < .2 and labels.sound(*case):
+                self.there_and_back(case)
         else:
             self.fault(*case)
 
 def archive_mode(path, rng, count, kinds, report):
     archive = Archive(path, rng, report)
-    fixed = ('label_edge', edges.label_edges()), ('run_edge', edges.run_edges()), ('fault', edges.fault_edges())
-    fixed_cases = ((kind, case) for kind, cases in fixed if 'edges' in kinds for case in cases)
+    fixed = []
+    if 'edges' in kinds:
+        fixed += [('label_edge', edges.label_edges()), ('run_edge', edges.run_edges()), ('fault', edges.fault_edges())]
+    if 'raw-edges' in kinds:
+        fixed += [('raw_edge', zip(edges.raw_edges())), ('cut_edge', zip(edges.CUT)), ('escape_edge', edges.escape_edges()),
+                  ('escaped', edges.run_edges())]
+    fixed_cases = ((kind, case) for kind, cases in fixed for case in cases)
     for kind, case in chain(fixed_cases, random_cases(rng, count, kinds)):
         archive.case(kind, case)
         if report.finished():
@@ -322,7 +423,8 @@ def archive_mode(path, rng, count, kinds, report):
 
 def kinds_of(mode):
     if mode == 'archive':
-        return {'edges': None, **generate.LABEL_KINDS, **generate.RUN_KINDS, **generate.PICK_KINDS, **generate.FAULT_KINDS}
+        return {'edges': None, 'raw-edges': None, **generate.LABEL_KINDS, **generate.RUN_KINDS, **generate.PICK_KINDS,
+                **generate.FAULT_KINDS, **generate.RAW_KINDS, **generate.RAW_LABEL_KINDS, **generate.ESCAPED_KINDS}
     labels_of = {'edges': list(edges.label_edges()), 'lines': list(edges.line_edges())}
     return {'edges': (40, lambda rng: rng.choice(labels_of['edges'])), 'lines': (1, lambda rng: rng.choice(labels_of['lines'])),
             **generate.LABEL_KINDS, 'large': (.5, generate.large_label)}

@@ -1,5 +1,7 @@
 """Fixed cases: every refusal, every limit from both sides, and pools that generate.py draws from."""
 
+from itertools import product
+
 import labels
 from labels import FONT
 
@@ -34,6 +36,23 @@ BAD_ENTRIES = NOT_WELL_FORMED + '''
     5,1000000.0005 5,,1000000.001 5,,-1000000.0005 5,,,1e7 5,1,1,-1E+07
     (0)5 (00)5 (0:1)5 (1:0)5 (0:0)5 (1:000)5 (2:0)5 (9)5'''.encode().split() \
     + [pattern % count for count in LARGE_COUNTS for pattern in (b'(%s)5', b'(1:%s)5')]
+
+# What may stand in a raw attribute value, and what may not.
+NAMED = b'&amp; &lt; &gt; &quot; &apos;'.split()
+GOOD_REFERENCES = NAMED + b'''
+    &#9; &#10; &#13; &#x9; &#xA; &#xd; &#32; &#38; &#x26; &#60; &#x3C; &#123; &#x7d; &#0065; &#x000041; &#x7F; &#128; &#x7FF;
+    &#x800; &#xD7FF; &#xE000; &#65533; &#x10000; &#x1F600; &#1114111; &#x10fffF;'''.split()
+BAD_REFERENCES = b'''
+    & &; &# &#; &#x &#x; &#X41; &#X; &x41; &41; &nbsp; &copy; &AMP; &Amp; &amP; &LT; &lT; &GT; &Gt; &QUOT; &Quot; &APOS; &Apos;
+    &a; &am; &ap; &amp &ampp; &aamp; &amp: &amp, &l; &t; &lt &ltt; &llt; &g; &gt &gtt; &q; &quo; &quot &quott; &apo; &apos
+    &aposs; &ltgt; &amplt; &#65 &#x41 &#65: &#65, &65; &#x;41; &#;65; &#+65; &#-65; &#x+41; &#x-41; &#0x41; &#x0x41; &#xx41;
+    &##65; &#&#65;; &#65.; &#6.5; &#6_5; &#1e2; &#65a; &#A; &#a5; &#xg; &#x4G; &#x4h; &&amp; && &&& &amp&amp; &lt&gt; &am&amp;p;
+    &#6&#53;; &#x4&#x31;; &lt< &#60 &#60< &#0; &#00; &#x0; &#1; &#8; &#xB; &#11; &#12; &#xE; &#x1F; &#31; &#xD800; &#55296;
+    &#xDBFF; &#xDC00; &#xDFFF; &#57343; &#xFFFE; &#xFFFF; &#65534; &#65535; &#x110000; &#1114112; &#4294967361;
+    &#18446744073709551681; &#x100000041;'''.split() + [
+    b'& amp;', b'&amp ;', b'&a mp;', b'&\tlt;', b'&lt\n;', b'&# 65;', b'&#65 ;', b'&#6 5;', b'& #65;', b'&#\r65;', b'&#x 41;',
+    b'&# x41;', b'&#x41\t;', b'&\0;', b'&amp\0;', b'&#65\0;', b'&#65\x80;', b'&\xe1mp;', b'&am\xf0;', b'&#\xb6\xb5;', b'&amp\xbb;',
+    '&#\u0666\u0665;'.encode(), '&#\uff16\uff15;'.encode(), '&#x\uff14\uff11;'.encode(), '&amp\uff1b'.encode(), '&\u0e33;'.encode()]
 
 ODD_NUMBERS = (-2, -1, 0, 1, 2, 3, 4, 65535, 65536, 999999999, 10 ** 9, 10 ** 9 + 1, -10 ** 9, -10 ** 9 - 1,
                MAX, MAX - 1, MIN, MIN + 1)
@@ -292,3 +311,145 @@ def fault_edges():
             for place in (0, 1, 2, 3, 4, 5, 19999, 20000, 300000, 300001, 2 ** 32, 2 ** 32 + 1, SIZE_MAX):
                 if len(text) < 9 or number in (1, 2, 4, 5, 7, 13, 14, 15):
                     yield text, indices, number, place
+
+# ---- Raw attribute values ----------------------------------------------------------------------------
+
+# Numbers around the borders of XML's Char and of the lengths of UTF-8 ..
+CHARACTER_NUMBERS = sorted({n + k for n in (
+    0, 0x9, 0xD, 0x20, 0x26, 0x3C, 0x7F, 0xFF, 0x100, 0x7FF, 0xFFF, 0xD7FF, 0xDBFF, 0xDFFF, 0xFDD0, 0xFEFF, 0xFFFD, 0xFFFF,
+    0x1FFFF, 0x3FFFF, 0xFFFFF, 0x10FFFF, 0x11FFFF, 0x1FFFFF) for k in range(-2, 3) if n + k >= 0} | set(range(0x24)))
+# .. and far above them: sums that give a character where a number wraps, and both sides of where one may be held back.
+WRAPPED_NUMBERS = sorted({2 ** k * m + n for k in (
+    8, 16, 20, 21, 22, 24, 31, 32, 33, 36, 40, 48, 52, 53, 60, 62, 63, 64, 65, 96, 127, 128, 256)
+    for m in (1, 3, 10, 15) for n in (-1, 0, 9, 0x41, 0x10FFFF)})
+LONG_NUMBERS = sorted(
+    {10 ** k + n for k in range(1, 45) for n in (-1, 0, 65)}
+    | {base * n + k for base in (10, 16) for n in (0x10FFFF, 0x110000, 2 ** 31, 2 ** 32, 2 ** 64) for k in range(-1, base)}
+    | {n // base + k for base in (10, 16) for n in (2 ** 31, 2 ** 32, 2 ** 63, 2 ** 64) for k in range(-1, 3)})
+
+# One value for each thing to know.
+MAIN_RAW = (
+    b'', b'&amp;&lt;&gt;&quot;&apos;', b'A&lt', b'&nbsp;', b'&AMP;', b'&;', b'&#;', b'&#x;', b'&#X41;', b'&#65;&#x4a;&#x4A;',
+    b'&#0000000000065;', b'&#x10FFFF;', b'&#1114112;', b'&#8;', b'&#xD800;', b'&#xFFFE;', b'&#x7F;&#x80;&#x7FF;&#x800;&#x10000;',
+    b'&#4294967361;', b'&#18446744073709551681;', b'&amp;lt;&#38;#60;', b'&#60;&#xFFFD;', b'a<b', b'&amp;<', b'aaa&<', b'>"\'',
+    b'\t\n\r\r\n\n\r', b'\r&#10;&#13;\n&#9;', b'\xff\0\xed\xa0\x80', b'&#123;&#125;a')
+
+def name_edges():
+    """The five names, and what comes near them."""
+    yield from GOOD_REFERENCES + BAD_REFERENCES
+    for name in (b'amp', b'lt', b'gt', b'quot', b'apos'):
+        for at in range(len(name) + 1):
+            yield b'&' + name[:at] + b';' + name[at:]
+            yield b'&' + name[:at] + name[at + 1:] + b';'
+            yield b'&' + name[:at] + name[at:at + 1].upper() + name[at + 1:] + b';'
+            for byte in b'\t\n\r &#;<x0\0\x80':
+                yield b'&%s%c%s;' % (name[:at], byte, name[at:])
+    for first, second in product(NAMED + [b'&lt', b'amp;', b'&', b';'], repeat=2):
+        yield first + second
+
+def number_reference_edges():
+    """Decimal and hexadecimal references to every number at a border, with any count of zeros before it."""
+    for number in CHARACTER_NUMBERS + WRAPPED_NUMBERS + LONG_NUMBERS:
+        yield b'&#%d;' % number
+        yield b'&#x%x;' % number
+        yield b'A&#x%X;B' % number
+    for zeros in (*range(1, 40), 63, 64, 65, 127, 128, 255, 256, 257, 1000, 5000, 65536, 100000):
+        numbers = (0, 9, 65, 0xD800, 0x10FFFF, 0x110000, 2 ** 32 + 65, 2 ** 64 + 65) if zeros < 6000 else (65, 2 ** 32 + 65)
+        for number in numbers:
+            yield b'&#%s%d;' % (b'0' * zeros, number)
+            yield b'&#x%s%x;' % (b'0' * zeros, number)
+        yield b'&#%s;' % (b'9' * zeros)
+        yield b'&#x%s;' % (b'f' * zeros)
+        yield b'&#%s' % (b'1' * zeros)
+        yield b'&#x41%s;' % (b'0' * zeros)
+
+def byte_edges():
+    """Every byte by itself and at each kind of place in a reference."""
+    for byte in range(256):
+        patterns = b'_ A_B __ &_; &_lt; &lt_ &lt_; &#_; &#6_; &#_65; &#x_; &#x4_; &#x_41; &#65_ &amp;_'.split()
+        for pattern in patterns + [b'\r_', b'_\n']:
+            yield pattern.replace(b'_', bytes((byte,)))
+
+CUT = (b'&amp;', b'&lt;', b'&gt;', b'&quot;', b'&apos;', b'&#65;', b'&#1114111;', b'&#00065;', b'&#x41;', b'&#x10FFFF;', b'\r\n',
+       b'A\r\n\r\nB', b'a&lt;b&#13;\r\n&#x20;', GRIN.encode() + b'&#128512;', b'&am&amp;p;', b'a&#60;<b')
+
+def cut_edges():
+    """References and line ends cut off by the end at every length, and their ends alone."""
+    for whole in CUT:
+        for at in range(len(whole) + 1):
+            yield whole[:at]
+            yield whole[at:]
+            yield b'A' + whole[:at]
+
+def space_edges():
+    """White space, raw and referenced."""
+    for count in range(4):
+        pieces = b'\r', b'\n', b'\t', b' ', b'A', b'&#9;', b'&#10;', b'&#13;', b'&#32;'
+        yield from map(b''.join, product(pieces, repeat=count))
+    yield from map(b''.join, product((b'\r', b'\n', b'&#xA;'), repeat=5))
+
+def pass_edges():
+    """What a reference gives is not looked at again."""
+    for first in (b'&amp;', b'&#38;', b'&#x26;', b'&#0000038;', b'&amp;amp;', b'&lt;', b'&#60;', b'&#x3c;'):
+        for rest in (b'', b'lt;', b'amp;', b'#60;', b'#x3C;', b'#0;', b'nbsp;', b'amp;lt;', b';', b'#', b'&', b'<', b'!--'):
+            yield first + rest
+    for first in (b'&#123;', b'{', b'&#x7B;'):
+        for second in (b'', b'}', b'&#125;', b'&#x7d;', b'a', b'&#123;', b'{}'):
+            yield first + second
+
+def first_fault_edges():
+    """Two faults, before and after each other and among what takes more raw bytes than it gives."""
+    faults = b'<', b'&', b'&nbsp;', b'&#0;', b'&#xD800;', b'&lt', b'&#x110000;'
+    for first, second in product(faults, repeat=2):
+        for before in (b'', b'aaa', b'&amp;&#65;\r\n', b'\xff\0'):
+            yield before + first + second
+            yield before + first + b'AB' + second + b'C'
+    for fault in faults:
+        for before in (b'aaa', b'&lt;' * 9, b'\r\n\r\n', THAI.encode(), b'&#x10FFFF;'):
+            yield before + fault
+            yield before + fault + b'&amp;'
+
+def plain_edges():
+    """Bytes that stay as they are."""
+    yield from b'''> " ' ]]> ; # #65; amp; a"b'c>d < a< <a <!----> %amp; {} !"#$%'''.split() + [b'', b' ']
+    for piece in ILL_FORMED + [c.encode() for c in NOT_XML + EDGE_CHARACTERS]:
+        yield from (piece, b'A' + piece + b'&lt;' + piece, piece + b'<', piece[:-1] + b'&amp;')
+    yield bytes(byte for byte in range(256) if byte not in b'&<')
+
+def long_raw_edges():
+    """There is no limit of size."""
+    for size in (255, 256, 257, 4096, 16384, 16385, 65535, 65536, 65537, 262145, 300000):
+        yield b'A' * size
+        yield b'A' * (size - 1) + b'<'
+        yield b'<' + b'A' * (size - 1)
+    yield from (b'&amp;' * 20000, b'&#x10FFFF;' * 9000, b'\r\n' * 40000, b'\n\r' * 40000, b'&' * 5000, b'&amp;' * 5000 + b'&amp',
+                b'\xff' * 70000, b'&' + b'a' * 70000 + b';')
+
+RAW_EDGES = {'names': name_edges, 'numbers': number_reference_edges, 'bytes': byte_edges, 'cut': cut_edges, 'spaces': space_edges,
+             'passes': pass_edges, 'faults': first_fault_edges, 'plain': plain_edges, 'long': long_raw_edges}
+
+def raw_edges():
+    yield from MAIN_RAW
+    for part in RAW_EDGES.values():
+        yield from part()
+
+ESCAPED = '&<"\t\n\r'
+
+def escape_edges():
+    """Runs whose text has what is escaped, at every place and as often as can be."""
+    named, font = [5, 10, 0, 0], list(labels.WHOLLY_FONT)
+    texts = ['', ESCAPED, 'A'.join(ESCAPED), THAI + '&' + THAI, '\r\n\n\r', ''.join(map(chr, range(0x20, 0x80)))]
+    texts += '''A { {} {& {}& &{ A&B &A A& &amp; &#9; &lt;< <&>'" '''.split()
+    texts += map(''.join, product(ESCAPED + ">'{A", repeat=2))
+    for text in texts:
+        units = list(map(ord, text))
+        yield units, [1, 1] * len(units) or [0, 1], font * len(units) or named
+        yield units, [len(units), 1], named
+    yield [0xD83D, 0xDE00, 0x26], [2, 1, 1, 1], named * 2
+    yield [0x26, 0xD83D, 0x26], [3, 1], named                                   # a lone half
+    yield [0x26, 0x26], [1, 1], named                                           # counts that don't add up
+    yield [0x26, 0, 0x26], [3, 1], named                                        # no XML character
+    for count in (4095, 4096, 4097):
+        for text in [*ESCAPED, '{', 'A', THAI, ESCAPED + 'A' + THAI]:
+            yield ([ord(c) for c in text] * count)[:count], [1, 1] * count, font * count
+    yield [0x22] * 4096, *longest_writing()[1:]

@@ -1,8 +1,9 @@
-"""Random cases, deterministic for a random.Random: labels, runs, picks, faults and buffer sizes."""
+"""Random cases, deterministic for a random.Random: labels, runs, picks, faults, raw attribute values and buffer sizes."""
 
+import attributes
 import labels
-from edges import (BAD_ENTRIES, EDGE_CHARACTERS, GOOD_ENTRIES, GRIN, ILL_FORMED, MAX, MIN, NOT_XML, ODD_NUMBERS, ODD_UNITS,
-                   SIZE_MAX, THAI)
+from edges import (BAD_ENTRIES, BAD_REFERENCES, CHARACTER_NUMBERS, EDGE_CHARACTERS, ESCAPED, GOOD_ENTRIES, GOOD_REFERENCES,
+                   GRIN, ILL_FORMED, LONG_NUMBERS, MAX, MIN, NOT_XML, ODD_NUMBERS, ODD_UNITS, SIZE_MAX, THAI, WRAPPED_NUMBERS)
 from labels import FONT, Limits
 
 # ---- Pieces ------------------------------------------------------------------------------------------
@@ -308,6 +309,129 @@ def large_label(rng):
     run = large_run(rng) if kind == 6 else None
     return spelled_label(rng, run if run and labels.sound(*run) else sound_run(rng, rng.randint(50, 600)))
 
+# ---- Raw attribute values ----------------------------------------------------------------------------
+
+NAME_OF = {given: name for name, given in attributes.NAMES.items()}
+RAW_BYTES = b'&&&&##xX;;;<<\t\n\r\r amplgtquos0123456789AaFfGg\0\x80\xff'
+
+def number_reference(rng, number):
+    """A reference to a number, with any count of zeros before it, its hexadecimal digits in either case."""
+    before = '0' * rng.choice((0, 0, 0, 1, 2, 6, 7, 8, rng.randint(0, 40), rng.randint(0, 300)))
+    if rng.random() < .5:
+        return f'&#{before}{number};'.encode()
+    return ('&#x' + before + ''.join(rng.choice((digit, digit.upper())) for digit in f'{number:x}') + ';').encode()
+
+def reference(rng, character):
+    name = NAME_OF.get(character.encode())
+    return b'&%s;' % name if name and rng.random() < .6 else number_reference(rng, ord(character))
+
+def spelled_raw(rng, data):
+    """A raw value that resolves to these bytes: characters raw or referenced, spaces as any raw white space. Bytes that are
+    no XML character can only be raw."""
+    pieces, at, often = [b''], 0, rng.choice((0, .1, .1, .5, 1))
+    while at < len(data):
+        character, length = labels.character_at(data, at) or (0, 1)
+        piece = data[at:at + length]
+        if piece in (b'&', b'<', b'\t', b'\n', b'\r') or labels.is_xml_char(character) and rng.random() < often:
+            piece = reference(rng, chr(character))
+        elif piece == b' ':
+            piece = rng.choice((b' ', b'\t', b'\n', b'\r', b'\r\n'))
+            if pieces[-1] == b'\r' and piece == b'\n':
+                piece = b' '
+        pieces.append(piece)
+        at += length
+    return b''.join(pieces)
+
+def plain_text(rng):
+    """Bytes to be spelled or escaped: characters, those that are escaped, spaces; now and then no UTF-8 or no XML."""
+    pieces = [rng.choice(ESCAPED + ">' ; #") if rng.random() < .4 else character(rng) for _ in range(int(rng.expovariate(.15)))]
+    data = ''.join(pieces).encode()
+    if rng.random() < .15:
+        at = rng.randrange(len(data) + 1)
+        data = data[:at] + rng.choice(ILL_FORMED + [c.encode() for c in NOT_XML]) + data[at:]
+    return data
+
+def valid_raw(rng):
+    return spelled_raw(rng, plain_text(rng))
+
+def damaged_raw(rng):
+    """A raw value with a small mutation or two."""
+    raw = valid_raw(rng)
+    for _ in range(1 if rng.random() < .8 else 2):
+        raw = damaged(rng, raw, RAW_BYTES if rng.random() < .9 else ANY_BYTE)
+    return raw
+
+def mixed_raw(rng):
+    """Pieces drawn from pools of good and bad ones: what stands next to each other, and the first fault."""
+    bad = rng.choice((0, 0, .1, .4))
+    plain = (b'A', b'amp;', b'lt', b';', b'#', b'>', b'"', b"'", b' ', b'\t', b'\n', b'\r', b'\r', b'\r\n', b'\n\r', b'\xff',
+             THAI.encode(), b'&amp;lt;', b'&#38;#60;', b'&amp;amp;')
+    pieces = []
+    for _ in range(int(rng.expovariate(.25))):
+        if rng.random() < bad:
+            pieces.append(rng.choice(BAD_REFERENCES) if rng.random() < .7 else b'<')
+        else:
+            pieces.append(rng.choice(GOOD_REFERENCES) if rng.random() < .5 else rng.choice(plain))
+    return b''.join(pieces)
+
+def number_raw(rng):
+    """A reference to a number at and around every border, or any; now and then damaged."""
+    r = rng.random()
+    if r < .35:
+        number = rng.choice(CHARACTER_NUMBERS)
+    elif r < .55:
+        number = rng.choice(WRAPPED_NUMBERS if r < .47 else LONG_NUMBERS) + rng.choice((0, 0, 0, 1, -1))
+    elif r < .75:
+        number = rng.randint(0, 0x120000)
+    elif r < .85:
+        number = rng.randint(0, 0x10FFFF) + (rng.randint(1, 300) << rng.choice((16, 20, 21, 24, 31, 32, 63, 64, 128)))
+    else:
+        number = rng.randrange(10 ** rng.randint(1, 45))
+    raw = number_reference(rng, number)
+    r = rng.random()
+    if r < .18:
+        raw = damaged(rng, raw, RAW_BYTES) if r < .15 else raw.replace(b'x', b'X')
+    return rng.choice((b'', b'', b'a', b'&amp;', b'\r')) + raw + rng.choice((b'', b'', b'b', b'&gt;', b'\n', b'<'))
+
+def random_raw(rng):
+    """Random bytes, or random ones of those that mean something."""
+    alphabet = rng.choice((ANY_BYTE, RAW_BYTES, b'&#x41;', b'&lt;<', b'\r\n\t &#13;', b'&amp;#38'))
+    return bytes(rng.choices(alphabet, k=int(rng.expovariate(.08))))
+
+def large_raw(rng):
+    """Some thousand bytes and more; now and then a fault at the end, or anywhere."""
+    size = rng.choice((1000, 4096, 16384, 65536, 200000))
+    piece = rng.choice((b'A', THAI.encode(), b'&lt;', b'&#x1F600;', b'\r\n', b'\xff', b'A&#9; \t', valid_raw(rng) or b'A'))
+    raw, r = (piece * (size // len(piece) + 1))[:size // len(piece) * len(piece)], rng.random()
+    if r < .2:
+        raw += rng.choice((b'<', b'&', b'&#', b'&lt', b'&#xD800;'))
+    elif r < .4:
+        raw = damaged(rng, raw, RAW_BYTES)
+    elif r < .5:
+        raw = b'&#' + b'0' * size + rng.choice((b'65;', b'0;', b'4294967361;', b'65'))
+    return raw
+
+def raw_label(rng):
+    """(raw text, raw indices): a label in any raw spelling; now and then damaged."""
+    text, indices = rng.choice((valid_label, valid_label, damaged_label, mixed_label))(rng)
+    if rng.random() < .3:
+        text = rng.choice((b'', b'', b'{}', b'{')) + plain_text(rng)
+    raw = [spelled_raw(rng, text), spelled_raw(rng, indices)]
+    if rng.random() < .2:
+        which = rng.randrange(2)
+        raw[which] = damaged(rng, raw[which], RAW_BYTES)
+    return tuple(raw)
+
+def escaped_run(rng):
+    """A run whose text has what is escaped; now and then not sound."""
+    r = rng.random()
+    if r > .8:
+        return nearly_run(rng) if r < .95 else random_run(rng)
+    units, clusters, glyphs = sound_run(rng)
+    often = rng.choice((.1, .4, 1))
+    units = [ord(rng.choice(ESCAPED + ">'{A")) if rng.random() < often and not 0xD800 <= unit <= 0xDFFF else unit for unit in units]
+    return units, clusters, glyphs
+
 # ---- Picks, faults, buffer sizes ---------------------------------------------------------------------
 
 def pick_case(rng):
@@ -360,6 +484,10 @@ LABEL_KINDS = {'valid': (30, valid_label), 'damaged': (25, damaged_label), 'mixe
 RUN_KINDS = {'sound': (15, sound_run), 'nearly': (30, nearly_run), 'random': (10, random_run), 'large-runs': (.05, large_run)}
 PICK_KINDS = {'picks': (25, pick_case)}
 FAULT_KINDS = {'faults': (20, fault_case)}
+RAW_KINDS = {'raw': (8, valid_raw), 'raw-damaged': (8, damaged_raw), 'raw-mixed': (10, mixed_raw), 'raw-numbers': (8, number_raw),
+             'raw-bytes': (5, random_raw), 'raw-large': (.05, large_raw)}
+RAW_LABEL_KINDS = {'raw-labels': (4, raw_label)}
+ESCAPED_KINDS = {'escaped': (8, escaped_run)}
 
 def chooser(rng, kinds):
     """A function that draws (name of the kind, case) by weight."""

@@ -1,9 +1,11 @@
 """Prints short labels with the reference's answers, and the counts of their rounded fields, as JSON lines.
 
     rows.py [--seed N] [--count N]
+    rows.py --raw [--seed N] [--count N]    raw attribute values with what they resolve to, and bytes with what they are escaped to
 
-About a third of the rows are accepted, as many with no rounded field as with one and with more; the others share the
-refusals that labels below 60 bytes can reach.
+About a third of the labels are accepted, as many with no rounded field as with one and with more; the others share the
+refusals that labels below 60 bytes can reach. Of the raw values, those that each show one thing come first; then each group
+of edges and each random kind has its share of those accepted and of those refused. Every fifth row is one of escaping.
 """
 
 import argparse
@@ -11,12 +13,14 @@ import itertools
 import json
 from random import Random
 
+import attributes
 import edges
 import generate
 import labels
 
 REACHED = (2, 3, 4, 6, 7, 8, 9, 10, 11, 12, 13, 14)        # 1, 5 and 15 take longer labels
 BYTES = 60
+RAW_SIZE = 40
 
 def row(text, indices, answer):
     if answer[0] == 'no':
@@ -48,10 +52,43 @@ def rows(seed, count):
             share[outcome] -= 1
             yield row(*label, answer)
 
+def raw_row(raw):
+    answer = attributes.resolve(raw)
+    said = {'ok': answer[1].hex()} if answer[0] == 'ok' else {'no': answer[1:]}
+    return json.dumps({'raw': raw.hex(), 'answer': said})
+
+def escaped_row(data):
+    return json.dumps({'bytes': data.hex(), 'escaped': attributes.escape(data).hex()})
+
+def in_turn(groups):
+    """One of each group after the other, as long as there are any."""
+    while any(groups):
+        groups = [group for group in groups if group]
+        yield from [group.pop() for group in groups]
+
+def raw_rows(seed, count):
+    """Distinct rows."""
+    rng = Random(seed)
+    groups = [list(part()) for part in edges.RAW_EDGES.values()]
+    groups += [[make(rng) for _ in range(count)] for kind, (_, make) in generate.RAW_KINDS.items() if kind != 'raw-large']
+    groups = [list(dict.fromkeys(raw for raw in group if len(raw) <= RAW_SIZE)) for group in groups]
+    by_outcome = [[raw for raw in group if attributes.resolve(raw)[0] == outcome] for group in groups for outcome in ('ok', 'no')]
+    plain = [bytes((byte,)) for byte in (*b'&<"\t\n\r>\' {;A', 0x80)] + [b'', b'\r\n', b'&amp;', b'{}{&', b'a<b', b'\x00\xff"']
+    texts = [generate.plain_text(rng) for _ in range(count)]
+    for group in by_outcome + [plain, texts]:
+        rng.shuffle(group)
+    raws = dict.fromkeys(itertools.chain(edges.MAIN_RAW, in_turn(by_outcome)))
+    texts = dict.fromkeys(data for data in in_turn([plain, texts]) if len(data) <= RAW_SIZE)
+    fifth = count // 5
+    shown = list(map(raw_row, list(raws)[:count - fifth])) + list(map(escaped_row, list(texts)[:fifth]))
+    rng.shuffle(shown)
+    return shown
+
 if __name__ == '__main__':
     parser = argparse.ArgumentParser()
     parser.add_argument('--seed', type=int, default=1)
     parser.add_argument('--count', type=int, default=300)
+    parser.add_argument('--raw', action='store_true')
     options = parser.parse_args()
-    for line in rows(options.seed, options.count):
+    for line in (raw_rows if options.raw else rows)(options.seed, options.count):
         print(line)

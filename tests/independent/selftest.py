@@ -1,4 +1,5 @@
-"""Checks labels.py against the papers' own examples and against itself. Exits non-zero on any failure.
+"""Checks labels.py and attributes.py against the papers' own examples, other witnesses and themselves. Exits non-zero on
+any failure.
 
     selftest.py [--seed N] [--count N]
 """
@@ -10,7 +11,9 @@ import sys
 from collections import Counter
 from decimal import ROUND_HALF_UP, Context, Decimal
 from random import Random
+from xml.parsers import expat
 
+import attributes
 import edges
 import generate
 import labels
@@ -233,6 +236,96 @@ def choices_of_calls():
             *((b'AB', b'5', number, 0, (0, 0, 0)) for number in (0, 1, 5, 6, 13, *range(15, 41)))):
         check(g, labels.fault(text, indices, number, place) == part, text, indices, number, place)
 
+def choices_of_resolving():
+    """(raw value, what comes out), or the place of 23 instead."""
+    def resolved(group, *cases):
+        for raw, expected in cases:
+            expected = ('no', 23, expected) if isinstance(expected, int) else ('ok', as_bytes(expected))
+            got = attributes.resolve(as_bytes(raw))
+            check(f'choices: resolving, {group}', got == expected, raw, got, expected)
+
+    def bad(group, raws):
+        resolved(group, *((raw, 0) for raw in raws.split()))
+
+    resolved('names', ('&amp;', '&'), ('&lt;', '<'), ('&gt;', '>'), ('&quot;', '"'), ('&apos;', "'"),
+             ('&amp;&lt;&gt;&quot;&apos;', '&<>"\''), ('a&amp;b', 'a&b'), ('amp;', 'amp;'), ('& ', 0), ('& amp;', 0),
+             ('&amp ;', 0), ('&a mp;', 0), ('a&', 1), ('ab&lt', 2), ('&lt;&lt', 4))
+    bad('names', '& &; &nbsp; &AMP; &Amp; &LT; &Gt; &QUOT; &aPos; &am; &ampp; &amp &lt &lt&gt; &&amp; &x41; &am&amp;p;')
+    resolved('form', ('&#65;', 'A'), ('&#x41;', 'A'), ('&#x4a;', 'J'), ('&#x4A;', 'J'), ('&#xaB;', '\xab'),
+             ('&#' + '0' * 5000 + '65;', 'A'), ('&#x' + '0' * 5000 + '41;', 'A'), ('&#' + '0' * 5000, 0),
+             ('&#' + '9' * 5000 + ';', 0), ('&#x' + 'F' * 5000 + ';', 0), ('&#x41' + '0' * 5000 + ';', 0), ('&# 65;', 0),
+             ('&#65 ;', 0), ('&#6 5;', 0), ('&#x 41;', 0), ('&#\u0666\u0665;', 0), ('A&#65;&#65', 6))
+    bad('form', '''&# &#; &#x &#x; &#X41; &#65 &#x41 &#A; &#4a; &#xg; &#+65; &#-65; &#x+41; &#0x41; &#65.; &#&#65;; &#65&#65; &65;
+                   &#x;41; &#4294967361; &#x100000041; &#18446744073709551681; &#x10000000000000041;
+                   &#340282366920938463463374607431768211521;''')
+    for number in (0x9, 0xA, 0xD, 0x20, 0x26, 0x3C, 0x7F, 0x80, 0x9F, 0x7FF, 0x800, 0xD7FF, 0xE000, 0xFDD0, 0xFEFF, 0xFFFD,
+                   0x10000, 0x1FFFE, 0x10FFFF):
+        c = chr(number)
+        resolved('characters', (f'&#{number};', c), (f'&#x{number:x};', c), (f'a&#x000{number:X};b', f'a{c}b'))
+    for number in (*range(9), 0xB, 0xC, *range(0xE, 0x20), 0xD800, 0xDBFF, 0xDC00, 0xDFFF, 0xFFFE, 0xFFFF, 0x110000,
+                   0x1FFFFF, 0x7FFFFFFF, 2 ** 32 - 1):
+        resolved('characters', (f'&#{number};', 0), (f'&#x{number:x};', 0), (f'a&#x000{number:X};b', 1))
+    resolved('characters', ('&#x7F;', b'\x7f'), ('&#x80;', b'\xc2\x80'), ('&#x7FF;', b'\xdf\xbf'), ('&#x800;', b'\xe0\xa0\x80'),
+             ('&#xFFFD;', b'\xef\xbf\xbd'), ('&#x10000;', b'\xf0\x90\x80\x80'), ('&#x10FFFF;', b'\xf4\x8f\xbf\xbf'),
+             ('&#128512;', b'\xf0\x9f\x98\x80'))
+    resolved('one pass', ('&amp;lt;', '&lt;'), ('&#38;lt;', '&lt;'), ('&amp;amp;', '&amp;'), ('&#38;#60;', '&#60;'),
+             ('&amp;#x3C;', '&#x3C;'), ('&amp;nbsp;', '&nbsp;'), ('&#38;&#38;', '&&'), ('&#x26;', '&'), ('&#60;', '<'),
+             ('&lt;a', '<a'))
+    resolved('raw <', ('<', 0), ('a<b', 1), ('aaa<', 3), ('&lt;<', 4), ('>"\'', '>"\''), ('a]]>b', 'a]]>b'))
+    resolved('white space', ('\t', ' '), ('\n', ' '), ('\r', ' '), ('\r\n', ' '), ('\n\r', '  '), ('\r\r\n', '  '),
+             ('\r\n\n', '  '), ('\r\n\r\n', '  '), ('a\tb\nc\rd', 'a b c d'), ('\t\t', '  '), ('\r \n', '   '), ('\r\t\n', '   '),
+             ('a\r', 'a '), (' a  b ', ' a  b '), ('\r&#10;', ' \n'), ('&#13;\n', '\r '), ('&#13;&#10;', '\r\n'),
+             ('&#xD;&#xA;', '\r\n'), ('&#9;', '\t'), ('&#x9;\t', '\t '), ('&#32;', ' '))
+    resolved('plain', ('', ''), ('flow', 'flow'), ('{}', '{}'), ('A' * 300000, 'A' * 300000), ('\ufffe\x0b', '\ufffe\x0b'),
+             *((odd, odd) for odd in (b'\xff\0\x01\x80', b'\xed\xa0\x80\xc0\x80')), (b'\xff<', 1), (b'&\xff;', 0),
+             (b'\xf0\x9f&amp;', b'\xf0\x9f&'))
+    # the place is of the first fault, in bytes of the raw value
+    resolved('first fault', ('a<b&nbsp;', 1), ('a&nbsp;b<', 1), ('&amp;<', 5), ('\r\n&', 2), ('\u0e33<', 3), ('&lt<', 0), ('<&', 0),
+             ('&#0;<', 0), ('&amp;&#0;&#0;', 5), ('&#x10FFFF;&#x110000;', 10), ('&#xD800;&#xDC00;', 0))
+
+def choices_of_raw_labels():
+    g = 'choices: resolving, room'
+    for raw, room, answer in (
+            (b'', 0, ('ok', b'')), (b'abc', 3, ('ok', b'abc')), (b'abc', 9, ('ok', b'abc')), (b'abc', 2, ('no', 24, 3)),
+            (b'abc', 0, ('no', 24, 3)), (b'&amp;&lt;', 2, ('ok', b'&<')), (b'&amp;&lt;', 1, ('no', 24, 2)),
+            (b'&#x1F600;', 4, ('ok', GRIN.encode())), (b'&#x1F600;', 3, ('no', 24, 4)), (b'\r\n', 1, ('ok', b' ')),
+            (b'\r\n', 0, ('no', 24, 1)), (b'aaa<', 0, ('no', 23, 3)), (b'aaa&', 2, ('no', 23, 3)), (b'<', 0, ('no', 23, 0))):
+        check(g, attributes.resolve_into(raw, room) == answer, raw, room, attributes.resolve_into(raw, room))
+    # the refusal, or the units that are read
+    g = 'choices: resolving, then reading'
+    for text, indices, answer in (
+            ('&#123;a', '', ('no', 4, 0)), ('&#123;&#125;a', '', [0x61]), ('{&#125;a', '', [0x61]), ('&#123;}&#123;', '', [0x7B]),
+            ('A', ' 5', ('no', 7, 0)), ('A', '\n5', ('no', 7, 0)), ('A', '5&#59;6', ('no', 12, 1)), ('A', '&#53;', [0x41]),
+            ('A', '&#x28;1:2&#x29;5&#x3B;6', [0x41]), ('A&#10;\n', '', [0x41, 10, 32]), ('&#x1F600;', '(2)9', [0xD83D, 0xDE00]),
+            (b'\xff', '', ('no', 2, 0)), ('\x01', '', ('no', 3, 0)), ('&#1;', '', ('no', 23, 0)), ('', '', ('no', 6, 0)),
+            ('A&lt', '<', ('no', 23, 1)), ('A', '5<', ('no', 23, 1)), (b'\xff', '<', ('no', 23, 0)),
+            ('A' * 16385, '5&', ('no', 23, 1)), ('&amp;' * 4096, '', [0x26] * 4096), ('&amp;' * 4097, '', ('no', 5, 0)),
+            ('&amp;lt;', '', [0x26, 0x6C, 0x74, 0x3B])):
+        got = attributes.read_raw(as_bytes(text), as_bytes(indices))
+        check(g, (got if got[0] == 'no' else got[1].units) == answer, text, indices, got)
+
+def choices_of_escaping():
+    g, named, font = 'choices: escaping', [5, -1, 0, 0], list(FONT)
+    for data, escaped in (
+            (b'', b''), (b'&', b'&amp;'), (b'<', b'&lt;'), (b'"', b'&quot;'), (b'\t', b'&#9;'), (b'\n', b'&#10;'),
+            (b'\r', b'&#13;'), (b'\r\n', b'&#13;&#10;'), (b">'; #{}", b">'; #{}"), (b'&amp;', b'&amp;amp;'),
+            (b'a&<"\t\n\rb', b'a&amp;&lt;&quot;&#9;&#10;&#13;b'), (b'\0\xff\x0b', b'\0\xff\x0b')):
+        check(g, attributes.escape(data) == escaped, data, attributes.escape(data))
+    for byte in range(256):
+        check(g, (attributes.escape(bytes((byte,))) == bytes((byte,))) == (byte not in b'&<"\t\n\r'), byte)
+    one, many, unsound = ([0x26], [1, 1], named), ([0x22] * 4096, [4096, 1], named), ([0x26], [2, 1], named)
+    for run, sizes, answer in (
+            (one, (5, 1), ('ok', b'&amp;', b'5')), (one, (4, 1), ('no', 20, 5)), (one, (1, 1), ('no', 20, 5)),
+            (one, (5, 0), ('no', 21, 1)), (one, (0, 0), ('no', 20, 5)), (unsound, (9, 9), ('no', 19, 0)),
+            (unsound, (0, 0), ('no', 19, 0)), (many, (24576, 7), ('ok', b'&quot;' * 4096, b'(4096)5')),
+            (many, (24575, 9), ('no', 20, 24576)), (many, (24576, 6), ('no', 21, 7)),
+            (([], [0, 1], named), (0, 1), ('ok', b'', b'5')), (([], [0, 1], named), (0, 0), ('no', 21, 1)),
+            (([0x7B], [1, 1], font), (3, 0), ('ok', b'{}{', b'')),
+            (([0x7B, 0x3C], [2, 1], named), (7, 4), ('ok', b'{}{&lt;', b'(2)5')),
+            (([0x41, 0x9, 0x42], [1, 1] * 3, font * 3), (6, 0), ('ok', b'A&#9;B', b'')),
+            (([0x3E, 0x27], [1, 1] * 2, font * 2), (2, 0), ('ok', b">'", b''))):
+        check(g, attributes.write_escaped_into(*run, *sizes) == answer, run, sizes, attributes.write_escaped_into(*run, *sizes))
+
 # ---- Other ways to the same answers ------------------------------------------------------------------
 
 def utf8():
@@ -351,6 +444,78 @@ def faults(rng, count):
             holds = (in_indices, start, length) == (0, 0, 0)
         check('faults against slices', holds, *case)
 
+def expat_value(raw, quote):
+    """The value of an attribute with that raw value, as the standard library's XML parser gives it; None if it refuses."""
+    found, parser = [], expat.ParserCreate()
+    parser.StartElementHandler = lambda name, given: found.append((name, given))
+    try:
+        parser.Parse(b'<a b=' + quote + raw + quote + b'/>', True)
+    except expat.ExpatError:
+        return None
+    (name, given), = found
+    return given['b'].encode('utf-8')
+
+def is_xml_text(data):
+    try:
+        return all(labels.is_xml_char(ord(character)) for character in set(data.decode('utf-8')))
+    except UnicodeDecodeError:
+        return False
+
+# Each byte that expat might not take for a character becomes a `~`; neither is part of any reference.
+TO_TILDE = bytes(byte if 0x20 <= byte < 0x7F or byte in (9, 10, 13) else 0x7E for byte in range(256))
+
+def resolving(rng, count):
+    """Raw values against expat: which are accepted, what comes out, where the first fault is."""
+    draw = generate.chooser(rng, {kind: made for kind, made in generate.RAW_KINDS.items() if kind != 'raw-large'})
+    for raw in itertools.chain(edges.raw_edges(), (draw()[1] for _ in range(count))):
+        answer = attributes.resolve(raw)
+        checks['raw values accepted' if answer[0] == 'ok' else 'raw values refused with 23'] += 1
+        if answer[0] == 'ok':
+            needed = len(answer[1])
+            check('no longer than the raw value', needed <= len(raw), raw, answer)
+            check('resolved into its room', attributes.resolve_into(raw, needed) == answer, raw)
+            check('resolved into its room', needed == 0 or attributes.resolve_into(raw, needed - 1) == ('no', 24, needed), raw)
+        if not is_xml_text(raw):
+            instead = attributes.resolve(raw.translate(TO_TILDE))
+            same = answer == instead if 'no' in (answer[0], instead[0]) else (
+                len(answer[1]) == len(instead[1]) and all(y in (x, 0x7E) for x, y in zip(answer[1], instead[1])))
+            check('odd bytes resolved like plain ones', same, raw, answer, instead)
+            raw, answer = raw.translate(TO_TILDE), instead
+        quote = b'"' if b'"' not in raw else b"'"
+        if quote not in raw:
+            value = expat_value(raw, quote)
+            check('resolved against expat', value == (answer[1] if answer[0] == 'ok' else None), raw, answer, value)
+            if answer[0] == 'no':
+                # all before the place is good, and what begins there is not, up to its `;`
+                place, end = answer[2], raw.find(b';', answer[2]) + 1 or len(raw)
+                check('place of 23 against expat', expat_value(raw[:place], quote) is not None
+                      and raw[place] in b'&<' and expat_value(raw[place:end], quote) is None, raw, answer)
+
+def escaping(rng, count):
+    """Escaped bytes resolve to what they were, by expat too. So do those that are spelled in any other way."""
+    drawn = (make(rng) for _ in range(count) for make in (generate.plain_text, generate.random_raw))
+    for data in itertools.chain(edges.raw_edges(), drawn):
+        escaped = attributes.escape(data)
+        check('escaped, resolved', attributes.resolve(escaped) == ('ok', data) and not set(escaped) & set(b'<"\t\n\r'), data)
+        if is_xml_text(data):
+            check('escaped, given back by expat', expat_value(escaped, b'"') == data, data, escaped)
+        if len(data) < 1000:
+            check('spelled any way, resolved', attributes.resolve(generate.spelled_raw(rng, data)) == ('ok', data), data)
+    for run in itertools.chain(edges.escape_edges(), (generate.escaped_run(rng) for _ in range(count))):
+        written, escaped = labels.write(*run), attributes.write_escaped(*run)
+        checks['runs escaped' if escaped[0] == 'ok' else 'runs not sound, not escaped'] += 1
+        if written[0] == 'no' or escaped[0] == 'no':
+            check('escaped exactly when written', escaped == written, run)
+            continue
+        resolved = [attributes.resolve(part) for part in escaped[1:]]
+        check('escaped, resolved: as written', resolved == [('ok', part) for part in written[1:]], run)
+        check('nothing to escape in indices', escaped[2] == written[2], run)
+        check('escaped, resolved, read', labels.flat(attributes.read_raw(*escaped[1:])[1]) == run, run)
+        text, indices = map(len, escaped[1:])
+        check('escaped into its room', labels.fit_writing(escaped, text, indices) == escaped, run)
+        check('escaped into its room', text == 0 or labels.fit_writing(escaped, text - 1, 0) == ('no', 20, text), run)
+        check('escaped into its room', indices == 0 or labels.fit_writing(escaped, text, indices - 1) == ('no', 21, indices), run)
+
 def main():
     parser = argparse.ArgumentParser()
     parser.add_argument('--seed', type=int, default=1)
@@ -358,9 +523,9 @@ def main():
     options = parser.parse_args()
     rng = Random(options.seed)
     for part in (paper_labels, standard_examples, choices_of_text, choices_of_entries, choices_of_rounding, choices_of_runs, choices_of_writing,
-                 choices_of_calls, utf8, grammar):
+                 choices_of_calls, choices_of_resolving, choices_of_raw_labels, choices_of_escaping, utf8, grammar):
         part()
-    for part in (rounding, round_trips, picks, faults):
+    for part in (rounding, round_trips, picks, faults, resolving, escaping):
         part(rng, options.count)
     for group in sorted(checks):
         print(f'{checks[group]:8} {group}' + (f'   {failures[group]} FAILED' if failures[group] else ''))
