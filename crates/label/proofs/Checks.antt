@@ -17,9 +17,10 @@ use Rattle.label.specs.Run.{Run, Parts, fontGlyph, cluster, before, whol
 use Rattle.label.specs.Sound.{sound, runOf, clustersOf, glyphsOf}
 use Rattle.label.specs.Write.{Label, normal, write}
 use Rattle.label.specs.Pick.{inside, touched, turned, pickUnits, pickGlyphs}
-use Rattle.label.specs.Calls.{readInto, writeInto, listInto}
-use Rattle.label.specs.Wire.{halves, words, noLeftOver, writeBytes, pickUnitsBytes, pickGlyphsBytes}
-use Rattle.label.specs.Checks.{Check, check, verdict, refuses, GivenBy, textChecks, bitUnits, entryChecks, tailChecks, walkChecks, tailParts, walkParts, saidUnits, saidParts, saidRun, runChecks, labelChecks, readChecks, writeChecks, pickChecks, listChecks, writeByteChecks, pickByteChecks}
+use Rattle.label.specs.Attribute.{isGood, gives, more, resolveFrom}
+use Rattle.label.specs.Calls.{readInto, writeInto, listInto, resolveInto, askedFor, writeAsked}
+use Rattle.label.specs.Wire.{halves, words, noLeftOver, writeBytes, writeAskedBytes, pickUnitsBytes, pickGlyphsBytes}
+use Rattle.label.specs.Checks.{Check, check, verdict, refuses, GivenBy, textChecks, bitUnits, entryChecks, tailChecks, walkChecks, tailParts, walkParts, saidUnits, saidParts, saidRun, runChecks, labelChecks, readChecks, writeChecks, pickChecks, listChecks, writeByteChecks, pickByteChecks, rawChecks, rawGives, resolveChecks, askedChecks, askedByteChecks}
 use Rattle.label.proofs.Basics.{no-ok, or-l, or-r}
 
 -- ── a list of checks before an outcome ──
@@ -215,20 +216,26 @@ into-by-checks u c g text indices =
         → (need a 16 i >> (need b 17 j >> (need d 18 k >> o))) ≡ (verdict (check (not a) 16 i ∷ check (not b) 17 j ∷ check (not d) 18 k ∷ []) >> o)
     room a b d i j k o = sym (check-need a 16 i (check (not b) 17 j ∷ check (not d) 18 k ∷ []) o ∙ rw (check-need b 17 j (check (not d) 18 k ∷ []) o, check-last d 18 k o))
 
--- the writing
-pub write-by-checks : (t i : ℕ) (us : List ℕ) (cs gs : List ℤ) → writeInto t i us cs gs ≡ (verdict (writeChecks t i us cs gs) >> ok (normal (runOf us cs gs)))
-unfolding writeInto write writeChecks
-write-by-checks t i us cs gs = go (sound us cs gs)
+-- the writing, escaped where that is asked, and as document 01 has it
+pub asked-by-checks : (asked : Bool) (t i : ℕ) (us : List ℕ) (cs gs : List ℤ)
+    → writeAsked asked t i us cs gs ≡ (verdict (askedChecks asked t i us cs gs) >> ok (askedFor asked (normal (runOf us cs gs))))
+unfolding writeAsked write askedChecks
+asked-by-checks asked t i us cs gs = go (sound us cs gs)
   where
     l : Label
-    l = normal (runOf us cs gs)
+    l = askedFor asked (normal (runOf us cs gs))
 
     go : (s : Bool)
-        → ((need s 19 0 >> ok l) >>= (λ x. need (leb (length (x .text)) t) 20 (length (x .text)) >> (need (leb (length (x .indices)) i) 21 (length (x .indices)) >> ok x)))
+        → ((need s 19 0 >> ok (normal (runOf us cs gs))) >>= (λ x. need (leb (length (askedFor asked x .text)) t) 20 (length (askedFor asked x .text))
+        >> (need (leb (length (askedFor asked x .indices)) i) 21 (length (askedFor asked x .indices)) >> ok (askedFor asked x))))
         ≡ (verdict (check (not s) 19 0 ∷ check (not (leb (length (l .text)) t)) 20 (length (l .text)) ∷ check (not (leb (length (l .indices)) i)) 21 (length (l .indices)) ∷ []) >> ok l)
     go false = sym (check-need false 19 0 _ (ok l))
     go true =
         sym (check-need true 19 0 _ (ok l) ∙ check-need (leb (length (l .text)) t) 20 (length (l .text)) _ (ok l) ∙ rw (check-last (leb (length (l .indices)) i) 21 (length (l .indices)) (ok l)))
+
+pub write-by-checks : (t i : ℕ) (us : List ℕ) (cs gs : List ℤ) → writeInto t i us cs gs ≡ (verdict (writeChecks t i us cs gs) >> ok (normal (runOf us cs gs)))
+unfolding writeInto writeAsked writeChecks askedChecks
+write-by-checks t i us cs gs = asked-by-checks false t i us cs gs
 
 -- the picks
 picked : {A : Type 0} (s t : Bool) (o : Outcome A) → (need s 19 0 >> (need t 22 0 >> o)) ≡ (verdict (check (not s) 19 0 ∷ check (not t) 22 0 ∷ []) >> o)
@@ -251,6 +258,26 @@ list-by-checks room us cs gs =
     let n : ℕ = length (glyphsOf gs) in
     sym (check-need (sound us cs gs) 19 0 (check (not (leb n room)) 18 n ∷ []) (ok (glyphsOf gs)) ∙ rw (check-last (leb n room) 18 n (ok (glyphsOf gs))))
 
+-- resolving a raw value
+raw-by-checks : (bs : List ℕ) (skip at : ℕ) → resolveFrom skip at bs ≡ (verdict (rawChecks skip at bs) >> ok (rawGives skip bs))
+unfolding resolveFrom rawChecks rawGives verdict
+raw-by-checks [] zero at = refl
+raw-by-checks [] (suc skip) at = refl
+raw-by-checks (b ∷ bs) (suc skip) at = raw-by-checks bs skip (suc at)
+raw-by-checks (b ∷ bs) zero at =
+    rw (raw-by-checks bs (more b bs) (suc at), seq-bind (verdict (rawChecks (more b bs) (suc at) bs)) (rawGives (more b bs) bs) (λ s. ok (gives b bs ++ s)))
+    (sym (check-need (isGood b bs) 23 at (rawChecks (more b bs) (suc at) bs) (ok (gives b bs ++ rawGives (more b bs) bs))))
+
+pub resolve-by-checks : (room : ℕ) (raw : List ℕ) → resolveInto room raw ≡ (verdict (resolveChecks room raw) >> ok (rawGives 0 raw))
+unfolding resolveInto resolveChecks
+resolve-by-checks room raw =
+    let s : List ℕ = rawGives 0 raw in
+    let f : List ℕ → Outcome (List ℕ) = λ x. need (leb (length x) room) 24 (length x) >> ok x in
+    ap (λ (o : Outcome (List ℕ)). o >>= f) (raw-by-checks raw 0 0)
+    ∙ seq-bind (verdict (rawChecks 0 0 raw)) s f
+    ∙ ap (λ (o : Outcome (List ℕ)). verdict (rawChecks 0 0 raw) >> o) (sym (check-last (leb (length s) room) 24 (length s) (ok s)))
+    ∙ sym (verdict-append (rawChecks 0 0 raw) _ (ok s))
+
 -- over bytes: 19 for bytes left over comes first
 handed-by-checks : {A : Type 0} (us cs gs : List ℕ) (l : List Check) (o p : Outcome A) → o ≡ (verdict l >> p)
     → (need (noLeftOver us cs gs) 19 0 >> o) ≡ (verdict (check (not (noLeftOver us cs gs)) 19 0 ∷ l) >> p)
@@ -260,6 +287,11 @@ pub write-bytes-by-checks : (t i : ℕ) (us cs gs : List ℕ)
     → writeBytes t i us cs gs ≡ (verdict (writeByteChecks t i us cs gs) >> ok (normal (runOf (halves us) (words cs) (words gs))))
 unfolding writeBytes writeByteChecks
 write-bytes-by-checks t i us cs gs = handed-by-checks us cs gs _ _ _ (write-by-checks t i (halves us) (words cs) (words gs))
+
+pub asked-bytes-by-checks : (asked : Bool) (t i : ℕ) (us cs gs : List ℕ)
+    → writeAskedBytes asked t i us cs gs ≡ (verdict (askedByteChecks asked t i us cs gs) >> ok (askedFor asked (normal (runOf (halves us) (words cs) (words gs)))))
+unfolding writeAskedBytes askedByteChecks
+asked-bytes-by-checks asked t i us cs gs = handed-by-checks us cs gs _ _ _ (asked-by-checks asked t i (halves us) (words cs) (words gs))
 
 pub units-bytes-by-checks : (us cs gs : List ℕ) (first end : ℕ)
     → pickUnitsBytes us cs gs first end ≡ (verdict (pickByteChecks us cs gs first end (length (glyphsOf (words gs)))) >> ok (touched first end (clustersOf (words cs))))

@@ -17,3 +17,4 @@ pub mod Wires
 pub mod Checks
 pub mod Sizes
 pub mod Escapes
+pub mod Restoring

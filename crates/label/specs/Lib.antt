@@ -17,3 +17,4 @@ pub mod Checks
 pub mod Labels
 pub mod Cases
 pub mod Demands
+pub mod Restoring
