@@ -1,4 +1,4 @@
--- Edges of the calls, computed from the definitions: soundness and writing, picks, faults, the list of records, and the calls over bytes.
+-- Edges of the calls, computed from the definitions: soundness and writing, picks, faults, the list of records, the calls over bytes, and raw values.
 -- Assumes nothing.
 use Prim.Native.Nat.{ℕ}
 use mathlib.Core.Path.{_≡_, refl}
@@ -16,7 +16,8 @@ use Rattle.label.specs.Sound.{wholeClusters, wholeGlyphs, clustersOf, gl
 use Rattle.label.specs.Write.{utf8, unitBytes, unitsBytes, textOf, fraction, valueBytes, advanceBytes, offsetBytes, mapBytes, indexBytes, entryBytes, written, indicesOf, Label, write}
 use Rattle.label.specs.Pick.{stretch, holding, touched, turned, pickUnits, pickGlyphs}
 use Rattle.label.specs.Fault.{startOf, portion, faultPart}
-use Rattle.label.specs.Calls.{readInto, writeInto, listInto, filledCount, counted, lengths}
+use Rattle.label.specs.Attribute.{same, named, digitValue, allOf, valueBehind, numbered, referred, body, isClosed, isReference, isGood, spaced, gives, more, resolveFrom, escapeByte, escape}
+use Rattle.label.specs.Calls.{readInto, writeInto, listInto, filledCount, filledAfter, counted, lengths, resolveInto, writeAsked}
 use Rattle.label.specs.Wire.{fromHalves, fromWords, halves, words, signed, evenBytes, wordBytes, readBytes, writeBytes, unitBytesAfter, clusterBytesAfter, glyphBytesAfter}
 use Rattle.label.specs.Relabel.{relabelRead}
 use Rattle.label.specs.declared.Part.{Part}
@@ -194,3 +195,21 @@ byte-writings = (refl, refl, refl, refl, refl, refl)
 pub long-line : relabelRead (ascii "A") (replicate 32_769 48) ≡ no 1 0
 unfolding relabelRead
 long-line = refl
+
+-- resolving into a buffer: exact room, a byte too few, 23 before 24; bytes behind stay, and a refusal changes nothing
+pub resolvings : (filledCount (resolveInto 2 (ascii "&lt;a")) ≡ ok 2) × (filledCount (resolveInto 1 (ascii "&lt;a")) ≡ no 24 2)
+    × (filledCount (resolveInto 0 (ascii "aaa<")) ≡ no 23 3) × (filledAfter (resolveInto 3 (ascii "&lt;a")) (7 ∷ 8 ∷ 9 ∷ []) ≡ 60 ∷ 97 ∷ 9 ∷ [])
+    × (filledAfter (resolveInto 1 (ascii "&lt;a")) (7 ∷ []) ≡ 7 ∷ [])
+unfolding ascii cut same named digitValue allOf valueBehind numbered referred body isClosed isReference isGood spaced gives more resolveFrom resolveInto xmlChar utf8
+resolvings = (refl, refl, refl, refl, refl)
+
+-- the units `{`, `"` and tab, all the font's, written escaped: "counted in 20 and 21"
+abbrev quoted : Places
+quoted = places (123 ∷ 34 ∷ 9 ∷ []) (pos 1 ∷ pos 1 ∷ pos 1 ∷ pos 1 ∷ pos 1 ∷ pos 1 ∷ []) (plain 5 (font (font [])))
+
+pub escapings : (writeAsked true 13 1 (quoted .units) (quoted .clusters) (quoted .glyphs) ≡ label (ascii "{}{&quot;&#9;") (ascii "5"))
+    × (lengths (writeAsked true 12 1 (quoted .units) (quoted .clusters) (quoted .glyphs)) ≡ no 20 13)
+    × (lengths (writeAsked true 13 0 (quoted .units) (quoted .clusters) (quoted .glyphs)) ≡ no 21 1)
+    × (writeAsked false 5 1 (quoted .units) (quoted .clusters) (quoted .glyphs) ≡ label (123 ∷ 125 ∷ 123 ∷ 34 ∷ 9 ∷ []) (ascii "5"))
+unfolding ascii wholeClusters wholeGlyphs clustersOf glyphsOf properUnits fits soundRun sound xmlChar join joinRest trim decimalFrom decimal utf8 unitBytes unitsBytes textOf fraction valueBytes advanceBytes offsetBytes mapBytes indexBytes entryBytes written indicesOf write escapeByte escape writeAsked
+escapings = (refl, refl, refl, refl)
