@@ -1,6 +1,6 @@
 #!/usr/bin/env python3
-"""Compares the definitions of crates/label/specs with the independent reader: labels with that reader's answers become rows of one theorem, which the
-prover computes.
+"""Compares the definitions of crates/label/specs with the independent reader: labels, raw attribute values and bytes to escape, with that reader's answers,
+become rows of theorems, which the prover computes.
 
   compare.py [--seed N] [--count N]
 
@@ -48,16 +48,47 @@ def counted(label):
     return f"    countRow {bytes_of(label['text'])} {bytes_of(label['indices'])} {label['rounded']} ∷"
 
 
-def theorem(labels, specs):
-    """specs/Labels.antt with these rows, and the counts of their rounded fields, in place of its own."""
+def resolved(value):
+    answer = value['answer']
+    said = f"no {answer['no'][0]} {answer['no'][1]}" if 'no' in answer else f"ok {bytes_of(answer['ok'])}"
+    return f"    rawRow {bytes_of(value['raw'])} ({said}) ∷"
+
+
+def escaped(value):
+    return f"    escapeRow {bytes_of(value['bytes'])} {bytes_of(value['escaped'])} ∷"
+
+
+def rows_of(name, kind, rows):
+    return f'unfoldable pub {name} : List {kind}\n{name} =\n' + '\n'.join(rows + ['    []']) + '\n\n'
+
+
+def theorem(labels, values, specs):
+    """specs/Labels.antt with these labels, the counts of their rounded fields, and these raw values and bytes, in place of its own rows."""
     text = open(os.path.join(specs, 'Labels.antt'), encoding='utf-8').read()
+
+    def part(start, end):
+        return text[text.index(start):text.index(end)]
+
     head = text[:text.index('-- ── document 01, labels 1 to 11 ──')].replace('use lib.IntN.{pos}', 'use lib.IntN.{pos, negsuc}')
-    kind = text[text.index('-- a label and the count that is returned for it'):text.index('-- a row for each way to count')]
-    end = text[text.index('-- each row\'s label is answered as the row says'):text.index('-- "From `{}flow`')]
-    rows = 'unfoldable pub documentRows : List LabelRow\ndocumentRows =\n' + '\n'.join(map(row, labels)) + '\n    []\n\n'
-    none = 'unfoldable pub standardRows : List LabelRow\nstandardRows = []\n\n'
-    counts = 'unfoldable pub roundedRows : List RoundedRow\nroundedRows =\n' + '\n'.join(map(counted, labels)) + '\n    []\n\n'
-    return head + rows + none + kind + counts + end
+    return ''.join([
+        head,
+        rows_of('documentRows', 'LabelRow', [row(l) for l in labels]),
+        rows_of('standardRows', 'LabelRow', []),
+        part('-- a label and the count that is returned for it', '-- a row for each way to count'),
+        rows_of('roundedRows', 'RoundedRow', [counted(l) for l in labels]),
+        part('-- a raw value and what it resolves to', '-- a row for each way to resolve'),
+        rows_of('rawRows', 'RawRow', [resolved(v) for v in values if 'raw' in v]),
+        part('-- bytes, and what escaping makes of them', '-- a row for each byte that is escaped'),
+        rows_of('escapeRows', 'EscapeRow', [escaped(v) for v in values if 'bytes' in v]),
+        part('-- each row\'s label is answered as the row says', '-- "From `{}flow`'),
+    ])
+
+
+def answers(*arguments):
+    """What the independent reader says of its own cases."""
+    reader = os.path.join(ROOT, 'tests', 'independent', 'rows.py')
+    out = subprocess.run([sys.executable, reader, *arguments], capture_output=True, text=True, check=True).stdout
+    return [json.loads(line) for line in out.splitlines()]
 
 
 def main():
@@ -65,26 +96,27 @@ def main():
     parser.add_argument('--seed', default='1')
     parser.add_argument('--count', default='60')
     args = parser.parse_args()
-    reader = os.path.join(ROOT, 'tests', 'independent', 'rows.py')
-    out = subprocess.run([sys.executable, reader, '--seed', args.seed, '--count', args.count], capture_output=True, text=True, check=True).stdout
-    labels = [json.loads(line) for line in out.splitlines()]
+    labels = answers('--seed', args.seed, '--count', args.count)
+    values = answers('--raw', '--seed', args.seed, '--count', args.count)
     with tempfile.TemporaryDirectory() as folder:
         subprocess.run(['git', 'init', '-q', folder], check=True)
         label = os.path.join(folder, 'crates', 'label')
         shutil.copytree(os.path.join(ROOT, 'crates', 'label'), label, ignore=shutil.ignore_patterns('must-fail'))
         open(os.path.join(folder, 'crates.txt'), 'w').write('label:\n')
         specs = os.path.join(label, 'specs')
-        rows = theorem(labels, specs)
+        rows = theorem(labels, values, specs)
         open(os.path.join(specs, 'Labels.antt'), 'w', encoding='utf-8').write(rows)
         done = subprocess.run(['rt', 'check', 'label'], cwd=folder, capture_output=True, text=True)
     accepted = sum('no' not in l['answer'] for l in labels)
     numbers_seen = sorted({l['answer']['no'][0] for l in labels if 'no' in l['answer']})
     if done.returncode != 0:
         print((done.stdout + done.stderr)[-4000:])
-        sys.exit(f'definitions: the theorem of {len(labels)} labels was refused')
+        sys.exit(f'definitions: the theorems of {len(labels)} labels and {len(values)} raw values and bytes to escape were refused')
     rounded = sum(l['rounded'] for l in labels)
+    bad = sum('no' in v.get('answer', ()) for v in values)
     print(f'definitions: {len(labels)} labels computed by the prover agree with the independent reader'
-          f' ({accepted} accepted, {rounded} fields rounded; refusals {" ".join(map(str, numbers_seen))})')
+          f' ({accepted} accepted, {rounded} fields rounded; refusals {" ".join(map(str, numbers_seen))});'
+          f' so do {sum("raw" in v for v in values)} raw values ({bad} refused) and {sum("bytes" in v for v in values)} escapings')
 
 
 main()
