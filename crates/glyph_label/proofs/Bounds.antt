@@ -18,15 +18,17 @@ use Rattle.label.specs.Run.{Run, whole, tail, State, start, opens, takes, allow
 use Rattle.label.specs.Sound.{clustersOf, glyphsOf, wholeClusters, wholeGlyphs, soundRun, runOf, sound}
 use Rattle.label.specs.Write.{Label, normal, write}
 use Rattle.label.specs.Pick.{holding, touched, turned, inside, pickUnits, pickGlyphs}
-use Rattle.label.specs.Calls.{counts, counted, readInto, lengths, writeInto}
-use Rattle.label.specs.Wire.{halves, words, noLeftOver, readBytes, writeBytes, pickUnitsBytes, pickGlyphsBytes}
+use Rattle.label.specs.Calls.{counts, counted, readInto, lengths, askedFor, writeAsked}
+use Rattle.label.specs.Wire.{halves, words, noLeftOver, readBytes, writeAskedBytes, pickUnitsBytes, pickGlyphsBytes}
+use Rattle.label.specs.Demands.{RoomyFor}
 use Rattle.label.specs.declared.Cluster.{Cluster}
 use Rattle.label.specs.declared.Counts.{Counts}
 use Rattle.label.specs.declared.Stretch.{Stretch}
 use Rattle.label.proofs.Basics.{and-l, and-r, cases, no-ok}
 use Rattle.label.proofs.Rounded.{entries-length, rounded-most, beside-few}
 use Rattle.label.proofs.Walks.{step-ok, ok-path}
-use Rattle.label.proofs.Sizes.{sound-roomy, sound-short}
+use Rattle.label.proofs.Sizes.{sound-roomy}
+use Rattle.label.proofs.Escapes.{asked-short}
 use Rattle.label.proofs.Sounds.{text-ok, read-sound}
 use Rattle.sound.specs.Sounds.{unitSum}
 use Rattle.sound.proofs.Facts.{few-units, few-glyphs, units-add-up, glyphs-add-up}
@@ -166,22 +168,21 @@ rounded-fits u c g text indices =
 
 -- ── a writing ──
 
--- the two lengths of a sound run's writing
-written-short : (us : List ℕ) (cs gs : List ℤ) → sound us cs gs ≡ true
-    → (length (normal (runOf us cs gs) .text) ≤ 16384) × (length (normal (runOf us cs gs) .indices) ≤ 262144)
+-- the two lengths of a sound run's writing, escaped or not
+written-short : (e : Bool) (us : List ℕ) (cs gs : List ℤ) → sound us cs gs ≡ true → RoomyFor (askedFor e (normal (runOf us cs gs))) 24576 262144
 unfolding sound
-written-short us cs gs h =
-    let s = sound-short (runOf us cs gs) (and-r (wholeClusters cs && wholeGlyphs gs) (soundRun (runOf us cs gs)) h) in
-    (s .for-text, s .for-indices)
+written-short e us cs gs h = asked-short e (runOf us cs gs) (and-r (wholeClusters cs && wholeGlyphs gs) (soundRun (runOf us cs gs)) h)
 
-pub writing-fits : (t i : ℕ) (us cs gs : List ℕ) → WritingFits (lengths (writeBytes t i us cs gs))
-unfolding writeBytes writeInto write
-writing-fits t i us cs gs =
-    let l : Label = normal (runOf (halves us) (words cs) (words gs)) in
+pub writing-fits : (e : Bool) (t i : ℕ) (us cs gs : List ℕ) → WritingFits (lengths (writeAskedBytes e t i us cs gs))
+unfolding writeAskedBytes writeAsked write
+writing-fits e t i us cs gs =
+    let l : Label = askedFor e (normal (runOf (halves us) (words cs) (words gs))) in
     cases (noLeftOver us cs gs)
     (λ w. cases (sound (halves us) (words cs) (words gs))
     (λ s.
-    let (a, b) = written-short (halves us) (words cs) (words gs) s in
+    let r = written-short e (halves us) (words cs) (words gs) s in
+    let a = r .for-text in
+    let b = r .for-indices in
     cases (leb (length (l .text)) t)
     (λ p. cases (leb (length (l .indices)) i) (λ q. rw (w, s, p, q) (omega arith, omega arith)) (λ q. rw (w, s, p, q) (omega arith, omega arith)))
     (λ p. rw (w, s, p) (omega arith, omega arith)))

@@ -6,7 +6,7 @@ use Prim.Native.Nat.{ℕ, _*_, _/_, _≤_}
 use lib.ListN.{length}
 use Rattle.label.specs.Run.{read}
 use Rattle.label.specs.Calls.{pickOutcome}
-use Rattle.label.specs.Wire.{writeBytes}
+use Rattle.label.specs.Wire.{writeAskedBytes}
 use Rattle.label.specs.declared.Counts.{Counts}
 use Rattle.label.specs.declared.Writing.{Writing}
 use Rattle.label.specs.declared.Pick.{Pick}
@@ -28,7 +28,7 @@ module _ (t : Task) (a b c : List ℕ) where
     unfolding Asks unitPlaces clusterPlaces glyphPlaces
     fill-asks e h k = (rw e at h, rw e at k)
 
-    pub write-asks : t ≡ T.Write → Asks t a b c x y z → Places t a b c u v w
+    pub write-asks : {escape : Bool} → t ≡ T.Write escape → Asks t a b c x y z → Places t a b c u v w
         → (wholeBytes (length a) (length b) (length c) ≡ true) × ((length a / 2 ≤ u) × (length b / 4 ≤ v) × (length c / 4 ≤ w))
     unfolding Asks unitPlaces clusterPlaces glyphPlaces
     write-asks e h k = (rw e at h, rw e at k)
@@ -44,7 +44,8 @@ module _ (t : Task) (a b c : List ℕ) where
     unfolding Does
     fill-does r e h = rw e h
 
-    pub write-does : (w : Writing) → t ≡ T.Write → WrittenBytes (writeBytes (length x₀) (length y₀) a b c) w x₀ y₀ x y → Does t a b c x₀ y₀ z₀ (D.Wrote w) x y z
+    pub write-does : {escape : Bool} (w : Writing) → t ≡ T.Write escape → WrittenBytes (writeAskedBytes escape (length x₀) (length y₀) a b c) w x₀ y₀ x y
+        → Does t a b c x₀ y₀ z₀ (D.Wrote w) x y z
     unfolding Does
     write-does w e h = rw e h
 

@@ -10,8 +10,8 @@ use Rattle.label.specs.Outcome.{Outcome, no, need, _>>=_, _>>_}
 use Rattle.label.specs.Sound.{sound}
 use Rattle.label.specs.Write.{write}
 use Rattle.label.specs.Pick.{pickUnits, pickGlyphs}
-use Rattle.label.specs.Calls.{refusal, writingOutcome, writeInto, lengths, filled, textAfter, indicesAfter}
-use Rattle.label.specs.Wire.{halves, words, noLeftOver, writeBytes, pickUnitsBytes, pickGlyphsBytes}
+use Rattle.label.specs.Calls.{refusal, filled, writeAsked}
+use Rattle.label.specs.Wire.{halves, words, noLeftOver, writeAskedBytes, pickUnitsBytes, pickGlyphsBytes}
 use Rattle.label.specs.declared.Writing.{Writing}
 use Rattle.label.specs.declared.Writing.the-variants.{Refused}
 use Rattle.label.specs.declared.Stretch.{Stretch}
@@ -37,18 +37,17 @@ module _ (us cs gs : List ℕ) where
 
   -- ── the writing ──
 
-  module _ (T I : List ℕ) where
+  module _ (escape : Bool) (T I : List ℕ) where
     pub written : {u : List ℕ} {c g : List ℤ} {r : Writing} {T′ I′ : List ℕ} → Whole ≡ true → u ≡ halves us → c ≡ words cs → g ≡ words gs
-        → writingOutcome r ≡ lengths (writeInto (length T) (length I) u c g) → T′ ≡ textAfter (writeInto (length T) (length I) u c g) T
-        → I′ ≡ indicesAfter (writeInto (length T) (length I) u c g) I → WrittenBytes (writeBytes (length T) (length I) us cs gs) r T I T′ I′
-    unfolding writeBytes
-    written h p q s x y z = rw (exact h, ← p, ← q, ← s) (record { answer = x; text = y; indices = z })
+        → WrittenBytes (writeAsked escape (length T) (length I) u c g) r T I T′ I′ → WrittenBytes (writeAskedBytes escape (length T) (length I) us cs gs) r T I T′ I′
+    unfolding writeAskedBytes
+    written h p q s x = rw (exact h, ← p, ← q, ← s) x
 
-    pub unwritten : mayBeSound (length us) (length cs) (length gs) ≡ false → WrittenBytes (writeBytes (length T) (length I) us cs gs) (Refused (refusal 19 0)) T I T I
+    pub unwritten : mayBeSound (length us) (length cs) (length gs) ≡ false → WrittenBytes (writeAskedBytes escape (length T) (length I) us cs gs) (Refused (refusal 19 0)) T I T I
     unwritten h = rw (unsound (beyond us cs gs h)) (record { answer = refl; text = refl; indices = refl })
       where
-        unsound : (noLeftOver us cs gs && sound (halves us) (words cs) (words gs)) ≡ false → writeBytes (length T) (length I) us cs gs ≡ no 19 0
-        unsound e = unfold writeBytes writeInto write in (cases (noLeftOver us cs gs) (λ t. rw (t, rw t at e)) (λ t. rw t))
+        unsound : (noLeftOver us cs gs && sound (halves us) (words cs) (words gs)) ≡ false → writeAskedBytes escape (length T) (length I) us cs gs ≡ no 19 0
+        unsound e = unfold writeAskedBytes writeAsked write in (cases (noLeftOver us cs gs) (λ t. rw (t, rw t at e)) (λ t. rw t))
 
   -- ── the picks ──
 

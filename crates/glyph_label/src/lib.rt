@@ -6,8 +6,8 @@ ghost use lib.ListN.{length};
 ghost use Rattle.label.specs.Limits.{maxGlyphs};
 ghost use Rattle.label.specs.Run.{read as readLabel};
 ghost use Rattle.label.specs.Rounded.{rounded as roundedIn, beside};
-ghost use Rattle.label.specs.Calls.{refusal, readingOutcome, readingRounded, writingOutcome, pickOutcome, counted, lengths, textAfter, indicesAfter};
-ghost use Rattle.label.specs.Wire.{readBytes, unitBytesAfter, clusterBytesAfter, glyphBytesAfter, writeBytes, pickUnitsBytes, pickGlyphsBytes};
+ghost use Rattle.label.specs.Calls.{refusal, readingOutcome, readingRounded, writingOutcome, pickOutcome, counted, lengths, textAfter, indicesAfter, writeAsked};
+ghost use Rattle.label.specs.Wire.{readBytes, unitBytesAfter, clusterBytesAfter, glyphBytesAfter, writeBytes, writeAskedBytes, pickUnitsBytes, pickGlyphsBytes};
 ghost use Rattle.label.specs.Fault.{faultPart};
 ghost use Rattle.label.specs.declared.Reading.the-variants.{Refused as RefusedReading};
 ghost use Rattle.label.specs.declared.Writing.the-variants.{Refused as RefusedWriting};
@@ -218,8 +218,26 @@ fn fill_through(
     words::pack_numbers(&gs[..g], glyphs);
 }
 
-// The normal writing of a run handed in as whole numbers, unpacked into arrays.
+// A run's numbers written, escaped or not.
+fn write_numbers(
+    escape: bool,
+    units: &[u16],
+    clusters: &[i32],
+    glyphs: &[i32],
+    text: &mut [u8],
+    indices: &mut [u8],
+) -> label::Writing
+    ensures { λ r. ⌜ WrittenBytes (writeAsked escape (length (now (text .entry))) (length (now (indices .entry))) (now (units .entry)) (now (clusters .entry)) (now (glyphs .entry))) r (now (text .entry)) (now (indices .entry)) (now (text .exit)) (now (indices .exit)) ⌝ }
+{
+    if escape {
+        return writer::write_escaped(units, clusters, glyphs, text, indices);
+    }
+    writer::write(units, clusters, glyphs, text, indices)
+}
+
+// The writing of a run handed in as whole numbers, unpacked into arrays.
 fn write_through(
+    escape: bool,
     units: &[u8],
     clusters: &[u8],
     glyphs: &[u8],
@@ -231,13 +249,13 @@ fn write_through(
 ) -> label::Writing
     requires { ⌜ wholeBytes (length (now units)) (length (now clusters)) (length (now glyphs)) ≡ true ⌝ }
     requires places { ⌜ (length (now units) / 2 ≤ length (now us)) × (length (now clusters) / 4 ≤ length (now cs)) × (length (now glyphs) / 4 ≤ length (now gs)) ⌝ }
-    ensures { λ r. ⌜ WrittenBytes (writeBytes (length (now (text .entry))) (length (now (indices .entry))) (now (units .entry)) (now (clusters .entry)) (now (glyphs .entry))) r (now (text .entry)) (now (indices .entry)) (now (text .exit)) (now (indices .exit)) ⌝ }
+    ensures { λ r. ⌜ WrittenBytes (writeAskedBytes escape (length (now (text .entry))) (length (now (indices .entry))) (now (units .entry)) (now (clusters .entry)) (now (glyphs .entry))) r (now (text .entry)) (now (indices .entry)) (now (text .exit)) (now (indices .exit)) ⌝ }
 {
     unpack_run(units, clusters, glyphs, us, cs, gs);
     let u = units.len() / 2;
     let c = clusters.len() / 4;
     let g = glyphs.len() / 4;
-    writer::write(&us[..u], &cs[..c], &gs[..g], text, indices)
+    write_numbers(escape, &us[..u], &cs[..c], &gs[..g], text, indices)
 }
 
 // From glyphs to units, or, turned, from units to glyphs.
@@ -284,10 +302,10 @@ fn pick_through(
 // ── tasks ──
 
 // What is to be done with a run's numbers once there are arrays for them: the run of an accepted label with these counts is filled in; a run
-// handed in is written; a stretch of its glyphs, or, turned, of its units, is picked.
+// handed in is written, escaped or not; a stretch of its glyphs, or, turned, of its units, is picked.
 enum Task {
     Fill(label::Counts),
-    Write,
+    Write(bool),
     Pick(bool, usize, usize),
 }
 
@@ -321,7 +339,7 @@ fn through(
             fill_through(a, b, n, us, cs, gs, x, y, z);
             Done::Filled
         }
-        Task::Write => Done::Wrote(write_through(a, b, c, us, cs, gs, x, y)),
+        Task::Write(escape) => Done::Wrote(write_through(escape, a, b, c, us, cs, gs, x, y)),
         Task::Pick(turn, first, end) => {
             Done::Picked(pick_through(a, b, c, us, cs, gs, turn, first, end))
         }
@@ -534,37 +552,31 @@ fn unsound_writing() -> label::Writing
 }
 
 fn write_bytes(
+    escape: bool,
     units: &[u8],
     clusters: &[u8],
     glyphs: &[u8],
     text: &mut [u8],
     indices: &mut [u8],
 ) -> label::Writing
-    ensures { λ r. ⌜ WrittenBytes (writeBytes (length (now (text .entry))) (length (now (indices .entry))) (now (units .entry)) (now (clusters .entry)) (now (glyphs .entry))) r (now (text .entry)) (now (indices .entry)) (now (text .exit)) (now (indices .exit)) ⌝ }
+    ensures { λ r. ⌜ WrittenBytes (writeAskedBytes escape (length (now (text .entry))) (length (now (indices .entry))) (now (units .entry)) (now (clusters .entry)) (now (glyphs .entry))) r (now (text .entry)) (now (indices .entry)) (now (text .exit)) (now (indices .exit)) ⌝ }
 {
     let u = units.len() / 2;
     let c = clusters.len() / 4;
     let g = glyphs.len() / 4;
+    let task = Task::Write(escape);
     let mut none = [0u8; 1];
     if !may_be_sound(units.len(), clusters.len(), glyphs.len()) {
         return unsound_writing();
     }
     if is_within(SMALL, u, c, g) {
-        return written(in_small(
-            Task::Write,
-            units,
-            clusters,
-            glyphs,
-            text,
-            indices,
-            &mut none,
-        ));
+        return written(in_small(task, units, clusters, glyphs, text, indices, &mut none));
     }
     written(in_larger(
         u,
         c,
         g,
-        Task::Write,
+        task,
         units,
         clusters,
         glyphs,
@@ -587,7 +599,23 @@ pub extern "C" fn glyph_label_write(
     ensures text { λ _. ⌜ now (text .exit) ≡ textAfter (writeBytes (length (now (text .entry))) (length (now (indices .entry))) (now (units .entry)) (now (clusters .entry)) (now (glyphs .entry))) (now (text .entry)) ⌝ }
     ensures indices { λ _. ⌜ now (indices .exit) ≡ indicesAfter (writeBytes (length (now (text .entry))) (length (now (indices .entry))) (now (units .entry)) (now (clusters .entry)) (now (glyphs .entry))) (now (indices .entry)) ⌝ }
 {
-    writing_answer(write_bytes(units, clusters, glyphs, text, indices))
+    writing_answer(write_bytes(false, units, clusters, glyphs, text, indices))
+}
+
+// The same with `&`, `<`, `"`, tab, line feed and carriage return of the text as references, counted in 20.
+#[no_mangle]
+pub extern "C" fn glyph_label_write_escaped(
+    units: &[u8],
+    clusters: &[u8],
+    glyphs: &[u8],
+    text: &mut [u8],
+    indices: &mut [u8],
+) -> GlyphLabelWriting
+    ensures result { λ r. ⌜ r ≡ writingAnswer (lengths (writeAskedBytes true (length (now (text .entry))) (length (now (indices .entry))) (now (units .entry)) (now (clusters .entry)) (now (glyphs .entry)))) ⌝ }
+    ensures text { λ _. ⌜ now (text .exit) ≡ textAfter (writeAskedBytes true (length (now (text .entry))) (length (now (indices .entry))) (now (units .entry)) (now (clusters .entry)) (now (glyphs .entry))) (now (text .entry)) ⌝ }
+    ensures indices { λ _. ⌜ now (indices .exit) ≡ indicesAfter (writeAskedBytes true (length (now (text .entry))) (length (now (indices .entry))) (now (units .entry)) (now (clusters .entry)) (now (glyphs .entry))) (now (indices .entry)) ⌝ }
+{
+    writing_answer(write_bytes(true, units, clusters, glyphs, text, indices))
 }
 
 // ── picks ──

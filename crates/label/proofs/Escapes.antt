@@ -9,13 +9,16 @@ use borrow.Author.Tests.{not-true, le-leb, lt-leb, leb-true, leb-false, le-ltb, 
 use lib.Dec.{leb, ltb, eqb}
 use lib.IntN.{ℤ, pos, negsuc}
 use lib.ListN.{length, getD, length-append}
+use Rattle.label.specs.Limits.{maxIndicesBytes}
 use Rattle.label.specs.Bytes.{ascii, empty, join, trim, isDigit, decimal}
 use Rattle.label.specs.Text.{isLow, isHigh, braced}
 use Rattle.label.specs.Run.{Run}
 use Rattle.label.specs.Sound.{soundRun}
-use Rattle.label.specs.Write.{utf8, paired, unitBytes, unitsBytes, textOf, fraction, valueBytes, advanceBytes, offsetBytes, mapBytes, indexBytes, entryBytes, written, indicesOf}
+use Rattle.label.specs.Write.{utf8, paired, unitBytes, unitsBytes, textOf, fraction, valueBytes, advanceBytes, offsetBytes, mapBytes, indexBytes, entryBytes, written, indicesOf, normal}
 use Rattle.label.specs.Attribute.{escapeByte, escape, asAsked}
-use Rattle.label.specs.Calls.{writeInto, writeAsked}
+use Rattle.label.specs.Calls.{askedFor, writeInto, writeAsked}
+use Rattle.label.specs.Wire.{halves, words, writeBytes, writeAskedBytes}
+use Rattle.label.specs.Demands.{RoomyFor}
 use Rattle.label.specs.declared.Index.{Index}
 use Rattle.label.specs.declared.Index.the-variants.{Named, Font}
 use Rattle.label.specs.declared.Advance.{Advance}
@@ -26,6 +29,7 @@ use Rattle.label.proofs.Basics.{and-l, and-r, and-i, or-l, or-r, clash,
 use Rattle.label.proofs.Splits.{none, allNone, none-append, trim-nil, trim-gone, trim-kept, join-free}
 use Rattle.label.proofs.Decimals.{all-decimal, digits-none}
 use Rattle.label.proofs.Sounds.{sound-parts}
+use Rattle.label.proofs.Sizes.{sound-short}
 
 -- ── bytes as they are asked for ──
 
@@ -232,7 +236,16 @@ indices-plain cs gs = asked-indices true cs gs
 
 -- ── the calls ──
 
+-- the outputs that hold every writing, escaped or not
+pub asked-short : (e : Bool) (r : Run) → soundRun r ≡ true → RoomyFor (askedFor e (normal r)) 24576 maxIndicesBytes
+asked-short true r h = record { for-text = escaped-most r h; for-indices = rw (indices-plain (r .clusters) (r .glyphs)) (sound-short r h .for-indices) }
+asked-short false r h = record { for-text = omega (arith, sound-short r h .for-text); for-indices = sound-short r h .for-indices }
+
 -- not asked to escape, the writer is the writer of document 01
 pub unasked : (text indices : ℕ) (us : List ℕ) (cs gs : List ℤ) → writeAsked false text indices us cs gs ≡ writeInto text indices us cs gs
 unfolding writeAsked writeInto
 unasked text indices us cs gs = refl
+
+pub unasked-bytes : (text indices : ℕ) (us cs gs : List ℕ) → writeAskedBytes false text indices us cs gs ≡ writeBytes text indices us cs gs
+unfolding writeAskedBytes writeBytes
+unasked-bytes text indices us cs gs = rw (unasked text indices (halves us) (words cs) (words gs))

@@ -11,21 +11,21 @@ fill-through-requires c κs =
     let s = c .before .before .before .before .before .before .before .before .before .before .before .before .before .before .before .before in
     fill-asks _ _ _ _ _ _ _ _ _ _ (c .before .before .before .before .before .before .before .task .given .1) (s .pre .0) (s .pre .1)
 
-enum-told : tie.Need-enum-told
-enum-told c = search needs
+enum-known-task-2 : tie.Need-enum-known-task-2
+enum-known-task-2 c = search needs
 
 write-through-requires : tie.Need-write-through-requires
 write-through-requires c κs =
-    let s = c .before .before .before .before .before .before .before .before .before .before .before .before .before .before in
-    write-asks _ _ _ _ _ _ _ _ _ _ (c .before .before .before .before .before .enum-told .given .1) (s .pre .0) (s .pre .1)
+    let s = c .before .before .before .before .before .before .before .before .before .before .before .before .before .before .before in
+    write-asks _ _ _ _ _ _ _ _ _ _ (c .before .before .before .before .before .before .task2 .given .1) (s .pre .0) (s .pre .1)
 
-enum-known-task-2 : tie.Need-enum-known-task-2
-enum-known-task-2 c = search needs
+enum-known-task-3 : tie.Need-enum-known-task-3
+enum-known-task-3 c = search needs
 
 pick-through-requires : tie.Need-pick-through-requires
 pick-through-requires c κs =
     let s = c .before .before .before .before .before .before .before .before .before .before .before .before .before in
-    pick-asks _ _ _ _ _ _ _ _ _ _ (c .before .before .before .before .task2 .given .1) (s .pre .0) (s .pre .1)
+    pick-asks _ _ _ _ _ _ _ _ _ _ (c .before .before .before .before .task3 .given .1) (s .pre .0) (s .pre .1)
 
 same-length : tie.Need-same-length
 same-length c = search needs
@@ -64,7 +64,7 @@ same-length-11 : tie.Need-same-length-11
 same-length-11 c = search needs
 
 returns-2 : tie.Need-returns-2
-returns-2 c = write-does _ _ _ _ _ _ _ _ _ _ _ (c .before .before .before .before .before .before .before .before .before .before .before .before .before .before .enum-told .given .1) (c .before .before .before .before .before .before .before .before .write-through .ensures)
+returns-2 c = write-does _ _ _ _ _ _ _ _ _ _ _ (c .before .before .before .before .before .before .before .before .before .before .before .before .before .before .before .task2 .given .1) (c .before .before .before .before .before .before .before .before .write-through .ensures)
 
 same-length-12 : tie.Need-same-length-12
 same-length-12 c = search needs
@@ -76,7 +76,7 @@ same-length-14 : tie.Need-same-length-14
 same-length-14 c = search needs
 
 returns-3 : tie.Need-returns-3
-returns-3 c = pick-does _ _ _ _ _ _ _ _ _ _ _ (c .before .before .before .before .before .before .before .before .before .task2 .given .1) (c .before .before .before .before .pick-through .ensures)
+returns-3 c = pick-does _ _ _ _ _ _ _ _ _ _ _ (c .before .before .before .before .before .before .before .before .before .task3 .given .1) (c .before .before .before .before .pick-through .ensures)
 
 pub through-spec : {M : Type 1} → statement M
 through-spec =
@@ -84,9 +84,9 @@ through-spec =
     (tie.spec
     enum-known-task
     fill-through-requires
-    enum-told
-    write-through-requires
     enum-known-task-2
+    write-through-requires
+    enum-known-task-3
     pick-through-requires
     same-length
     same-length-2

@@ -1,9 +1,9 @@
-use Rattle.glyph_label.proofs.Writes.{unwritten}
-use Rattle.glyph_label.proofs.Sizes.{holds, whole-of, within-of}
-use Rattle.glyph_label.specs.Tasks.{unitPlaces, clusterPlaces, glyphPlaces, Asks, Does}
-use borrow.Author.Tests.{not-true, not-false}
-use lib.ListN.{length}
 use mathlib.Core.Path.{sym, refl, _∙_}
+use lib.ListN.{length}
+use borrow.Author.Tests.{not-true, not-false}
+use Rattle.glyph_label.specs.Tasks.{unitPlaces, clusterPlaces, glyphPlaces, Asks, Does}
+use Rattle.glyph_label.proofs.Sizes.{holds, whole-of, within-of}
+use Rattle.glyph_label.proofs.Writes.{unwritten}
 use borrow.Author.Needs.{needs}
 use Rattle.glyph_label.proofs.write_bytes.Statement.{statement}
 use Rattle.glyph_label.proofs.write_bytes.Tie as tie
@@ -17,7 +17,7 @@ unsound-writing-requires c κs = search needs
 returns : tie.Need-returns
 returns c =
     let a = c .before .before .before .before .before .before .before .before .args in
-    rw (c .unsound-writing .ensures) (unwritten (a .units .now) (a .clusters .now) (a .glyphs .now) (a .text .now) (a .indices .now) (sym (c .before .before .may-be-sound .ensures) ∙ not-true _ (c .before .if1 .taken)))
+    rw (c .unsound-writing .ensures) (unwritten (a .units .now) (a .clusters .now) (a .glyphs .now) (a .escape) (a .text .now) (a .indices .now) (sym (c .before .before .may-be-sound .ensures) ∙ not-true _ (c .before .if1 .taken)))
 
 is-within-requires : tie.Need-is-within-requires
 is-within-requires c κs = search needs
