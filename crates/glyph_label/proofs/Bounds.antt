@@ -18,7 +18,8 @@ use Rattle.label.specs.Run.{Run, whole, tail, State, start, opens, takes, allow
 use Rattle.label.specs.Sound.{clustersOf, glyphsOf, wholeClusters, wholeGlyphs, soundRun, runOf, sound}
 use Rattle.label.specs.Write.{Label, normal, write}
 use Rattle.label.specs.Pick.{holding, touched, turned, inside, pickUnits, pickGlyphs}
-use Rattle.label.specs.Calls.{counts, counted, readInto, lengths, askedFor, writeAsked}
+use Rattle.label.specs.Attribute.{isGood, more, resolveFrom, resolve}
+use Rattle.label.specs.Calls.{counts, counted, readInto, lengths, askedFor, writeAsked, filledCount, resolveInto}
 use Rattle.label.specs.Wire.{halves, words, noLeftOver, readBytes, writeAskedBytes, pickUnitsBytes, pickGlyphsBytes}
 use Rattle.label.specs.Demands.{RoomyFor}
 use Rattle.label.specs.declared.Cluster.{Cluster}
@@ -29,20 +30,21 @@ use Rattle.label.proofs.Rounded.{entries-length, rounded-most, beside-few}
 use Rattle.label.proofs.Walks.{step-ok, ok-path}
 use Rattle.label.proofs.Sizes.{sound-roomy}
 use Rattle.label.proofs.Escapes.{asked-short}
+use Rattle.label.proofs.Attributes.{resolved-within}
 use Rattle.label.proofs.Sounds.{text-ok, read-sound}
 use Rattle.sound.specs.Sounds.{unitSum}
 use Rattle.sound.proofs.Facts.{few-units, few-glyphs, units-add-up, glyphs-add-up}
-use Rattle.glyph_label.specs.Runs.{pickBytes, Small32, ReadingFits, WritingFits, StretchFits}
+use Rattle.glyph_label.specs.Runs.{pickBytes, Small32, ReadingFits, WritingFits, StretchFits, FilledFits}
 
 -- ── the places of 1 to 15 ──
 
--- a refusal has one of the table's numbers and a place up to k
+-- a refusal has a number up to 24, the largest, and a place up to k
 data Placed {A : Type 0} (k : ℕ) : Outcome A → Type 0 where
   fine : {a : A} → Placed k (ok a)
-  refused : {n p : ℕ} → n ≤ 22 → p ≤ k → Placed k (no n p)
+  refused : {n p : ℕ} → n ≤ 24 → p ≤ k → Placed k (no n p)
 
 module _ (k : ℕ) where
-  need-placed : {A : Type 0} (t : Bool) (n p : ℕ) (o : Outcome A) → n ≤ 22 → p ≤ k → (t ≡ true → Placed k o) → Placed k (need t n p >> o)
+  need-placed : {A : Type 0} (t : Bool) (n p : ℕ) (o : Outcome A) → n ≤ 24 → p ≤ k → (t ≡ true → Placed k o) → Placed k (need t n p >> o)
   need-placed true n p o a b f = f refl
   need-placed false n p o a b f = refused a b
 
@@ -188,6 +190,30 @@ writing-fits e t i us cs gs =
     (λ p. rw (w, s, p) (omega arith, omega arith)))
     (λ s. rw (w, s) (omega arith, omega arith)))
     (λ w. rw w (omega arith, omega arith))
+
+-- ── resolving ──
+
+raw-placed : (k : ℕ) (bs : List ℕ) (skip at : ℕ) → at + length bs ≤ k → Placed k (resolveFrom skip at bs)
+unfolding resolveFrom
+raw-placed k [] zero at h = fine
+raw-placed k [] (suc skip) at h = fine
+raw-placed k (b ∷ bs) (suc skip) at h = raw-placed k bs skip (suc at) (omega arith)
+raw-placed k (b ∷ bs) zero at h =
+    need-placed k (isGood b bs) 23 at _ (omega arith) (omega arith)
+    (λ _. bind-placed k (resolveFrom (more b bs) (suc at) bs) _ (raw-placed k bs (more b bs) (suc at) (omega arith)) (λ _ _. fine))
+
+resolve-placed : (room : ℕ) (raw : List ℕ) → Placed (length raw) (resolveInto room raw)
+unfolding resolveInto
+resolve-placed room raw =
+    bind-placed (length raw) (resolve raw) _ (raw-placed (length raw) raw 0 0 (omega arith))
+    (λ s e. need-placed (length raw) (leb (length s) room) 24 (length s) _ (omega arith) (omega (arith, resolved-within raw 0 0 s e)) (λ _. fine))
+
+pub filled-fits : (room : ℕ) (raw : List ℕ) → FilledFits (filledCount (resolveInto room raw))
+filled-fits room raw = of (resolveInto room raw) (resolve-placed room raw)
+  where
+    of : (o : Outcome (List ℕ)) → Placed (length raw) o → FilledFits (filledCount o)
+    of (ok s) x = tt
+    of (no n p) (refused a b) = omega arith
 
 -- ── a pick ──
 

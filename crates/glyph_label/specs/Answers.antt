@@ -1,6 +1,6 @@
 -- The answers for C: number 0 and the values, or a refusal's number and place with the other fields 0.
 -- Assumes nothing.
-use Prim.Native.Nat.{ℕ}
+use Prim.Native.Nat.{ℕ, min}
 use mathlib.Core.Bool.{cond}
 use Rattle.label.specs.Outcome.{Outcome, ok, no}
 use Rattle.label.specs.declared.Counts.{Counts}
@@ -9,6 +9,7 @@ use Rattle.label.specs.declared.Stretch.{Stretch}
 use Rattle.label.specs.declared.Part.{Part}
 use Rattle.glyph_label.specs.declared.GlyphLabelReading.{GlyphLabelReading}
 use Rattle.glyph_label.specs.declared.GlyphLabelWriting.{GlyphLabelWriting}
+use Rattle.glyph_label.specs.declared.GlyphLabelFilled.{GlyphLabelFilled}
 use Rattle.glyph_label.specs.declared.GlyphLabelStretch.{GlyphLabelStretch}
 use Rattle.glyph_label.specs.declared.GlyphLabelPart.{GlyphLabelPart}
 
@@ -21,6 +22,11 @@ readingAnswer (no n p) k = record { number = n; place = p; units = 0; clusters =
 abbrev pub writingAnswer : Outcome Lengths → GlyphLabelWriting
 writingAnswer (ok n) = record { number = 0; place = 0; text = n .text; indices = n .indices }
 writingAnswer (no n p) = record { number = n; place = p; text = 0; indices = 0 }
+
+-- how many places of a lent list or buffer were filled. A place of 32 bits is cut at the largest of them, as a raw value has no size limit.
+abbrev pub filledAnswer : Outcome ℕ → GlyphLabelFilled
+filledAnswer (ok n) = record { number = 0; place = 0; filled = n }
+filledAnswer (no n p) = record { number = n; place = min p 0xffff_ffff; filled = 0 }
 
 -- the stretch picked
 abbrev pub stretchAnswer : Outcome Stretch → GlyphLabelStretch

@@ -1,20 +1,20 @@
 // The calls for programs in C. A run's numbers are bytes here: a unit is 2 and every other number 4, two's complement, low byte first.
 ghost use mathlib.Core.Path.{_≡_};
 ghost use mathlib.Core.Bool.{true};
-ghost use Prim.Native.Nat.{_*_, _/_, _≤_};
+ghost use Prim.Native.Nat.{_*_, _/_, _≤_, min};
 ghost use lib.ListN.{length};
 ghost use Rattle.label.specs.Limits.{maxGlyphs};
 ghost use Rattle.label.specs.Run.{read as readLabel};
 ghost use Rattle.label.specs.Rounded.{rounded as roundedIn, beside};
-ghost use Rattle.label.specs.Calls.{refusal, readingOutcome, readingRounded, writingOutcome, pickOutcome, counted, lengths, textAfter, indicesAfter, writeAsked};
+ghost use Rattle.label.specs.Calls.{refusal, readingOutcome, readingRounded, writingOutcome, pickOutcome, counted, lengths, textAfter, indicesAfter, writeAsked, resolvingOutcome, filledCount, filledAfter, resolveInto};
 ghost use Rattle.label.specs.Wire.{readBytes, unitBytesAfter, clusterBytesAfter, glyphBytesAfter, writeBytes, writeAskedBytes, pickUnitsBytes, pickGlyphsBytes};
 ghost use Rattle.label.specs.Fault.{faultPart};
 ghost use Rattle.label.specs.declared.Reading.the-variants.{Refused as RefusedReading};
 ghost use Rattle.label.specs.declared.Writing.the-variants.{Refused as RefusedWriting};
 ghost use Rattle.label.specs.declared.Pick.the-variants.{Refused as RefusedPick};
 ghost use Rattle.picks.specs.Ways.{pickBy};
-ghost use Rattle.glyph_label.specs.Answers.{readingAnswer, writingAnswer, stretchAnswer, partAnswer};
-ghost use Rattle.glyph_label.specs.Runs.{within, wholeBytes, mayBeSound, Holds, Unpacked, Accepted, ReadBytes, WrittenBytes, pickBytes, Small32, ReadingFits, WritingFits, StretchFits};
+ghost use Rattle.glyph_label.specs.Answers.{readingAnswer, writingAnswer, filledAnswer, stretchAnswer, partAnswer};
+ghost use Rattle.glyph_label.specs.Runs.{within, wholeBytes, mayBeSound, Holds, Unpacked, Accepted, ReadBytes, WrittenBytes, pickBytes, Small32, ReadingFits, WritingFits, StretchFits, FilledFits};
 ghost use Rattle.glyph_label.specs.Tasks.{unitPlaces, clusterPlaces, glyphPlaces, Asks, writingOf, pickOf, Does};
 
 // ── answers ──
@@ -38,6 +38,14 @@ pub struct GlyphLabelWriting {
     pub place: u32,
     pub text: u32,
     pub indices: u32,
+}
+
+// How many places of a lent buffer were filled.
+#[repr(C)]
+pub struct GlyphLabelFilled {
+    pub number: u32,
+    pub place: u32,
+    pub filled: usize,
 }
 
 // The stretch of units or of glyphs that was picked.
@@ -97,6 +105,35 @@ fn writing_answer(r: label::Writing) -> GlyphLabelWriting
             place: x.place as u32,
             text: 0,
             indices: 0,
+        },
+    }
+}
+
+// A place in 32 bits: the largest of them stands for itself and every place beyond.
+fn place_32(p: usize) -> u32
+    ensures { λ r. ⌜ r ≡ min p 4294967295 ⌝ }
+{
+    if p < 0xffff_ffff {
+        p as u32
+    } else {
+        0xffff_ffff
+    }
+}
+
+fn filled_answer(r: label::Resolving) -> GlyphLabelFilled
+    requires { ⌜ FilledFits (resolvingOutcome r) ⌝ }
+    ensures { λ a. ⌜ a ≡ filledAnswer (resolvingOutcome r) ⌝ }
+{
+    match r {
+        label::Resolving::Resolved(n) => GlyphLabelFilled {
+            number: 0,
+            place: 0,
+            filled: n,
+        },
+        label::Resolving::Refused(x) => GlyphLabelFilled {
+            number: x.number as u32,
+            place: place_32(x.place),
+            filled: 0,
         },
     }
 }
@@ -704,6 +741,17 @@ pub extern "C" fn glyph_label_glyphs_of(
     ensures { λ r. ⌜ r ≡ stretchAnswer (pickGlyphsBytes (now (units .entry)) (now (clusters .entry)) (now (glyphs .entry)) first end) ⌝ }
 {
     stretch_answer(pick_bytes(units, clusters, glyphs, true, first, end))
+}
+
+// ── raw attribute values ──
+
+// One raw attribute value, its references resolved, into `out`.
+#[no_mangle]
+pub extern "C" fn glyph_label_resolve(raw: &[u8], out: &mut [u8]) -> GlyphLabelFilled
+    ensures result { λ r. ⌜ r ≡ filledAnswer (filledCount (resolveInto (length (now (out .entry))) (now (raw .entry)))) ⌝ }
+    ensures out { λ r. ⌜ now (out .exit) ≡ filledAfter (resolveInto (length (now (out .entry))) (now (raw .entry))) (now (out .entry)) ⌝ }
+{
+    filled_answer(attribute::resolve(raw, out))
 }
 
 // ── faults ──

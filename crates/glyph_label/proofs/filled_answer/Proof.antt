@@ -1,0 +1,31 @@
+use native.Mathlib.Omega.{arith}
+use mathlib.Core.Path.{sym, ap, subst, _∙_}
+use Rattle.label.specs.Calls.{resolvingOutcome}
+use Rattle.label.specs.declared.Resolving.{Resolving}
+use Rattle.glyph_label.specs.Answers.{filledAnswer}
+use Rattle.glyph_label.specs.Runs.{FilledFits}
+use borrow.Author.Needs.{needs}
+use Rattle.glyph_label.proofs.filled_answer.Statement.{statement}
+use Rattle.glyph_label.proofs.filled_answer.Tie as tie
+
+enum-known-r : tie.Need-enum-known-r
+enum-known-r c = search needs
+
+enum-known-r-2 : tie.Need-enum-known-r-2
+enum-known-r-2 c = search needs
+
+cast-t5 : tie.Need-cast-t5
+cast-t5 c = omega (arith, subst (λ (a : Resolving). FilledFits (resolvingOutcome a)) (c .before .before .r2 .given .1) (c .before .before .before .before .pre))
+
+place-32-requires : tie.Need-place-32-requires
+place-32-requires c κs = search needs
+
+returns : tie.Need-returns
+returns c = sym (ap (λ (a : Resolving). filledAnswer (resolvingOutcome a)) (c .before .r .given .1))
+
+returns-2 : tie.Need-returns-2
+returns-2 c = rw (c .place-32 .ensures) (sym (ap (λ (a : Resolving). filledAnswer (resolvingOutcome a)) (c .before .before .before .r2 .given .1)))
+
+pub filled-answer-spec : {M : Type 1} → statement M
+filled-answer-spec =
+    tie.close (tie.spec enum-known-r enum-known-r-2 cast-t5 place-32-requires returns returns-2)
