@@ -12,7 +12,7 @@ use lib.Dec.{eqb}
 use lib.ListN.{length, getD, drop}
 use lib.Seq.{drop-cons, getD-drop}
 use Rattle.label.specs.Bytes.{cut}
-use Rattle.label.specs.Attribute.{named, numbered, referred, body, isClosed}
+use Rattle.label.specs.Attribute.{predefined, numbered, referred, body, isClosed}
 use Rattle.label.proofs.Attributes.{body-here, closed-further, body-further}
 use Rattle.label.proofs.Basics.{cases}
 use Rattle.attribute.specs.declared.Reference.{Reference}
@@ -45,7 +45,7 @@ module _ (s : List ℕ) (i : ℕ) {b : ℕ} (e : b ≡ getD s i 0) (c : ℕ) (h 
   closed-is : isClosed (drop i s) ≡ isClosed (drop (i + 1) s)
   closed-is = rw opened (closed-further c (drop (i + 1) s) k)
 
-referred-name : (x : List ℕ) → eqb (getD x 0 0) 35 ≡ false → referred x ≡ named x
+referred-name : (x : List ℕ) → eqb (getD x 0 0) 35 ≡ false → referred x ≡ predefined x
 unfolding referred
 referred-name x h = rw h
 
@@ -62,7 +62,7 @@ other : (s : List ℕ) (i c : ℕ) {b : ℕ} → b ≡ getD s i 0 → (b ≡ c �
 other s i c e h o = first (drop i s) c o (λ k. h (e ∙ ap (λ (j : ℕ). getD s j 0) (sym (add-zero i)) ∙ sym (getD-drop i s 0 0) ∙ k))
 
 module _ (s : List ℕ) (at : ℕ) {b : ℕ} (e : b ≡ getD s at 0) where
-  pub by-name : (b ≡ 35 → ⊥) → referenceBy named s at ≡ referenceBy referred s at
+  pub by-name : (b ≡ 35 → ⊥) → referenceBy predefined s at ≡ referenceBy referred s at
   unfolding referenceBy
   by-name h = rw (referred-name (body (drop at s)) (other s at 35 e h (omega arith)))
 

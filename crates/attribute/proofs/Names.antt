@@ -13,7 +13,7 @@ use lib.ListN.{length, getD, drop, drop-of-length-le}
 use lib.Seq.{drop-cons}
 use Rattle.label.specs.Bytes.{ascii}
 use Rattle.label.specs.Text.{xmlChar}
-use Rattle.label.specs.Attribute.{same, named, body, isClosed}
+use Rattle.label.specs.Attribute.{same, predefined, body, isClosed}
 use Rattle.label.proofs.Attributes.{closed-none, closed-here, body-here, closed-further, body-further}
 use Rattle.label.proofs.Basics.{and-l, and-r, clash, cases}
 use Rattle.label.proofs.Splits.{none}
@@ -76,7 +76,7 @@ module _ (s : List ℕ) (at : ℕ) where
   name = body (drop at s)
 
   -- the name w stands there, and its character is c
-  is-named : (w : List ℕ) (c : ℕ) → (isClosed (drop at s) && same name w) ≡ true → named w ≡ c → xmlChar c ≡ true → To c (at + (length w + 1)) ≡ referenceBy named s at
+  is-named : (w : List ℕ) (c : ℕ) → (isClosed (drop at s) && same name w) ≡ true → predefined w ≡ c → xmlChar c ≡ true → To c (at + (length w + 1)) ≡ referenceBy predefined s at
   unfolding referenceBy
   is-named w c h n x =
       let e : name ≡ w = same-is name w (and-r (isClosed (drop at s)) (same name w) h) in
@@ -84,13 +84,13 @@ module _ (s : List ℕ) (at : ℕ) where
       rw (and-l (isClosed (drop at s)) (same name w) h, e, n, x, p)
 
   -- none of the names stands there
-  not-named : named name ≡ 0 → Bad ≡ referenceBy named s at
+  not-named : predefined name ≡ 0 → Bad ≡ referenceBy predefined s at
   unfolding referenceBy xmlChar
   not-named h = rw (h, and-false (isClosed (drop at s)))
 
   module _ (w : List ℕ) (f : none (λ b. eqb b 59) w ≡ true) {x : Bool} (e : x ≡ begins (w ++ (59 ∷ [])) (drop at s)) where
     -- the code found w with its `;`
-    pub hit : (c : ℕ) → named w ≡ c → xmlChar c ≡ true → x ≡ true → To c (at + (length w + 1)) ≡ referenceBy named s at
+    pub hit : (c : ℕ) → predefined w ≡ c → xmlChar c ≡ true → x ≡ true → To c (at + (length w + 1)) ≡ referenceBy predefined s at
     hit c n k h = is-named w c (sym (begins-is w (drop at s) f) ∙ sym e ∙ h) n k
 
     miss : isClosed (drop at s) ≡ true → x ≡ false → same name w ≡ false
@@ -99,11 +99,11 @@ module _ (s : List ℕ) (at : ℕ) where
   -- the code found none
   module _ {a l g q p : Bool} (ea : a ≡ begins (ascii "amp;") (drop at s)) (el : l ≡ begins (ascii "lt;") (drop at s)) (eg : g ≡ begins (ascii "gt;") (drop at s))
       (eq : q ≡ begins (ascii "quot;") (drop at s)) (ep : p ≡ begins (ascii "apos;") (drop at s)) where
-    pub missed : a ≡ false → l ≡ false → g ≡ false → q ≡ false → p ≡ false → Bad ≡ referenceBy named s at
+    pub missed : a ≡ false → l ≡ false → g ≡ false → q ≡ false → p ≡ false → Bad ≡ referenceBy predefined s at
     unfolding ascii
     missed ha hl hg hq hp =
         cases (isClosed (drop at s))
-        (λ k. not-named (unfold named in rw (
+        (λ k. not-named (unfold predefined in rw (
           miss (ascii "amp") refl ea k ha,
           miss (ascii "lt") refl el k hl,
           miss (ascii "gt") refl eg k hg,
@@ -112,6 +112,6 @@ module _ (s : List ℕ) (at : ℕ) where
         )))
         (λ k. unfold referenceBy in rw k)
 
-pub names : (named (ascii "amp") ≡ 38) × (named (ascii "lt") ≡ 60) × (named (ascii "gt") ≡ 62) × (named (ascii "quot") ≡ 34) × (named (ascii "apos") ≡ 39)
-unfolding named same ascii
+pub names : (predefined (ascii "amp") ≡ 38) × (predefined (ascii "lt") ≡ 60) × (predefined (ascii "gt") ≡ 62) × (predefined (ascii "quot") ≡ 34) × (predefined (ascii "apos") ≡ 39)
+unfolding predefined same ascii
 names = (refl, refl, refl, refl, refl)

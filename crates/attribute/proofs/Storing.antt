@@ -7,15 +7,15 @@ use mathlib.Core.Path.{_≡_, refl, sym, ap, _∙_}
 use mathlib.Core.Logic.{⊎-elim}
 use mathlib.Core.Bool.{Bool, true, false, cond, not, _&&_, _||_}
 use mathlib.Core.List.{List, [], _∷_, _++_, append-nil}
-use borrow.Author.Tests.{eq-eqb, ne-eqb, le-leb, lt-leb}
-use lib.Dec.{eqb, leb}
+use borrow.Author.Tests.{eq-eqb, ne-eqb, ltb-true, not-true}
+use lib.Dec.{eqb, ltb}
 use lib.ListN.{length, getD, drop}
 use lib.Seq.{getD-drop}
 use Rattle.label.specs.Outcome.{Outcome, ok, no}
 use Rattle.label.specs.Text.{xmlChar}
 use Rattle.label.specs.Write.{utf8}
-use Rattle.label.specs.Attribute.{referred, body, isClosed, isReference, isGood, spaced, gives, more, resolveFrom, resolve}
-use Rattle.label.proofs.Basics.{and-r, clash, cases}
+use Rattle.label.specs.Attribute.{referred, body, isClosed, isReference, isGood, spaced, gives, further, resolveFrom, resolve}
+use Rattle.label.proofs.Basics.{and-l, and-r, clash, cases}
 use Rattle.label.proofs.Cursors.{onto, onto-nil, onto-onto}
 use Rattle.label.proofs.Texts.{xml-range}
 use Rattle.label.proofs.Attributes.{resolve-good, resolve-bad, resolve-end, gives-within}
@@ -57,6 +57,16 @@ module _ (f : List ℕ → ℕ) (s : List ℕ) (at : ℕ) where
   unfolding referenceBy
   refers-not e = cases is (λ t. apart (sym (rw t at e))) (λ t. t)
 
+-- ── bytes above the white space but a space ──
+
+spaced-high : (b : ℕ) → 13 < b → b ≡ spaced b
+unfolding spaced
+spaced-high b h = rw (ne-eqb b 9 (λ e. omega arith), ne-eqb b 10 (λ e. omega arith), ne-eqb b 13 (λ e. omega arith))
+
+width-high : (s : List ℕ) (i : ℕ) → 13 < getD s i 0 → 1 ≡ widthAt s i
+unfolding widthAt
+width-high s i h = rw (ne-eqb (getD s i 0) 13 (λ e. omega arith))
+
 -- ── the loop: w came out so far, and what the raw value resolves to is w before what the rest resolves to ──
 
 pub record Reached (raw old : List ℕ) (i n : ℕ) (new : List ℕ) : Type 0 where
@@ -84,11 +94,11 @@ module _ {raw old new : List ℕ} {i n : ℕ} (g : Reached raw old i n new) wher
     bad : isGood here behind ≡ false → Stores raw old (S.Bad i) new
     bad k = g .far ∙ rw (resolve-bad raw i h k)
 
-    good : isGood here behind ≡ true → {m j : ℕ} {new′ : List ℕ} → Put new n (gives here behind) m new′ → suc i + more here behind ≡ j → Reached raw old j m new′
+    good : isGood here behind ≡ true → {m j : ℕ} {new′ : List ℕ} → Put new n (gives here behind) m new′ → suc i + further here behind ≡ j → Reached raw old j m new′
     good k {m} {j} {new′} f e =
         record {
           w = g .w ++ gives here behind;
-          far = g .far ∙ rw (resolve-good raw i h k, ← e) (onto-onto (g .w) (gives here behind) (resolveFrom 0 (suc i + more here behind) (drop (suc i + more here behind) raw)));
+          far = g .far ∙ rw (resolve-good raw i h k, ← e) (onto-onto (g .w) (gives here behind) (resolveFrom 0 (suc i + further here behind) (drop (suc i + further here behind) raw)));
           put = then (g .put) f;
           few = let b = f .behind in omega (arith, g .few, gives-within here behind k);
           same = ap length (f .is) ∙ puts-length new n (gives here behind) ∙ g .same;
@@ -108,8 +118,8 @@ module _ {raw old new : List ℕ} {i n : ℕ} (g : Reached raw old i n new) wher
       unfolding gives
       plain-gives = rw (ne-eqb here 38 a)
 
-      plain-next : suc i + more here behind ≡ i + widthAt raw i
-      unfolding more widthAt
+      plain-next : suc i + further here behind ≡ i + widthAt raw i
+      unfolding further widthAt
       plain-next =
           let e : getD behind 0 0 ≡ getD raw (i + 1) 0 = getD-drop (suc i) raw 0 0 ∙ ap (λ (k : ℕ). getD raw k 0) (omega arith) in
           rw (ne-eqb here 38 a, e) (by (eqb here 13 && eqb (getD raw (i + 1) 0) 10))
@@ -120,6 +130,13 @@ module _ {raw old new : List ℕ} {i n : ℕ} (g : Reached raw old i n new) wher
 
       pub plain : {b r m : ℕ} {new′ : List ℕ} → b ≡ spaced here → Put new n (b ∷ []) m new′ → r ≡ widthAt raw i → Reached raw old (i + r) m new′
       plain e f d = good plain-good (put-as (ap (λ (x : ℕ). x ∷ []) e ∙ plain-gives) f) (plain-next ∙ ap (λ (x : ℕ). i + x) (sym d))
+
+    -- a byte above the white space but a space, and no `&`, stands for itself
+    pub copied : (here ≡ 60 → ⊥) → {x : Bool} → x ≡ (not (eqb here 38) && ltb 13 here) → x ≡ true → {m : ℕ} {new′ : List ℕ} → Put new n (here ∷ []) m new′ → Reached raw old (i + 1) m new′
+    copied l e k f =
+        let a : eqb here 38 ≡ false = not-true (eqb here 38) (and-l (not (eqb here 38)) (ltb 13 here) (sym e ∙ k)) in
+        let h : 13 < here = ltb-true 13 here (and-r (not (eqb here 38)) (ltb 13 here) (sym e ∙ k)) in
+        plain l (λ z. clash (eqb here 38) (eq-eqb here 38 z) a) (spaced-high here h) f (width-high raw i h)
 
     -- a `&`
     module _ (a : here ≡ 38) where
@@ -137,15 +154,15 @@ module _ {raw old new : List ℕ} {i n : ℕ} (g : Reached raw old i n new) wher
         pub small : c < 2097152
         small = ⊎-elim (λ q. omega arith) (λ q. omega (arith, q .1)) (xml-range c (rw (told .code) (and-r (isClosed (drop (i + 1) raw)) (xmlChar (referred (body (drop (i + 1) raw)))) (told .holds))))
 
-        pub further : i < j
-        further = omega (arith, told .next)
+        pub ahead : i < j
+        ahead = omega (arith, told .next)
 
         given : utf8 c ≡ gives here behind
         unfolding gives
         given = rw (a, told .code, add-one i)
 
-        moved : suc i + more here behind ≡ j
-        unfolding more
+        moved : suc i + further here behind ≡ j
+        unfolding further
         moved = rw (a, ← add-one i) (omega (arith, told .next))
 
         pub reference : {m : ℕ} {new′ : List ℕ} → Put new n (utf8 c) m new′ → Reached raw old j m new′

@@ -1,8 +1,10 @@
 // Raw XML attribute values: references resolved and white space replaced, as XML 1.0 says.
 ghost use mathlib.Core.Path.{_≡_};
+ghost use mathlib.Core.Bool.{not, _&&_};
 ghost use Prim.Native.Nat.{_+_, _*_, _≤_, _<_, min};
+ghost use lib.Dec.{eqb, ltb};
 ghost use lib.ListN.{length, drop};
-ghost use Rattle.label.specs.Attribute.{named, digitValue, numbered, referred, spaced};
+ghost use Rattle.label.specs.Attribute.{predefined, digitValue, numbered, referred, spaced};
 ghost use Rattle.label.specs.Calls.{refusal, resolvingOutcome, resolveInto, filledCount, filledAfter};
 ghost use Rattle.attribute.specs.References.{beyond, numberAt, begins, referenceBy};
 ghost use Rattle.attribute.specs.Stores.{widthAt, Stores};
@@ -110,7 +112,7 @@ fn stands_at(s: &[u8], at: usize, w: &[u8]) -> bool
 // The reference whose name stands at a place.
 fn named_at(s: &[u8], at: usize) -> Reference
     requires { ⌜ at ≤ length (now s) ⌝ }
-    ensures { λ r. ⌜ r ≡ referenceBy named (now (s .entry)) at ⌝ }
+    ensures { λ r. ⌜ r ≡ referenceBy predefined (now (s .entry)) at ⌝ }
 {
     if stands_at(s, at, b"amp;") {
         return Reference::To {
@@ -186,6 +188,13 @@ fn width_at(s: &[u8], at: usize) -> usize
     2
 }
 
+// Whether a byte that is not `<` is copied as it is: it is no `&` and no white space but a space.
+fn is_copied(b: u8) -> bool
+    ensures { λ r. ⌜ r ≡ (not (eqb b 38) && ltb 13 b) ⌝ }
+{
+    words::both(b != 38, 13 < b)
+}
+
 // How many bytes came out, or the place of a bad reference or a raw `<`.
 enum Stored {
     Bytes(usize),
@@ -202,6 +211,11 @@ fn put_resolved(out: &mut [u8], raw: &[u8]) -> Stored
         let b = raw[i];
         if b == 60 {
             return Stored::Bad(i);
+        }
+        if is_copied(b) {
+            n = words::put_byte(out, n, b);
+            i += 1;
+            continue;
         }
         if b != 38 {
             n = words::put_byte(out, n, spaced_byte(b));
@@ -229,10 +243,11 @@ fn refused(number: usize, place: usize) -> Resolving
     Resolving::Refused(Refusal { number, place })
 }
 
-// One raw attribute value resolved into `out`, where it has room: a first pass judges and measures, a second one stores.
+// One raw attribute value resolved into `out`, where no reference is bad, no raw `<` stands in it, and `out` has room. A first pass judges and measures, a
+// second one stores.
 pub fn resolve(raw: &[u8], out: &mut [u8]) -> Resolving
     ensures result { λ r. ⌜ resolvingOutcome r ≡ filledCount (resolveInto (length (now (out .entry))) (now (raw .entry))) ⌝ }
-    ensures out { λ r. ⌜ now (out .exit) ≡ filledAfter (resolveInto (length (now (out .entry))) (now (raw .entry))) (now (out .entry)) ⌝ }
+    ensures out { λ _. ⌜ now (out .exit) ≡ filledAfter (resolveInto (length (now (out .entry))) (now (raw .entry))) (now (out .entry)) ⌝ }
 {
     let mut none = [0u8; 1];
     match put_resolved(&mut none, raw) {

@@ -18,7 +18,7 @@ use Rattle.label.specs.Run.{Run, whole, tail, State, start, opens, takes, allow
 use Rattle.label.specs.Sound.{clustersOf, glyphsOf, wholeClusters, wholeGlyphs, soundRun, runOf, sound}
 use Rattle.label.specs.Write.{Label, normal, write}
 use Rattle.label.specs.Pick.{holding, touched, turned, inside, pickUnits, pickGlyphs}
-use Rattle.label.specs.Attribute.{isGood, more, resolveFrom, resolve}
+use Rattle.label.specs.Attribute.{isGood, further, resolveFrom, resolve}
 use Rattle.label.specs.Calls.{counts, counted, readInto, lengths, askedFor, writeAsked, filledCount, resolveInto}
 use Rattle.label.specs.Wire.{halves, words, noLeftOver, readBytes, writeAskedBytes, pickUnitsBytes, pickGlyphsBytes}
 use Rattle.label.specs.Demands.{RoomyFor}
@@ -200,7 +200,7 @@ raw-placed k [] (suc skip) at h = fine
 raw-placed k (b ∷ bs) (suc skip) at h = raw-placed k bs skip (suc at) (omega arith)
 raw-placed k (b ∷ bs) zero at h =
     need-placed k (isGood b bs) 23 at _ (omega arith) (omega arith)
-    (λ _. bind-placed k (resolveFrom (more b bs) (suc at) bs) _ (raw-placed k bs (more b bs) (suc at) (omega arith)) (λ _ _. fine))
+    (λ _. bind-placed k (resolveFrom (further b bs) (suc at) bs) _ (raw-placed k bs (further b bs) (suc at) (omega arith)) (λ _ _. fine))
 
 resolve-placed : (room : ℕ) (raw : List ℕ) → Placed (length raw) (resolveInto room raw)
 unfolding resolveInto

@@ -23,7 +23,7 @@ abbrev pub writingAnswer : Outcome Lengths → GlyphLabelWriting
 writingAnswer (ok n) = record { number = 0; place = 0; text = n .text; indices = n .indices }
 writingAnswer (no n p) = record { number = n; place = p; text = 0; indices = 0 }
 
--- how many places of a lent list or buffer were filled. A place of 32 bits is cut at the largest of them, as a raw value has no size limit.
+-- how many places of a lent buffer were filled. A refusal's place has 32 bits here; one beyond them is given as the largest.
 abbrev pub filledAnswer : Outcome ℕ → GlyphLabelFilled
 filledAnswer (ok n) = record { number = 0; place = 0; filled = n }
 filledAnswer (no n p) = record { number = n; place = min p 0xffff_ffff; filled = 0 }

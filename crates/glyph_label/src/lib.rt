@@ -745,11 +745,11 @@ pub extern "C" fn glyph_label_glyphs_of(
 
 // ── raw attribute values ──
 
-// One raw attribute value, its references resolved, into `out`.
+// One raw attribute value resolved into `out`, where neither 23 nor 24 holds.
 #[no_mangle]
 pub extern "C" fn glyph_label_resolve(raw: &[u8], out: &mut [u8]) -> GlyphLabelFilled
     ensures result { λ r. ⌜ r ≡ filledAnswer (filledCount (resolveInto (length (now (out .entry))) (now (raw .entry)))) ⌝ }
-    ensures out { λ r. ⌜ now (out .exit) ≡ filledAfter (resolveInto (length (now (out .entry))) (now (raw .entry))) (now (out .entry)) ⌝ }
+    ensures out { λ _. ⌜ now (out .exit) ≡ filledAfter (resolveInto (length (now (out .entry))) (now (raw .entry))) (now (out .entry)) ⌝ }
 {
     filled_answer(attribute::resolve(raw, out))
 }

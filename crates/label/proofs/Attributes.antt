@@ -14,7 +14,7 @@ use Rattle.label.specs.Outcome.{Outcome, ok, no, need, _>>=_, _>>_}
 use Rattle.label.specs.Bytes.{ascii, cut}
 use Rattle.label.specs.Text.{xmlChar}
 use Rattle.label.specs.Write.{utf8}
-use Rattle.label.specs.Attribute.{same, named, digitValue, allOf, valueBehind, numbered, referred, body, isClosed, isReference, isGood, spaced, gives, more, resolveFrom, resolve, escapeByte, escape}
+use Rattle.label.specs.Attribute.{same, predefined, digitValue, allOf, valueBehind, numbered, referred, body, isClosed, isReference, isGood, spaced, gives, further, resolveFrom, resolve, escapeByte, escape}
 use Rattle.label.proofs.Basics.{and-l, and-r, clash, cases, need-ok, bind-ok}
 use Rattle.label.proofs.Texts.{utf8-short}
 use Rattle.label.proofs.Walks.{ok-path}
@@ -32,16 +32,16 @@ abbrev Restores : List ℕ → ℕ → Type 0
 Restores w b = (at : ℕ) (x : List ℕ) → resolveFrom 0 at (w ++ x) ≡ onto (b ∷ []) (resolveFrom 0 (past w at) x)
 
 names : Restores (ascii "&amp;") 38 × Restores (ascii "&lt;") 60 × Restores (ascii "&quot;") 34
-unfolding resolveFrom isGood isReference body isClosed more gives referred named same cut ascii xmlChar utf8
+unfolding resolveFrom isGood isReference body isClosed further gives referred predefined same cut ascii xmlChar utf8
 names = (λ at x. refl, λ at x. refl, λ at x. refl)
 
 numbers : Restores (ascii "&#9;") 9 × Restores (ascii "&#10;") 10 × Restores (ascii "&#13;") 13
-unfolding resolveFrom isGood isReference body isClosed more gives referred numbered allOf digitValue valueBehind cut ascii xmlChar utf8
+unfolding resolveFrom isGood isReference body isClosed further gives referred numbered allOf digitValue valueBehind cut ascii xmlChar utf8
 numbers = (λ at x. refl, λ at x. refl, λ at x. refl)
 
 -- a byte that is not escaped stands for itself
 plain : (b : ℕ) → eqb b 38 ≡ false → eqb b 60 ≡ false → eqb b 9 ≡ false → eqb b 10 ≡ false → eqb b 13 ≡ false → Restores (b ∷ []) b
-unfolding resolveFrom isGood more gives spaced
+unfolding resolveFrom isGood further gives spaced
 plain b a l t n r at x = rw (a, l, t, n, r) refl
 
 byte-restored : (b : ℕ) → Restores (escapeByte b) b
@@ -78,11 +78,11 @@ module _ (s : List ℕ) (i : ℕ) where
   behind = drop (suc i) s
 
   abbrev next : ℕ
-  next = suc i + more here behind
+  next = suc i + further here behind
 
   pub resolve-good : i < length s → isGood here behind ≡ true → resolveFrom 0 i (drop i s) ≡ onto (gives here behind) (resolveFrom 0 next (drop next s))
   unfolding resolveFrom
-  resolve-good h g = rw (drop-cons s i 0 h, g, resolve-skip (more here behind) (suc i) behind, drop-drop (more here behind) (suc i) s)
+  resolve-good h g = rw (drop-cons s i 0 h, g, resolve-skip (further here behind) (suc i) behind, drop-drop (further here behind) (suc i) s)
 
   pub resolve-bad : i < length s → isGood here behind ≡ false → resolveFrom 0 i (drop i s) ≡ no 23 i
   unfolding resolveFrom
@@ -125,13 +125,13 @@ closed-within (b ∷ s) h =
 
 -- a reference has two bytes or more between `&` and `;`
 one-byte : (b : ℕ) → referred (b ∷ []) ≡ 0
-unfolding referred numbered named same ascii
+unfolding referred numbered predefined same ascii
 one-byte b =
     cases (eqb b 35) (λ e. rw e)
     (λ e. rw (e, and-false (eqb b 97), and-false (eqb b 108), and-false (eqb b 103), and-false (eqb b 113)))
 
 pub referred-long : (s : List ℕ) → xmlChar (referred s) ≡ true → 2 ≤ length s
-referred-long [] h = clash (xmlChar (referred [])) h (unfold xmlChar referred named same ascii in refl)
+referred-long [] h = clash (xmlChar (referred [])) h (unfold xmlChar referred predefined same ascii in refl)
 referred-long (b ∷ []) h = clash (xmlChar 0) (rw (one-byte b) at h) (unfold xmlChar in refl)
 referred-long (b ∷ d ∷ s) h = omega arith
 
@@ -141,9 +141,9 @@ module _ (b : ℕ) (bs : List ℕ) (g : isGood b bs ≡ true) where
   unfolding isGood
   reference-is e = rw e at (and-r (not (eqb b 60)) (not (eqb b 38) || isReference bs) g)
 
-  pub more-within : more b bs ≤ length bs
-  unfolding more isReference
-  more-within =
+  pub further-within : further b bs ≤ length bs
+  unfolding further isReference
+  further-within =
       cases (eqb b 38)
       (λ e. rw e (closed-within bs (and-l (isClosed bs) (xmlChar (referred (body bs))) (reference-is e))))
       (λ e. rw e (cases (eqb b 13 && eqb (getD bs 0 0) 10) (λ k. rw k (some bs (eqb-true (getD bs 0 0) 10 (and-r (eqb b 13) (eqb (getD bs 0 0) 10) k)))) (λ k. rw k (omega arith))))
@@ -152,8 +152,8 @@ module _ (b : ℕ) (bs : List ℕ) (g : isGood b bs ≡ true) where
       some [] k = omega arith
       some (y ∷ x) k = omega arith
 
-  pub gives-within : length (gives b bs) ≤ suc (more b bs)
-  unfolding gives more isReference
+  pub gives-within : length (gives b bs) ≤ suc (further b bs)
+  unfolding gives further isReference
   gives-within =
       cases (eqb b 38)
       (λ e. let l = referred-long (body bs) (and-r (isClosed bs) (xmlChar (referred (body bs))) (reference-is e)) in
@@ -167,5 +167,5 @@ resolved-within [] (suc k) at r h = omega (arith, ap length (ok-path [] r h))
 resolved-within (b ∷ bs) (suc k) at r h = omega (arith, resolved-within bs k (suc at) r h)
 resolved-within (b ∷ bs) zero at r h =
     let (g, f) = need-ok (isGood b bs) 23 at _ r h in
-    let (s, e, q) = bind-ok (resolveFrom (more b bs) (suc at) bs) _ r f in
-    omega (arith, resolved-within bs (more b bs) (suc at) s e, gives-within b bs g, more-within b bs g, ap length (ok-path (gives b bs ++ s) r q), length-append (gives b bs) s)
+    let (s, e, q) = bind-ok (resolveFrom (further b bs) (suc at) bs) _ r f in
+    omega (arith, resolved-within bs (further b bs) (suc at) s e, gives-within b bs g, further-within b bs g, ap length (ok-path (gives b bs ++ s) r q), length-append (gives b bs) s)

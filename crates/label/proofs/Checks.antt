@@ -17,10 +17,10 @@ use Rattle.label.specs.Run.{Run, Parts, fontGlyph, cluster, before, whol
 use Rattle.label.specs.Sound.{sound, runOf, clustersOf, glyphsOf}
 use Rattle.label.specs.Write.{Label, normal, write}
 use Rattle.label.specs.Pick.{inside, touched, turned, pickUnits, pickGlyphs}
-use Rattle.label.specs.Attribute.{isGood, gives, more, resolveFrom}
-use Rattle.label.specs.Calls.{readInto, writeInto, listInto, resolveInto, askedFor, writeAsked}
+use Rattle.label.specs.Attribute.{isGood, gives, further, resolveFrom}
+use Rattle.label.specs.Calls.{readInto, writeInto, listInto, resolveInto, readRaw, askedFor, writeAsked}
 use Rattle.label.specs.Wire.{halves, words, noLeftOver, writeBytes, writeAskedBytes, pickUnitsBytes, pickGlyphsBytes}
-use Rattle.label.specs.Checks.{Check, check, verdict, refuses, GivenBy, textChecks, bitUnits, entryChecks, tailChecks, walkChecks, tailParts, walkParts, saidUnits, saidParts, saidRun, runChecks, labelChecks, readChecks, writeChecks, pickChecks, listChecks, writeByteChecks, pickByteChecks, rawChecks, rawGives, resolveChecks, askedChecks, askedByteChecks}
+use Rattle.label.specs.Checks.{Check, check, verdict, refuses, GivenBy, textChecks, bitUnits, entryChecks, tailChecks, walkChecks, tailParts, walkParts, saidUnits, saidParts, saidRun, runChecks, labelChecks, readChecks, writeChecks, pickChecks, listChecks, writeByteChecks, pickByteChecks, rawChecks, rawGives, resolveChecks, rawLabelChecks, askedChecks, askedByteChecks}
 use Rattle.label.proofs.Basics.{no-ok, or-l, or-r}
 
 -- ── a list of checks before an outcome ──
@@ -265,8 +265,8 @@ raw-by-checks [] zero at = refl
 raw-by-checks [] (suc skip) at = refl
 raw-by-checks (b ∷ bs) (suc skip) at = raw-by-checks bs skip (suc at)
 raw-by-checks (b ∷ bs) zero at =
-    rw (raw-by-checks bs (more b bs) (suc at), seq-bind (verdict (rawChecks (more b bs) (suc at) bs)) (rawGives (more b bs) bs) (λ s. ok (gives b bs ++ s)))
-    (sym (check-need (isGood b bs) 23 at (rawChecks (more b bs) (suc at) bs) (ok (gives b bs ++ rawGives (more b bs) bs))))
+    rw (raw-by-checks bs (further b bs) (suc at), seq-bind (verdict (rawChecks (further b bs) (suc at) bs)) (rawGives (further b bs) bs) (λ s. ok (gives b bs ++ s)))
+    (sym (check-need (isGood b bs) 23 at (rawChecks (further b bs) (suc at) bs) (ok (gives b bs ++ rawGives (further b bs) bs))))
 
 pub resolve-by-checks : (room : ℕ) (raw : List ℕ) → resolveInto room raw ≡ (verdict (resolveChecks room raw) >> ok (rawGives 0 raw))
 unfolding resolveInto resolveChecks
@@ -277,6 +277,22 @@ resolve-by-checks room raw =
     ∙ seq-bind (verdict (rawChecks 0 0 raw)) s f
     ∙ ap (λ (o : Outcome (List ℕ)). verdict (rawChecks 0 0 raw) >> o) (sym (check-last (leb (length s) room) 24 (length s) (ok s)))
     ∙ sym (verdict-append (rawChecks 0 0 raw) _ (ok s))
+
+pub raw-label-by-checks : (a b : ℕ) (text indices : List ℕ)
+    → readRaw a b text indices ≡ (verdict (rawLabelChecks a b text indices) >> ok (saidRun (rawGives 0 text) (rawGives 0 indices)))
+unfolding readRaw rawLabelChecks
+raw-label-by-checks a b text indices =
+    let t : List ℕ = rawGives 0 text in
+    let i : List ℕ = rawGives 0 indices in
+    let f : List ℕ → Outcome Run = λ x. resolveInto b indices >>= (λ y. read x y) in
+    let g : List ℕ → Outcome Run = λ y. read t y in
+    ap (λ (o : Outcome (List ℕ)). o >>= f) (resolve-by-checks a text)
+    ∙ seq-bind (verdict (resolveChecks a text)) t f
+    ∙ ap (λ (o : Outcome (List ℕ)). verdict (resolveChecks a text) >> (o >>= g)) (resolve-by-checks b indices)
+    ∙ ap (λ (o : Outcome Run). verdict (resolveChecks a text) >> o) (seq-bind (verdict (resolveChecks b indices)) i g)
+    ∙ ap (λ (o : Outcome Run). verdict (resolveChecks a text) >> (verdict (resolveChecks b indices) >> o)) (read-by-checks t i)
+    ∙ sym (verdict-append (resolveChecks a text) _ (ok (saidRun t i)) ∙ ap (λ (o : Outcome Run). verdict (resolveChecks a text) >> o)
+    (verdict-append (resolveChecks b indices) (labelChecks t i) (ok (saidRun t i))))
 
 -- over bytes: 19 for bytes left over comes first
 handed-by-checks : {A : Type 0} (us cs gs : List ℕ) (l : List Check) (o p : Outcome A) → o ≡ (verdict l >> p)

@@ -154,7 +154,7 @@ bytes-to us cs gs x y hu hc hg l h =
     let (v, q) = readable-bytes us cs gs hu hc hg e w in
     (v, n ∙ ap normal (sym q), subst (λ (r : Run). RoomyFor (normal r) x y) (sym q) m)
 
-bytes-from : (us cs gs : List ℕ) (x y : ℕ) (w : ReadableBytes us cs gs) → RoomyFor (normal (w .run)) x y → writeBytes x y us cs gs ≡ ok (normal (w .run))
+pub bytes-from : (us cs gs : List ℕ) (x y : ℕ) (w : ReadableBytes us cs gs) → RoomyFor (normal (w .run)) x y → writeBytes x y us cs gs ≡ ok (normal (w .run))
 unfolding writeBytes
 bytes-from us cs gs x y w m =
     let (e, v, q) = bytes-readable us cs gs w in
@@ -201,7 +201,7 @@ byte-memory t i us cs gs (no n p) h =
 wrote : (r : Run) (l : Label) (tx ix : List ℕ) → l ≡ normal r → RoomyFor (normal r) (length tx) (length ix) → Wrote r (ok l) tx ix
 wrote r l tx ix e m = record { room = m; lengths-are = rw e; text = rw e; indices = rw e }
 
-not-wrote : (n p : ℕ) (tx ix : List ℕ) → NotWrote n p (no n p) tx ix
+pub not-wrote : (n p : ℕ) (tx ix : List ℕ) → NotWrote n p (no n p) tx ix
 not-wrote n p tx ix = record { lengths-are = refl; text = refl; indices = refl }
 
 writer-memory : (us : List ℕ) (cs gs : List ℤ) (tx ix : List ℕ) (o : Outcome Label) → writeInto (length tx) (length ix) us cs gs ≡ o
@@ -346,7 +346,7 @@ same A B lA lB a b p q = (
       (sym (ap (λ (l : Label). l .indices) p) ∙ e .1 ∙ ap (λ (l : Label). l .indices) q),
 )
 
-held : {A : Type 0} (xs old : List A) (n : ℕ) → length xs ≡ n → take n (filled xs old) ≡ xs
+pub held : {A : Type 0} (xs old : List A) (n : ℕ) → length xs ≡ n → take n (filled xs old) ≡ xs
 held xs old n e = take-at xs (drop (length xs) old) n e
 
 -- the places that a reading filled are the run's, so the writer handed them writes the run

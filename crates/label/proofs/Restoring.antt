@@ -1,31 +1,33 @@
 -- What document 02 asks of resolving and escaping, proved: the writer asked to escape is that of demand 3 with its bytes escaped.
 -- Assumes nothing.
-use Prim.Native.Nat.{ℕ, _≤_}
+use Prim.Native.Nat.{ℕ, _/_, _≤_}
 use native.Mathlib.Omega.{arith}
 use mathlib.Core.Path.{_≡_, refl, sym, _∙_, ap, subst}
 use mathlib.Core.Logic.{_↔_, _⊎_, inl, inr}
 use mathlib.Core.Bool.{Bool, true, false}
-use mathlib.Core.List.{List}
+use mathlib.Core.List.{List, [], _∷_}
 use borrow.Author.Tests.{leb-true, le-leb}
-use lib.Dec.{leb}
+use lib.Dec.{leb, eqb}
 use lib.IntN.{ℤ}
-use lib.ListN.{length}
-use Rattle.label.specs.Limits.{maxIndicesBytes}
+use lib.ListN.{length, take}
 use Rattle.label.specs.Outcome.{Outcome, ok, no, need, _>>_}
+use Rattle.label.specs.Bytes.{ascii, Cut, cut}
 use Rattle.label.specs.Run.{Run, read}
 use Rattle.label.specs.Sound.{flatClusters, flatGlyphs, Readable, runOf}
 use Rattle.label.specs.Write.{Label, write, normal}
-use Rattle.label.specs.Attribute.{resolve, escape}
-use Rattle.label.specs.Calls.{resolveInto, readRaw, askedFor, writeInto, writeAsked}
-use Rattle.label.specs.Wire.{halves, words, noLeftOver, writeBytes, writeAskedBytes}
-use Rattle.label.specs.Checks.{GivenBy, rawGives, resolveChecks, askedChecks, askedByteChecks}
-use Rattle.label.specs.Demands.{RoomyFor, bytes, ReadableBytes}
-use Rattle.label.specs.Restoring.{LeftBy, Outputs, NoOutputs, Restoring}
-use Rattle.label.proofs.Basics.{bind-ok, need-ok}
+use Rattle.label.specs.Attribute.{resolve, escapeByte, escape}
+use Rattle.label.specs.Calls.{filledAfter, textAfter, indicesAfter, readInto, resolveInto, readRaw, askedFor, writeInto, writeAsked}
+use Rattle.label.specs.Wire.{fromHalves, fromWords, halves, words, noLeftOver, readBytes, writeBytes, writeAskedBytes}
+use Rattle.label.specs.Checks.{GivenBy, saidRun, rawGives, resolveChecks, rawLabelChecks, askedChecks, askedByteChecks}
+use Rattle.label.specs.Demands.{Roomy, RoomyFor, bytes, ReadableBytes, NotWrote}
+use Rattle.label.specs.Restoring.{LeftBy, WroteLabel, cameOut, escapedText, escapedIndices, Restored, isMarkup, Restoring}
+use Rattle.label.proofs.Basics.{cases, bind-ok, need-ok}
+use Rattle.label.proofs.Splits.{none, none-append}
+use Rattle.label.proofs.Decimals.{cut-none}
 use Rattle.label.proofs.Walks.{ok-path}
 use Rattle.label.proofs.Sounds.{read-sound}
-use Rattle.label.proofs.Checks.{asked-by-checks, asked-bytes-by-checks, resolve-by-checks, given-is}
-use Rattle.label.proofs.Demands.{demand-3}
+use Rattle.label.proofs.Checks.{asked-by-checks, asked-bytes-by-checks, resolve-by-checks, raw-label-by-checks, given-is}
+use Rattle.label.proofs.Demands.{bytes-from, not-wrote, held, demand-3}
 use Rattle.label.proofs.Sizes.{sound-short}
 use Rattle.label.proofs.Attributes.{restored, resolved-within}
 use Rattle.label.proofs.Escapes.{escaped-most, indices-plain, unasked}
@@ -105,12 +107,16 @@ module _ (asked : Bool) (us : List ℕ) (cs gs : List ℤ) (x y : ℕ) where
       asked-from asked us cs gs (normal (w .run)) _ _ x y (rw q at e) m
 
 module _ (asked : Bool) (us cs gs : List ℕ) (x y : ℕ) where
-  bytes-writes : (w : ReadableBytes us cs gs) → RoomyFor (askedFor asked (normal (w .run))) x y → (hu : bytes us ≡ true) → bytes cs ≡ true → bytes gs ≡ true
-      → writeAskedBytes asked x y us cs gs ≡ ok (askedFor asked (normal (w .run)))
-  bytes-writes w m hu hc hg =
-      let (l, e) = demand-3 .written-bytes us cs gs _ _ hu hc hg .1 (w, own-room (normal (w .run))) in
-      let q : l ≡ normal (w .run) = demand-3 .written-bytes-normally us cs gs l _ _ w e in
-      asked-bytes-from asked us cs gs (normal (w .run)) _ _ x y (rw q at e) m
+  bytes-readable : bytes us ≡ true → bytes cs ≡ true → bytes gs ≡ true → (l : Label) → writeAskedBytes asked x y us cs gs ≡ ok l
+      → (w : ReadableBytes us cs gs) × (l ≡ askedFor asked (normal (w .run))) × RoomyFor (askedFor asked (normal (w .run))) x y
+  bytes-readable hu hc hg l h =
+      let t = asked-bytes-to asked us cs gs l x y h in
+      let (w, m) = demand-3 .written-bytes us cs gs _ _ hu hc hg .0 (t .k, t .wrote) in
+      let e : t .k ≡ normal (w .run) = demand-3 .written-bytes-normally us cs gs (t .k) _ _ w (t .wrote) in
+      (w, t .is ∙ ap (askedFor asked) e, subst (λ (k : Label). RoomyFor (askedFor asked k) x y) e (t .room))
+
+  bytes-writes : (w : ReadableBytes us cs gs) → RoomyFor (askedFor asked (normal (w .run))) x y → writeAskedBytes asked x y us cs gs ≡ ok (askedFor asked (normal (w .run)))
+  bytes-writes w m = asked-bytes-from asked us cs gs (normal (w .run)) _ _ x y (bytes-from us cs gs _ _ w (own-room (normal (w .run)))) m
 
 -- ── resolving into a buffer ──
 
@@ -137,31 +143,90 @@ memory : (raw old : List ℕ) (o : Outcome (List ℕ)) → resolveInto (length o
 memory raw old (ok s) h = let (a, b) = into-resolve raw s (length old) h in inl (s, a, b, refl, refl)
 memory raw old (no n p) h = inr (n, p, fixed (length old) raw n p .0 h, refl, refl)
 
-outputs : (k l : Label) (tx ix : List ℕ) → l ≡ k → Outputs k (ok l) tx ix
-outputs k l tx ix e = rw e (refl, refl, refl)
+wrote-label : (k l : Label) (tx ix : List ℕ) → l ≡ k → RoomyFor k (length tx) (length ix) → WroteLabel k (ok l) tx ix
+wrote-label k l tx ix e m = record { room = m; lengths-are = rw e; text = rw e; indices = rw e }
 
 writer-memory : (asked : Bool) (us : List ℕ) (cs gs : List ℤ) (tx ix : List ℕ) (o : Outcome Label) → writeAsked asked (length tx) (length ix) us cs gs ≡ o
-    → ((w : Readable us cs gs) × Outputs (askedFor asked (normal (w .run))) o tx ix)
-    ⊎ ((n : ℕ) × (p : ℕ) × GivenBy (askedChecks asked (length tx) (length ix) us cs gs) n p × NoOutputs n p o tx ix)
+    → ((w : Readable us cs gs) × WroteLabel (askedFor asked (normal (w .run))) o tx ix)
+    ⊎ ((n : ℕ) × (p : ℕ) × GivenBy (askedChecks asked (length tx) (length ix) us cs gs) n p × NotWrote n p o tx ix)
 writer-memory asked us cs gs tx ix (ok l) h =
     let (w, e, m) = readable asked us cs gs (length tx) (length ix) l h in
-    inl (w, outputs (askedFor asked (normal (w .run))) l tx ix e)
-writer-memory asked us cs gs tx ix (no n p) h = inr (n, p, writer-fixed asked (length tx) (length ix) us cs gs n p .0 h, (refl, refl, refl))
+    inl (w, wrote-label (askedFor asked (normal (w .run))) l tx ix e m)
+writer-memory asked us cs gs tx ix (no n p) h = inr (n, p, writer-fixed asked (length tx) (length ix) us cs gs n p .0 h, not-wrote n p tx ix)
+
+writer-bytes-fixed : (asked : Bool) (x y : ℕ) (us cs gs : List ℕ) (n p : ℕ) → (writeAskedBytes asked x y us cs gs ≡ no n p) ↔ GivenBy (askedByteChecks asked x y us cs gs) n p
+writer-bytes-fixed asked x y us cs gs n p =
+    rw (asked-bytes-by-checks asked x y us cs gs) (given-is (askedByteChecks asked x y us cs gs) n p (askedFor asked (normal (runOf (halves us) (words cs) (words gs)))))
+
+writer-byte-memory : (asked : Bool) (us cs gs tx ix : List ℕ) (o : Outcome Label) → bytes us ≡ true → bytes cs ≡ true → bytes gs ≡ true
+    → writeAskedBytes asked (length tx) (length ix) us cs gs ≡ o
+    → ((w : ReadableBytes us cs gs) × WroteLabel (askedFor asked (normal (w .run))) o tx ix)
+    ⊎ ((n : ℕ) × (p : ℕ) × GivenBy (askedByteChecks asked (length tx) (length ix) us cs gs) n p × NotWrote n p o tx ix)
+writer-byte-memory asked us cs gs tx ix (ok l) hu hc hg h =
+    let (w, e, m) = bytes-readable asked us cs gs (length tx) (length ix) hu hc hg l h in
+    inl (w, wrote-label (askedFor asked (normal (w .run))) l tx ix e m)
+writer-byte-memory asked us cs gs tx ix (no n p) hu hc hg h = inr (n, p, writer-bytes-fixed asked (length tx) (length ix) us cs gs n p .0 h, not-wrote n p tx ix)
+
+-- ── written, resolved and read ──
+
+-- the bytes of an output or a buffer that begins with these
+came-out : (s old : List ℕ) → length s ≤ length old → cameOut (length s) (escape s) old ≡ s
+came-out s old m = rw (resolve-into (escape s) s (length old) (restored s 0) m) (held s old (length s) refl)
+
+restored-all : (r : Run) (w : Outcome Label) (reads : List ℕ → List ℕ → Outcome Run) (tx ix bt bi : List ℕ) → w ≡ ok (askedFor true (normal r))
+    → RoomyFor (askedFor true (normal r)) (length tx) (length ix) → RoomyFor (normal r) (length bt) (length bi) → reads (normal r .text) (normal r .indices) ≡ ok r
+    → Restored r w reads tx ix bt bi
+restored-all r w reads tx ix bt bi e m n b =
+    let t = normal r .text in
+    let i = normal r .indices in
+    let et : escapedText r w tx ≡ escape t = rw e (held (escape t) tx (length (escape t)) refl) in
+    let ei : escapedIndices r w ix ≡ escape i = rw e (held (escape i) ix (length (escape i)) refl) in
+    record {
+      wrote = rw e (wrote-label (askedFor true (normal r)) (askedFor true (normal r)) tx ix refl m);
+      text = rw (et, resolve-into (escape t) t (length bt) (restored t 0) (n .for-text));
+      indices = rw (ei, resolve-into (escape i) i (length bi) (restored i 0) (n .for-indices));
+      back = rw (et, ei, came-out t bt (n .for-text), came-out i bi (n .for-indices)) b;
+    }
+
+-- ── what is escaped holds no markup ──
+
+plain-bare : (b : ℕ) → eqb b 60 ≡ false → eqb b 34 ≡ false → eqb b 9 ≡ false → eqb b 10 ≡ false → eqb b 13 ≡ false → none isMarkup (b ∷ []) ≡ true
+plain-bare b l q t n r = rw (l, q, t, n, r)
+
+byte-bare : (b : ℕ) → none isMarkup (escapeByte b) ≡ true
+unfolding escapeByte ascii
+byte-bare b =
+    cases (eqb b 38) (λ a. rw a)
+    (λ a. cases (eqb b 60) (λ l. rw (a, l))
+    (λ l. cases (eqb b 34) (λ q. rw (a, l, q))
+    (λ q. cases (eqb b 9) (λ t. rw (a, l, q, t))
+    (λ t. cases (eqb b 10) (λ n. rw (a, l, q, t, n))
+    (λ n. cases (eqb b 13) (λ r. rw (a, l, q, t, n, r)) (λ r. rw (a, l, q, t, n, r) (plain-bare b l q t n r)))))))
+
+escape-bare : (s : List ℕ) → none isMarkup (escape s) ≡ true
+unfolding escape
+escape-bare [] = refl
+escape-bare (b ∷ s) = none-append isMarkup (escapeByte b) (escape s) (byte-bare b) (escape-bare s)
 
 pub restoring : Restoring
 restoring =
     record {
       restores = λ s. restored s 0;
       restores-into = λ s room h. resolve-into (escape s) s room (restored s 0) h;
-      back = λ t i r h. unfold readRaw in (rw (restored (normal r .text) 0, restored (normal r .indices) 0) (demand-3 .back t i r h));
-      passed = λ t i r x y a b h m n. let w : Readable (r .units) (flatClusters (r .clusters)) (flatGlyphs (r .glyphs)) =
-          record { run = r; text = t; indices = i; reads = h; units-are = refl; clusters-are = refl; glyphs-are = refl } in (
-            askedFor true (normal r),
-            writes true (r .units) (flatClusters (r .clusters)) (flatGlyphs (r .glyphs)) x y w m,
-            resolve-into (escape (normal r .text)) (normal r .text) a (restored (normal r .text) 0) (n .for-text),
-            resolve-into (escape (normal r .indices)) (normal r .indices) b (restored (normal r .indices) 0) (n .for-indices),
-            demand-3 .back t i r h,
-          );
+      back = λ t i r a b h n. unfold readRaw in (rw (
+        resolve-into (escape (normal r .text)) (normal r .text) a (restored (normal r .text) 0) (n .for-text),
+        resolve-into (escape (normal r .indices)) (normal r .indices) b (restored (normal r .indices) 0) (n .for-indices),
+      )
+          (demand-3 .back t i r h));
+      passed = λ t i r tx ix bt bi us cs gs h m n o. restored-all r _ (λ x y. readInto (length us) (length cs) (length gs) x y) tx ix bt bi
+          (writes true (r .units) (flatClusters (r .clusters)) (flatGlyphs (r .glyphs)) (length tx) (length ix)
+          (record { run = r; text = t; indices = i; reads = h; units-are = refl; clusters-are = refl; glyphs-are = refl }) m)
+          m n (demand-3 .reads (normal r .text) (normal r .indices) r (length us) (length cs) (length gs) (demand-3 .back t i r h) o);
+      bytes-passed = λ t i r tx ix bt bi us cs gs h m n o. restored-all r _ (λ x y. readBytes (length us) (length cs) (length gs) x y) tx ix bt bi
+          (bytes-writes true (fromHalves (r .units)) (fromWords (flatClusters (r .clusters))) (fromWords (flatGlyphs (r .glyphs))) (length tx) (length ix)
+          (record { run = r; text = t; indices = i; reads = h; units-are = refl; clusters-are = refl; glyphs-are = refl }) m)
+          m n (unfold readBytes in demand-3 .reads (normal r .text) (normal r .indices) r (length us / 2) (length cs / 4) (length gs / 4) (demand-3 .back t i r h) o);
+      bare = λ s. ap (λ (c : Cut). c .found) (cut-none isMarkup (escape s) (escape-bare s));
       written = λ asked us cs gs x y. (
         λ l. let (w, e, m) = readable asked us cs gs x y (l .0) (l .1) in (w, m),
         λ w. (askedFor asked (normal (w .0 .run)), writes asked us cs gs x y (w .0) (w .1)),
@@ -169,21 +234,21 @@ restoring =
       written-as = λ asked us cs gs l x y w h. let t = asked-to asked us cs gs l x y h in
           t .is ∙ ap (askedFor asked) (demand-3 .written-normally us cs gs (t .k) _ _ w (t .wrote));
       bytes-written = λ asked us cs gs x y hu hc hg. (
-        λ l. let t = asked-bytes-to asked us cs gs (l .0) x y (l .1) in
-            let (w, m) = demand-3 .written-bytes us cs gs _ _ hu hc hg .0 (t .k, t .wrote) in
-            (w, subst (λ (k : Label). RoomyFor (askedFor asked k) x y) (demand-3 .written-bytes-normally us cs gs (t .k) _ _ w (t .wrote)) (t .room)),
-        λ w. (askedFor asked (normal (w .0 .run)), bytes-writes asked us cs gs x y (w .0) (w .1) hu hc hg),
+        λ l. let (w, e, m) = bytes-readable asked us cs gs x y hu hc hg (l .0) (l .1) in (w, m),
+        λ w. (askedFor asked (normal (w .0 .run)), bytes-writes asked us cs gs x y (w .0) (w .1)),
       );
       bytes-written-as = λ asked us cs gs l x y w h. let t = asked-bytes-to asked us cs gs l x y h in
           t .is ∙ ap (askedFor asked) (demand-3 .written-bytes-normally us cs gs (t .k) _ _ w (t .wrote));
       unasked = unasked;
       bytes-unasked = λ x y us cs gs. unfold writeAskedBytes writeBytes in (rw (unasked x y (halves us) (words cs) (words gs)));
       fixed = fixed;
+      raw-fixed = λ a b text indices n p. rw (raw-label-by-checks a b text indices)
+          (given-is (rawLabelChecks a b text indices) n p (saidRun (rawGives 0 text) (rawGives 0 indices)));
       writer-fixed = writer-fixed;
-      writer-bytes-fixed = λ asked x y us cs gs n p. rw (asked-bytes-by-checks asked x y us cs gs)
-          (given-is (askedByteChecks asked x y us cs gs) n p (askedFor asked (normal (runOf (halves us) (words cs) (words gs)))));
+      writer-bytes-fixed = writer-bytes-fixed;
       memory = λ raw old. memory raw old (resolveInto (length old) raw) refl;
       writer-memory = λ asked us cs gs tx ix. writer-memory asked us cs gs tx ix (writeAsked asked (length tx) (length ix) us cs gs) refl;
+      writer-byte-memory = λ asked us cs gs tx ix hu hc hg. writer-byte-memory asked us cs gs tx ix (writeAskedBytes asked (length tx) (length ix) us cs gs) hu hc hg refl;
       short = λ raw s h. omega (arith, resolved-within raw 0 0 s h);
       largest = λ t i r h. let s = read-sound t i r h in
           record { for-text = escaped-most r s; for-indices = rw (indices-plain (r .clusters) (r .glyphs)) (sound-short r s .for-indices) };

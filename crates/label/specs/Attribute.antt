@@ -20,8 +20,8 @@ same (x ∷ xs) [] = false
 same (x ∷ xs) (y ∷ ys) = eqb x y && same xs ys
 
 -- "resolves `&amp;` `&lt;` `&gt;` `&quot;` `&apos;`": the character of a name (XML 1.0, 4.6); 0, which is no Char, for any other
-unfoldable pub named : List ℕ → ℕ
-named s =
+unfoldable pub predefined : List ℕ → ℕ
+predefined s =
     cond (same s (ascii "amp")) 38
     (cond (same s (ascii "lt")) 60
     (cond (same s (ascii "gt")) 62
@@ -51,7 +51,7 @@ unfoldable pub referred : List ℕ → ℕ
 referred s =
     cond (eqb (getD s 0 0) 35)
     (cond (eqb (getD s 1 0) 120) (numbered 16 (drop 2 s)) (numbered 10 (drop 1 s)))
-    (named s)
+    (predefined s)
 
 -- what stands behind a `&`, up to the first `;`, and whether there is one
 unfoldable pub body : List ℕ → List ℕ
@@ -74,13 +74,13 @@ isGood b bs = not (eqb b 60) && (not (eqb b 38) || isReference bs)
 unfoldable pub spaced : ℕ → ℕ
 spaced b = cond (eqb b 9 || eqb b 10 || eqb b 13) 32 b
 
--- the bytes that come out for what stands at b: a reference's character in UTF-8, "a referenced one stays"; else the byte
+-- the bytes that come out for what stands at b: a reference's character in UTF-8, "a referenced one stays"; else the byte, or its space
 unfoldable pub gives : ℕ → List ℕ → List ℕ
 gives b bs = cond (eqb b 38) (utf8 (referred (body bs))) (spaced b ∷ [])
 
 -- how many bytes behind b belong to it: those of a reference; "a carriage return with its line feed one"
-unfoldable pub more : ℕ → List ℕ → ℕ
-more b bs = cond (eqb b 38) (suc (length (body bs))) (cond (eqb b 13 && eqb (getD bs 0 0) 10) 1 0)
+unfoldable pub further : ℕ → List ℕ → ℕ
+further b bs = cond (eqb b 38) (suc (length (body bs))) (cond (eqb b 13 && eqb (getD bs 0 0) 10) 1 0)
 
 -- the bytes resolved, of which the first `skip` belong to what was already resolved; `at` is the place of the first byte. 23 has "place the first byte
 -- of the first". What comes out is not looked at again.
@@ -89,7 +89,7 @@ resolveFrom skip at [] = ok []
 resolveFrom (suc skip) at (b ∷ bs) = resolveFrom skip (suc at) bs
 resolveFrom zero at (b ∷ bs) = do
   need (isGood b bs) 23 at
-  rest ← resolveFrom (more b bs) (suc at) bs
+  rest ← resolveFrom (further b bs) (suc at) bs
   ok (gives b bs ++ rest)
 
 -- a raw attribute value resolved: "It works on one attribute a call"

@@ -154,11 +154,12 @@ resolveInto room raw = do
   need (leb (length s) room) 24 (length s)
   ok s
 
--- a raw text and raw indices, "text before indices [...], and the reading is of what comes out"
-unfoldable pub readRaw : List ℕ → List ℕ → Outcome Run
-readRaw text indices = do
-  t ← resolve text
-  i ← resolve indices
+-- a raw text and raw indices, each resolved into a buffer of so many bytes, "text before indices [...], and the reading is of what comes out"; 23 and 24 of
+-- each, "both before 1"
+unfoldable pub readRaw : ℕ → ℕ → List ℕ → List ℕ → Outcome Run
+readRaw a b text indices = do
+  t ← resolveInto a text
+  i ← resolveInto b indices
   read t i
 
 -- a label as the caller asks for it

@@ -1,11 +1,12 @@
--- Edges of the calls, computed from the definitions: soundness and writing, picks, faults, the list of records, the calls over bytes, and raw values.
+-- Edges of the calls, computed from the definitions: soundness and writing, picks, faults, the list of records, the calls over bytes, raw values and
+-- escaped writings.
 -- Assumes nothing.
 use Prim.Native.Nat.{ℕ}
 use mathlib.Core.Path.{_≡_, refl}
 use mathlib.Core.List.{List, [], _∷_, map}
 use mathlib.Core.Bool.{true, false}
 use lib.IntN.{ℤ, pos, negsuc}
-use lib.ListN.{replicate}
+use lib.ListN.{length, replicate}
 use Rattle.label.specs.Outcome.{Outcome, ok, no}
 use Rattle.label.specs.Bytes.{ascii, split, cut, allDigits, valueFrom, joinRest, join, trim, decimalFrom, decimal}
 use Rattle.label.specs.Text.{lead, trail, starts, scalar, xmlChar, unitsOf, decode, textUnits}
@@ -16,9 +17,9 @@ use Rattle.label.specs.Sound.{wholeClusters, wholeGlyphs, clustersOf, gl
 use Rattle.label.specs.Write.{utf8, unitBytes, unitsBytes, textOf, fraction, valueBytes, advanceBytes, offsetBytes, mapBytes, indexBytes, entryBytes, written, indicesOf, Label, write}
 use Rattle.label.specs.Pick.{stretch, holding, touched, turned, pickUnits, pickGlyphs}
 use Rattle.label.specs.Fault.{startOf, portion, faultPart}
-use Rattle.label.specs.Attribute.{same, named, digitValue, allOf, valueBehind, numbered, referred, body, isClosed, isReference, isGood, spaced, gives, more, resolveFrom, escapeByte, escape}
+use Rattle.label.specs.Attribute.{same, predefined, digitValue, allOf, valueBehind, numbered, referred, body, isClosed, isReference, isGood, spaced, gives, further, resolveFrom, escapeByte, escape}
 use Rattle.label.specs.Calls.{readInto, writeInto, listInto, filledCount, filledAfter, counted, lengths, resolveInto, writeAsked}
-use Rattle.label.specs.Wire.{fromHalves, fromWords, halves, words, signed, evenBytes, wordBytes, readBytes, writeBytes, unitBytesAfter, clusterBytesAfter, glyphBytesAfter}
+use Rattle.label.specs.Wire.{fromHalves, fromWords, halves, words, signed, evenBytes, wordBytes, readBytes, writeBytes, writeAskedBytes, unitBytesAfter, clusterBytesAfter, glyphBytesAfter}
 use Rattle.label.specs.Relabel.{relabelRead}
 use Rattle.label.specs.declared.Part.{Part}
 use Rattle.label.specs.declared.Stretch.{Stretch}
@@ -200,16 +201,28 @@ long-line = refl
 pub resolvings : (filledCount (resolveInto 2 (ascii "&lt;a")) ≡ ok 2) × (filledCount (resolveInto 1 (ascii "&lt;a")) ≡ no 24 2)
     × (filledCount (resolveInto 0 (ascii "aaa<")) ≡ no 23 3) × (filledAfter (resolveInto 3 (ascii "&lt;a")) (7 ∷ 8 ∷ 9 ∷ []) ≡ 60 ∷ 97 ∷ 9 ∷ [])
     × (filledAfter (resolveInto 1 (ascii "&lt;a")) (7 ∷ []) ≡ 7 ∷ [])
-unfolding ascii cut same named digitValue allOf valueBehind numbered referred body isClosed isReference isGood spaced gives more resolveFrom resolveInto xmlChar utf8
+unfolding ascii cut same predefined digitValue allOf valueBehind numbered referred body isClosed isReference isGood spaced gives further resolveFrom resolveInto xmlChar utf8
 resolvings = (refl, refl, refl, refl, refl)
 
--- the units `{`, `"` and tab, all the font's, written escaped: "counted in 20 and 21"
+-- the units `{`, `"` and tab in clusters 1:1, the first with the index 5, written escaped: "counted in 20 and 21"; 19 comes first
 abbrev quoted : Places
 quoted = places (123 ∷ 34 ∷ 9 ∷ []) (pos 1 ∷ pos 1 ∷ pos 1 ∷ pos 1 ∷ pos 1 ∷ pos 1 ∷ []) (plain 5 (font (font [])))
 
 pub escapings : (writeAsked true 13 1 (quoted .units) (quoted .clusters) (quoted .glyphs) ≡ label (ascii "{}{&quot;&#9;") (ascii "5"))
     × (lengths (writeAsked true 12 1 (quoted .units) (quoted .clusters) (quoted .glyphs)) ≡ no 20 13)
     × (lengths (writeAsked true 13 0 (quoted .units) (quoted .clusters) (quoted .glyphs)) ≡ no 21 1)
+    × (lengths (writeAsked true 0 0 (quoted .units) [] (quoted .glyphs)) ≡ no 19 0)
     × (writeAsked false 5 1 (quoted .units) (quoted .clusters) (quoted .glyphs) ≡ label (123 ∷ 125 ∷ 123 ∷ 34 ∷ 9 ∷ []) (ascii "5"))
 unfolding ascii wholeClusters wholeGlyphs clustersOf glyphsOf properUnits fits soundRun sound xmlChar join joinRest trim decimalFrom decimal utf8 unitBytes unitsBytes textOf fraction valueBytes advanceBytes offsetBytes mapBytes indexBytes entryBytes written indicesOf write escapeByte escape writeAsked
-escapings = (refl, refl, refl, refl)
+escapings = (refl, refl, refl, refl, refl)
+
+-- the same of bytes: `"` with the index 5 and the u offset −1; a byte left over is 19
+pub byte-escapings : (lengths (writeAskedBytes true 6 5 (34 ∷ 0 ∷ []) clusterBytes glyphBytes) ≡ ok (record { text = 6; indices = 5 }))
+    × (lengths (writeAskedBytes true 5 5 (34 ∷ 0 ∷ []) clusterBytes glyphBytes) ≡ no 20 6) × (lengths (writeAskedBytes true 9 9 (34 ∷ 0 ∷ 0 ∷ []) clusterBytes glyphBytes) ≡ no 19 0)
+unfolding ascii wholeClusters wholeGlyphs clustersOf glyphsOf properUnits fits soundRun sound xmlChar join joinRest trim decimalFrom decimal utf8 unitBytes unitsBytes textOf fraction valueBytes advanceBytes offsetBytes mapBytes indexBytes entryBytes written indicesOf write escapeByte escape writeAsked writeAskedBytes evenBytes wordBytes halves words signed
+byte-escapings = (refl, refl, refl)
+
+-- 4,096 times `"` make the longest escaped text
+pub longest-escaped : length (escape (textOf (replicate 4096 34))) ≡ 24576
+unfolding utf8 unitBytes unitsBytes textOf ascii escapeByte escape
+longest-escaped = refl

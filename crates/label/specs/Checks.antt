@@ -1,4 +1,4 @@
--- "Checks, in order": the table of document 01 as a list, in its order, of causes with their numbers and places. Each cause is computed from what the call is
+-- "Checks, in order": the table of document 01 as a list, in its order, of causes with their numbers and places, and those of document 02. Each cause is computed from what the call is
 -- given, whatever the others say; each call is shown to be what the first cause that holds decides (laws `read-by-checks`, `write-by-checks` and others).
 -- Assumes nothing.
 use Prim.Native.Nat.{ℕ, zero, suc, _+_, _*_}
@@ -16,7 +16,7 @@ use Rattle.label.specs.Entry.{part, indexDigits, wellFormed, fieldFits, 
 use Rattle.label.specs.Run.{Run, Parts, fontGlyph, cluster, before, whole, State, start, opens, takes, allowed, next}
 use Rattle.label.specs.Sound.{sound, runOf, glyphsOf}
 use Rattle.label.specs.Write.{normal}
-use Rattle.label.specs.Attribute.{isGood, gives, more}
+use Rattle.label.specs.Attribute.{isGood, gives, further}
 use Rattle.label.specs.Pick.{inside}
 use Rattle.label.specs.Calls.{askedFor}
 use Rattle.label.specs.Wire.{halves, words, noLeftOver}
@@ -167,17 +167,21 @@ pickByteChecks us cs gs first end count = check (not (noLeftOver us cs gs)) 19 0
 unfoldable pub rawChecks : ℕ → ℕ → List ℕ → List Check
 rawChecks skip at [] = []
 rawChecks (suc skip) at (b ∷ bs) = rawChecks skip (suc at) bs
-rawChecks zero at (b ∷ bs) = check (not (isGood b bs)) 23 at ∷ rawChecks (more b bs) (suc at) bs
+rawChecks zero at (b ∷ bs) = check (not (isGood b bs)) 23 at ∷ rawChecks (further b bs) (suc at) bs
 
 -- the bytes that come out
 unfoldable pub rawGives : ℕ → List ℕ → List ℕ
 rawGives skip [] = []
 rawGives (suc skip) (b ∷ bs) = rawGives skip bs
-rawGives zero (b ∷ bs) = gives b bs ++ rawGives (more b bs) bs
+rawGives zero (b ∷ bs) = gives b bs ++ rawGives (further b bs) bs
 
 -- 23, then 24 of a buffer of `room` bytes
 unfoldable pub resolveChecks : ℕ → List ℕ → List Check
 resolveChecks room raw = rawChecks 0 0 raw ++ (check (not (leb (length (rawGives 0 raw)) room)) 24 (length (rawGives 0 raw)) ∷ [])
+
+-- a raw text and raw indices resolved into buffers of so many bytes, then read: 23 and 24 of each, "both before 1"
+unfoldable pub rawLabelChecks : ℕ → ℕ → List ℕ → List ℕ → List Check
+rawLabelChecks a b text indices = resolveChecks a text ++ (resolveChecks b indices ++ labelChecks (rawGives 0 text) (rawGives 0 indices))
 
 -- 19, 20, 21 of the writer asked to escape, or not
 unfoldable pub askedChecks : Bool → ℕ → ℕ → List ℕ → List ℤ → List ℤ → List Check

@@ -1,5 +1,5 @@
 -- "Labels to prove and to run": labels 1 to 11 of document 01 in a single theorem over a list of rows, the worked examples of ECMA-388 likewise, the counts
--- of rounded fields, raw attribute values, and the example of `relabel`. Each is computed from the definitions.
+-- of rounded fields, raw attribute values, escaped bytes, and the example of `relabel`. Each is computed from the definitions.
 -- Assumes nothing.
 use Prim.Native.Nat.{ℕ}
 use mathlib.Core.Path.{_≡_, refl}
@@ -12,8 +12,8 @@ use Rattle.label.specs.Entry.{unsigned, isDecimals, isNumber, mantissaDi
 use Rattle.label.specs.Rounded.{isWhole, isExact, roundedField, roundedEntry, roundedEntries, rounded, beside}
 use Rattle.label.specs.Run.{Run, cluster, fontGlyph, tail, placed, step, walk, runFrom, read}
 use Rattle.label.specs.Write.{utf8, unitBytes, unitsBytes, textOf, fraction, valueBytes, advanceBytes, offsetBytes, mapBytes, indexBytes, entryBytes, written, indicesOf, Label, normal}
-use Rattle.label.specs.Attribute.{same, named, digitValue, allOf, valueBehind, numbered, referred, body, isClosed, isReference, isGood, spaced, gives, more, resolveFrom, resolve, escapeByte, escape}
-use Rattle.label.specs.Calls.{readRaw}
+use Rattle.label.specs.Attribute.{same, predefined, digitValue, allOf, valueBehind, numbered, referred, body, isClosed, isReference, isGood, spaced, gives, further, resolveFrom, resolve, escapeByte, escape}
+use Rattle.label.specs.Calls.{resolveInto, readRaw}
 use Rattle.label.specs.Relabel.{relabel, relabelRead}
 use Rattle.label.specs.declared.Index.the-variants.{Named, Font}
 use Rattle.label.specs.declared.Advance.the-variants.{Given, Own}
@@ -181,11 +181,15 @@ rawRows =
     -- "decimal and hexadecimal character references as XML 1.0 says": digits in either case, any count of leading zeros, one to four bytes of UTF-8
     rawRow (ascii "&#65;&#x4a;&#x4A;&#0000000065;&#x00041;") (ok (ascii "AJJAA")) ∷
     rawRow (ascii "&#xE9;&#8364;&#x1F600;") (ok (0xc3 ∷ 0xa9 ∷ 0xe2 ∷ 0x82 ∷ 0xac ∷ 0xf0 ∷ 0x9f ∷ 0x98 ∷ 0x80 ∷ [])) ∷
+    -- the characters at the borders of Char
+    rawRow (ascii "&#xD7FF;&#xE000;&#xFFFD;&#x10FFFF;")
+    (ok (0xed ∷ 0x9f ∷ 0xbf ∷ 0xee ∷ 0x80 ∷ 0x80 ∷ 0xef ∷ 0xbf ∷ 0xbd ∷ 0xf4 ∷ 0x8f ∷ 0xbf ∷ 0xbf ∷ [])) ∷
     -- what comes out is not looked at again
     rawRow (ascii "&amp;lt;&#38;lt;&#60;") (ok (ascii "&lt;&lt;<")) ∷
     -- "raw tab, line feed and carriage return become a space each, a carriage return with its line feed one"
     rawRow (97 ∷ 9 ∷ 98 ∷ 10 ∷ 99 ∷ 13 ∷ 100 ∷ 13 ∷ 10 ∷ 101 ∷ []) (ok (ascii "a b c d e")) ∷
     rawRow (10 ∷ 13 ∷ 97 ∷ 13 ∷ 13 ∷ 10 ∷ []) (ok (ascii "  a  ")) ∷
+    rawRow (97 ∷ 13 ∷ []) (ok (ascii "a ")) ∷
     -- "a referenced one stays", and takes no part in a raw carriage return with its line feed
     rawRow (ascii "&#9;&#10;&#xD;") (ok (9 ∷ 10 ∷ 13 ∷ [])) ∷
     rawRow (13 ∷ ascii "&#10;") (ok (32 ∷ 10 ∷ [])) ∷
@@ -196,10 +200,12 @@ rawRows =
     -- "A raw `<` is bad", "place the first byte of the first"
     rawRow (ascii "aaa<b&") (no 23 3) ∷
     rawRow (ascii "ab&x;<") (no 23 2) ∷
-    -- a bad reference: another name, another case, no `;`, nothing, a space, `X`
+    -- a bad reference: another name, another case, no `;`, nothing, a space, `X`, a hexadecimal digit without `x`
     rawRow (ascii "&nbsp;") (no 23 0) ∷
     rawRow (ascii "&AMP;") (no 23 0) ∷
+    rawRow (ascii "a&") (no 23 1) ∷
     rawRow (ascii "&amp") (no 23 0) ∷
+    rawRow (ascii "&#x41") (no 23 0) ∷
     rawRow (ascii "&lt&gt;") (no 23 0) ∷
     rawRow (ascii "&;") (no 23 0) ∷
     rawRow (ascii "&#;") (no 23 0) ∷
@@ -207,7 +213,7 @@ rawRows =
     rawRow (ascii "&# 65;") (no 23 0) ∷
     rawRow (ascii "&#X41;") (no 23 0) ∷
     rawRow (ascii "&#4A;") (no 23 0) ∷
-    -- or of no Char: those below a space, surrogates, U+FFFE, beyond U+10FFFF, and numbers that would wrap at 32 and 64 bits to one of `A`
+    -- or of no Char: U+0000 and U+000B, a surrogate, U+FFFE, beyond U+10FFFF, and numbers that would wrap at 32 and 64 bits to that of `A`
     rawRow (ascii "&#0;") (no 23 0) ∷
     rawRow (ascii "&#xB;") (no 23 0) ∷
     rawRow (ascii "&#xD800;") (no 23 0) ∷
@@ -250,7 +256,7 @@ rounded-labels = refl
 
 -- each row's raw value resolves to what the row says
 pub raw-values : map (λ (r : RawRow). resolve (r .raw)) rawRows ≡ map (λ (r : RawRow). r .answer) rawRows
-unfolding rawRows ascii cut same named digitValue allOf valueBehind numbered referred body isClosed isReference isGood spaced gives more resolveFrom xmlChar utf8
+unfolding rawRows ascii cut same predefined digitValue allOf valueBehind numbered referred body isClosed isReference isGood spaced gives further resolveFrom xmlChar utf8
 raw-values = refl
 
 -- each row's bytes are escaped as the row says
@@ -258,11 +264,12 @@ pub escaped-values : map (λ (r : EscapeRow). escape (r .bytes)) escapeRows ≡ 
 unfolding escapeRows ascii escapeByte escape
 escaped-values = refl
 
--- "the reading is of what comes out": `{` and `}` may be referenced
-pub raw-readings : (readRaw (ascii "&#123;a") [] ≡ no 4 0) × (readRaw (ascii "&#123;&#125;a") (ascii "&#53;") ≡ read (ascii "a") (ascii "5"))
-    × (readRaw (ascii "<") (ascii "<") ≡ no 23 0) × (readRaw (ascii "a") (ascii " 5") ≡ no 7 0)
-unfolding readRaw ascii split cut allDigits valueFrom same named digitValue allOf valueBehind numbered referred body isClosed isReference isGood spaced gives more resolveFrom utf8 lead trail starts scalar xmlChar unitsOf decode textUnits unsigned isDecimals isNumber mantissaDigits fractionDigits exponentDigits nearest scaled thousandths numberFits isIndexPart indexDigits mapUnits mapGlyphs isAdvance isOffset wellFormed fieldFits indexOf advanceOf offsetOf entryOf entry entries tail placed step walk runFrom read
-raw-readings = (refl, refl, refl, refl)
+-- "the reading is of what comes out": `{` and `}` may be referenced, and a space stays; "text before indices": its 23 and its 24 come first; "both before 1"
+pub raw-readings : (readRaw 9 9 (ascii "&#123;a") [] ≡ no 4 0) × (readRaw 9 9 (ascii "&#123;&#125;a") (ascii "&#53;") ≡ read (ascii "a") (ascii "5"))
+    × (readRaw 9 9 (ascii "a") (ascii " 5") ≡ no 7 0) × (readRaw 9 9 (ascii "a<") (ascii "<") ≡ no 23 1) × (readRaw 1 9 (ascii "ab") (ascii "<") ≡ no 24 2)
+    × (readRaw 9 0 (0xff ∷ []) (ascii "5") ≡ no 24 1)
+unfolding readRaw resolveInto ascii split cut allDigits valueFrom same predefined digitValue allOf valueBehind numbered referred body isClosed isReference isGood spaced gives further resolveFrom utf8 lead trail starts scalar xmlChar unitsOf decode textUnits unsigned isDecimals isNumber mantissaDigits fractionDigits exponentDigits nearest scaled thousandths numberFits isIndexPart indexDigits mapUnits mapGlyphs isAdvance isOffset wellFormed fieldFits indexOf advanceOf offsetOf entryOf entry entries tail placed step walk runFrom read
+raw-readings = (refl, refl, refl, refl, refl, refl)
 
 -- "no part of the run, so two clients' runs compare as before": these two, with the counts 1 and 0, are one run
 pub same-run : read (ascii "A") (ascii "5,.0006") ≡ read (ascii "A") (ascii "5,.001")

@@ -1,4 +1,4 @@
--- What a call of document 01 comes to: a value, or a refusal with its number and its place. The checks of its table follow each other by `do`:
+-- What a call comes to: a value, or a refusal with its number and its place. The checks of document 01's table follow each other by `do`:
 -- the first whose cause holds gives the answer ("No number is given unless its cause holds and no earlier one does").
 -- Assumes nothing.
 use Prim.Native.Nat.{ℕ}
