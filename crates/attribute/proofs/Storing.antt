@@ -7,15 +7,15 @@ use mathlib.Core.Path.{_≡_, refl, sym, ap, _∙_}
 use mathlib.Core.Logic.{⊎-elim}
 use mathlib.Core.Bool.{Bool, true, false, cond, not, _&&_, _||_}
 use mathlib.Core.List.{List, [], _∷_, _++_, append-nil}
-use borrow.Author.Tests.{eq-eqb, ne-eqb, ltb-true, not-true}
-use lib.Dec.{eqb, ltb}
+use borrow.Author.Tests.{ne-eqb}
+use lib.Dec.{eqb}
 use lib.ListN.{length, getD, drop}
 use lib.Seq.{getD-drop}
 use Rattle.label.specs.Outcome.{Outcome, ok, no}
 use Rattle.label.specs.Text.{xmlChar}
 use Rattle.label.specs.Write.{utf8}
 use Rattle.label.specs.Attribute.{referred, body, isClosed, isReference, isGood, spaced, gives, further, resolveFrom, resolve}
-use Rattle.label.proofs.Basics.{and-l, and-r, clash, cases}
+use Rattle.label.proofs.Basics.{and-r, clash, cases}
 use Rattle.label.proofs.Cursors.{onto, onto-nil, onto-onto}
 use Rattle.label.proofs.Texts.{xml-range}
 use Rattle.label.proofs.Attributes.{resolve-good, resolve-bad, resolve-end, gives-within}
@@ -56,16 +56,6 @@ module _ (f : List ℕ → ℕ) (s : List ℕ) (at : ℕ) where
   refers-not : referenceBy f s at ≡ Bad → is ≡ false
   unfolding referenceBy
   refers-not e = cases is (λ t. apart (sym (rw t at e))) (λ t. t)
-
--- ── bytes above the white space but a space ──
-
-spaced-high : (b : ℕ) → 13 < b → b ≡ spaced b
-unfolding spaced
-spaced-high b h = rw (ne-eqb b 9 (λ e. omega arith), ne-eqb b 10 (λ e. omega arith), ne-eqb b 13 (λ e. omega arith))
-
-width-high : (s : List ℕ) (i : ℕ) → 13 < getD s i 0 → 1 ≡ widthAt s i
-unfolding widthAt
-width-high s i h = rw (ne-eqb (getD s i 0) 13 (λ e. omega arith))
 
 -- ── the loop: w came out so far, and what the raw value resolves to is w before what the rest resolves to ──
 
@@ -130,13 +120,6 @@ module _ {raw old new : List ℕ} {i n : ℕ} (g : Reached raw old i n new) wher
 
       pub plain : {b r m : ℕ} {new′ : List ℕ} → b ≡ spaced here → Put new n (b ∷ []) m new′ → r ≡ widthAt raw i → Reached raw old (i + r) m new′
       plain e f d = good plain-good (put-as (ap (λ (x : ℕ). x ∷ []) e ∙ plain-gives) f) (plain-next ∙ ap (λ (x : ℕ). i + x) (sym d))
-
-    -- a byte above the white space but a space, and no `&`, stands for itself
-    pub copied : (here ≡ 60 → ⊥) → {x : Bool} → x ≡ (not (eqb here 38) && ltb 13 here) → x ≡ true → {m : ℕ} {new′ : List ℕ} → Put new n (here ∷ []) m new′ → Reached raw old (i + 1) m new′
-    copied l e k f =
-        let a : eqb here 38 ≡ false = not-true (eqb here 38) (and-l (not (eqb here 38)) (ltb 13 here) (sym e ∙ k)) in
-        let h : 13 < here = ltb-true 13 here (and-r (not (eqb here 38)) (ltb 13 here) (sym e ∙ k)) in
-        plain l (λ z. clash (eqb here 38) (eq-eqb here 38 z) a) (spaced-high here h) f (width-high raw i h)
 
     -- a `&`
     module _ (a : here ≡ 38) where

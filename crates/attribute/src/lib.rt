@@ -1,8 +1,6 @@
 // Raw XML attribute values: references resolved and white space replaced, as XML 1.0 says.
 ghost use mathlib.Core.Path.{_≡_};
-ghost use mathlib.Core.Bool.{not, _&&_};
 ghost use Prim.Native.Nat.{_+_, _*_, _≤_, _<_, min};
-ghost use lib.Dec.{eqb, ltb};
 ghost use lib.ListN.{length, drop};
 ghost use Rattle.label.specs.Attribute.{predefined, digitValue, numbered, referred, spaced};
 ghost use Rattle.label.specs.Calls.{refusal, resolvingOutcome, resolveInto, filledCount, filledAfter};
@@ -188,13 +186,6 @@ fn width_at(s: &[u8], at: usize) -> usize
     2
 }
 
-// Whether a byte that is not `<` is copied as it is: it is no `&` and no white space but a space.
-fn is_copied(b: u8) -> bool
-    ensures { λ r. ⌜ r ≡ (not (eqb b 38) && ltb 13 b) ⌝ }
-{
-    words::both(b != 38, 13 < b)
-}
-
 // How many bytes came out, or the place of a bad reference or a raw `<`.
 enum Stored {
     Bytes(usize),
@@ -211,11 +202,6 @@ fn put_resolved(out: &mut [u8], raw: &[u8]) -> Stored
         let b = raw[i];
         if b == 60 {
             return Stored::Bad(i);
-        }
-        if is_copied(b) {
-            n = words::put_byte(out, n, b);
-            i += 1;
-            continue;
         }
         if b != 38 {
             n = words::put_byte(out, n, spaced_byte(b));

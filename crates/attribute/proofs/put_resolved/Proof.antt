@@ -1,5 +1,5 @@
 -- `attribute::put_resolved` meets its contract. Assumes nothing.
-use Rattle.attribute.proofs.Storing.{Reached, reached-start, reached-end, raw-bad, plain, copied, bad-reference, small, ahead, reference}
+use Rattle.attribute.proofs.Storing.{Reached, reached-start, reached-end, raw-bad, plain, bad-reference, small, ahead, reference}
 use lib.ListN.{length}
 use Prim.Native.Nat.{_-_}
 use borrow.Author.Needs.{needs}
@@ -25,11 +25,14 @@ same-length c = c .before .before .before .loop .inv .same
 returns : tie.Need-returns Inv-loop μ-loop
 returns c = raw-bad (c .before .before .before .loop .inv) (c .before .before .loop-test .taken) (c .if1 .taken)
 
-is-copied-requires : tie.Need-is-copied-requires Inv-loop μ-loop
-is-copied-requires c κs = search needs
+spaced-byte-requires : tie.Need-spaced-byte-requires Inv-loop μ-loop
+spaced-byte-requires c κs = search needs
 
 put-byte-requires : tie.Need-put-byte-requires Inv-loop μ-loop
 put-byte-requires c κs = omega (arith, c .before .before .before .before .before .before .loop .inv .few)
+
+width-at-requires : tie.Need-width-at-requires Inv-loop μ-loop
+width-at-requires c κs = search needs
 
 add-i : tie.Need-add-i Inv-loop μ-loop
 add-i c = search needs
@@ -38,25 +41,7 @@ loop-less : tie.Need-loop-less Inv-loop μ-loop
 loop-less c = omega arith
 
 loop-again : tie.Need-loop-again Inv-loop μ-loop
-loop-again c = copied (c .before .before .before .before .before .before .before .before .before .loop .inv) (c .before .before .before .before .before .before .before .before .loop-test .taken) (c .before .before .before .before .before .before .if1 .left) (c .before .before .before .before .before .is-copied .ensures) (c .before .before .before .before .if2 .taken) (c .before .before .put-byte .ensures .0)
-
-spaced-byte-requires : tie.Need-spaced-byte-requires Inv-loop μ-loop
-spaced-byte-requires c κs = search needs
-
-put-byte-requires-2 : tie.Need-put-byte-requires-2 Inv-loop μ-loop
-put-byte-requires-2 c κs = omega (arith, c .before .before .before .before .before .before .before .before .loop .inv .few)
-
-width-at-requires : tie.Need-width-at-requires Inv-loop μ-loop
-width-at-requires c κs = search needs
-
-add-i-2 : tie.Need-add-i-2 Inv-loop μ-loop
-add-i-2 c = search needs
-
-loop-less-2 : tie.Need-loop-less-2 Inv-loop μ-loop
-loop-less-2 c = omega arith
-
-loop-again-2 : tie.Need-loop-again-2 Inv-loop μ-loop
-loop-again-2 c = plain (c .before .before .before .before .before .before .before .before .before .before .before .before .loop .inv) (c .before .before .before .before .before .before .before .before .before .before .before .loop-test .taken) (c .before .before .before .before .before .before .before .before .before .if1 .left) (c .before .before .before .before .before .before .if3 .taken) (c .before .before .before .before .spaced-byte .ensures) (c .before .before .before .put-byte2 .ensures .0) (c .width-at .ensures .0)
+loop-again c = plain (c .before .before .before .before .before .before .before .before .before .before .loop .inv) (c .before .before .before .before .before .before .before .before .before .loop-test .taken) (c .before .before .before .before .before .before .before .if1 .left) (c .before .before .before .before .before .before .if2 .taken) (c .before .before .before .before .spaced-byte .ensures) (c .before .before .before .put-byte .ensures .0) (c .width-at .ensures .0)
 
 add-reference-at : tie.Need-add-reference-at Inv-loop μ-loop
 add-reference-at c = search needs
@@ -68,22 +53,22 @@ enum-known-code : tie.Need-enum-known-code Inv-loop μ-loop
 enum-known-code c = search needs
 
 put-utf8-requires : tie.Need-put-utf8-requires Inv-loop μ-loop
-put-utf8-requires c κs = (omega (arith, c .before .before .before .before .before .before .before .before .before .before .before .loop .inv .few), small (c .before .before .before .before .before .before .before .before .before .before .before .loop .inv) (c .before .before .before .before .before .before .before .before .before .before .loop-test .taken) (c .before .before .before .before .before .if3 .left) (c .before .before .before .before .reference-at .ensures) (c .before .before .code .given .1))
+put-utf8-requires c κs = (omega (arith, c .before .before .before .before .before .before .before .before .before .loop .inv .few), small (c .before .before .before .before .before .before .before .before .before .loop .inv) (c .before .before .before .before .before .before .before .before .loop-test .taken) (c .before .before .before .before .before .if2 .left) (c .before .before .before .before .reference-at .ensures) (c .before .before .code .given .1))
 
-loop-less-3 : tie.Need-loop-less-3 Inv-loop μ-loop
-loop-less-3 c = omega (arith, ahead (c .before .before .before .before .before .before .before .before .before .before .before .before .before .before .loop .inv) (c .before .before .before .before .before .before .before .before .before .before .before .before .before .loop-test .taken) (c .before .before .before .before .before .before .before .before .if3 .left) (c .before .before .before .before .before .before .before .reference-at .ensures) (c .before .before .before .before .before .code .given .1))
+loop-less-2 : tie.Need-loop-less-2 Inv-loop μ-loop
+loop-less-2 c = omega (arith, ahead (c .before .before .before .before .before .before .before .before .before .before .before .before .loop .inv) (c .before .before .before .before .before .before .before .before .before .before .before .loop-test .taken) (c .before .before .before .before .before .before .before .before .if2 .left) (c .before .before .before .before .before .before .before .reference-at .ensures) (c .before .before .before .before .before .code .given .1))
 
-loop-again-3 : tie.Need-loop-again-3 Inv-loop μ-loop
-loop-again-3 c = reference (c .before .before .before .before .before .before .before .before .before .before .before .before .before .before .loop .inv) (c .before .before .before .before .before .before .before .before .before .before .before .before .before .loop-test .taken) (c .before .before .before .before .before .before .before .before .if3 .left) (c .before .before .before .before .before .before .before .reference-at .ensures) (c .before .before .before .before .before .code .given .1) (c .before .before .put-utf8 .ensures .0)
+loop-again-2 : tie.Need-loop-again-2 Inv-loop μ-loop
+loop-again-2 c = reference (c .before .before .before .before .before .before .before .before .before .before .before .before .loop .inv) (c .before .before .before .before .before .before .before .before .before .before .before .loop-test .taken) (c .before .before .before .before .before .before .before .before .if2 .left) (c .before .before .before .before .before .before .before .reference-at .ensures) (c .before .before .before .before .before .code .given .1) (c .before .before .put-utf8 .ensures .0)
 
 enum-told : tie.Need-enum-told Inv-loop μ-loop
 enum-told c = search needs
 
 same-length-2 : tie.Need-same-length-2 Inv-loop μ-loop
-same-length-2 c = c .before .before .before .before .before .before .before .before .before .loop .inv .same
+same-length-2 c = c .before .before .before .before .before .before .before .loop .inv .same
 
 returns-2 : tie.Need-returns-2 Inv-loop μ-loop
-returns-2 c = bad-reference (c .before .before .before .before .before .before .before .before .before .loop .inv) (c .before .before .before .before .before .before .before .before .loop-test .taken) (c .before .before .before .if3 .left) (c .before .before .reference-at .ensures) (c .enum-told .given .1)
+returns-2 c = bad-reference (c .before .before .before .before .before .before .before .loop .inv) (c .before .before .before .before .before .before .loop-test .taken) (c .before .before .before .if2 .left) (c .before .before .reference-at .ensures) (c .enum-told .given .1)
 
 same-length-3 : tie.Need-same-length-3 Inv-loop μ-loop
 same-length-3 c = c .before .loop .inv .same
@@ -101,23 +86,18 @@ put-resolved-spec =
     shared-slice-read-b
     same-length
     returns
-    is-copied-requires
+    spaced-byte-requires
     put-byte-requires
+    width-at-requires
     add-i
     loop-less
     loop-again
-    spaced-byte-requires
-    put-byte-requires-2
-    width-at-requires
-    add-i-2
-    loop-less-2
-    loop-again-2
     add-reference-at
     reference-at-requires
     enum-known-code
     put-utf8-requires
-    loop-less-3
-    loop-again-3
+    loop-less-2
+    loop-again-2
     enum-told
     same-length-2
     returns-2
