@@ -10,7 +10,7 @@ use Rattle.label.specs.Outcome.{Outcome, no, need, _>>=_, _>>_}
 use Rattle.label.specs.Sound.{sound}
 use Rattle.label.specs.Write.{write}
 use Rattle.label.specs.Pick.{pickUnits, pickGlyphs}
-use Rattle.label.specs.Calls.{refusal, filled, writeAsked}
+use Rattle.label.specs.Calls.{refusal, writingOutcome, writeAsked, lengths, filled, textAfter, indicesAfter}
 use Rattle.label.specs.Wire.{halves, words, noLeftOver, writeAskedBytes, pickUnitsBytes, pickGlyphsBytes}
 use Rattle.label.specs.declared.Writing.{Writing}
 use Rattle.label.specs.declared.Writing.the-variants.{Refused}
@@ -39,9 +39,10 @@ module _ (us cs gs : List ℕ) where
 
   module _ (escape : Bool) (T I : List ℕ) where
     pub written : {u : List ℕ} {c g : List ℤ} {r : Writing} {T′ I′ : List ℕ} → Whole ≡ true → u ≡ halves us → c ≡ words cs → g ≡ words gs
-        → WrittenBytes (writeAsked escape (length T) (length I) u c g) r T I T′ I′ → WrittenBytes (writeAskedBytes escape (length T) (length I) us cs gs) r T I T′ I′
+        → writingOutcome r ≡ lengths (writeAsked escape (length T) (length I) u c g) → T′ ≡ textAfter (writeAsked escape (length T) (length I) u c g) T
+        → I′ ≡ indicesAfter (writeAsked escape (length T) (length I) u c g) I → WrittenBytes (writeAskedBytes escape (length T) (length I) us cs gs) r T I T′ I′
     unfolding writeAskedBytes
-    written h p q s x = rw (exact h, ← p, ← q, ← s) x
+    written h p q s x y z = rw (exact h, ← p, ← q, ← s) (record { answer = x; text = y; indices = z })
 
     pub unwritten : mayBeSound (length us) (length cs) (length gs) ≡ false → WrittenBytes (writeAskedBytes escape (length T) (length I) us cs gs) (Refused (refusal 19 0)) T I T I
     unwritten h = rw (unsound (beyond us cs gs h)) (record { answer = refl; text = refl; indices = refl })

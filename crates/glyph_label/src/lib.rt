@@ -6,7 +6,7 @@ ghost use lib.ListN.{length};
 ghost use Rattle.label.specs.Limits.{maxGlyphs};
 ghost use Rattle.label.specs.Run.{read as readLabel};
 ghost use Rattle.label.specs.Rounded.{rounded as roundedIn, beside};
-ghost use Rattle.label.specs.Calls.{refusal, readingOutcome, readingRounded, writingOutcome, pickOutcome, counted, lengths, textAfter, indicesAfter, writeAsked, resolvingOutcome, filledCount, filledAfter, resolveInto};
+ghost use Rattle.label.specs.Calls.{refusal, readingOutcome, readingRounded, writingOutcome, pickOutcome, counted, lengths, textAfter, indicesAfter, resolvingOutcome, filledCount, filledAfter, resolveInto};
 ghost use Rattle.label.specs.Wire.{readBytes, unitBytesAfter, clusterBytesAfter, glyphBytesAfter, writeBytes, writeAskedBytes, pickUnitsBytes, pickGlyphsBytes};
 ghost use Rattle.label.specs.Fault.{faultPart};
 ghost use Rattle.label.specs.declared.Reading.the-variants.{Refused as RefusedReading};
@@ -255,23 +255,6 @@ fn fill_through(
     words::pack_numbers(&gs[..g], glyphs);
 }
 
-// A run's numbers written, escaped or not.
-fn write_numbers(
-    escape: bool,
-    units: &[u16],
-    clusters: &[i32],
-    glyphs: &[i32],
-    text: &mut [u8],
-    indices: &mut [u8],
-) -> label::Writing
-    ensures { λ r. ⌜ WrittenBytes (writeAsked escape (length (now (text .entry))) (length (now (indices .entry))) (now (units .entry)) (now (clusters .entry)) (now (glyphs .entry))) r (now (text .entry)) (now (indices .entry)) (now (text .exit)) (now (indices .exit)) ⌝ }
-{
-    if escape {
-        return writer::write_escaped(units, clusters, glyphs, text, indices);
-    }
-    writer::write(units, clusters, glyphs, text, indices)
-}
-
 // The writing of a run handed in as whole numbers, unpacked into arrays.
 fn write_through(
     escape: bool,
@@ -292,7 +275,7 @@ fn write_through(
     let u = units.len() / 2;
     let c = clusters.len() / 4;
     let g = glyphs.len() / 4;
-    write_numbers(escape, &us[..u], &cs[..c], &gs[..g], text, indices)
+    writer::write_as(escape, &us[..u], &cs[..c], &gs[..g], text, indices)
 }
 
 // From glyphs to units, or, turned, from units to glyphs.

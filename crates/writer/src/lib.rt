@@ -105,7 +105,7 @@ fn refused(number: usize, place: usize) -> Writing
 }
 
 // The writing of a run as it is asked for, where the run is sound and both outputs have room. Indices have no byte to escape.
-fn write_as(
+pub fn write_as(
     escape: bool,
     units: &[u16],
     clusters: &[i32],
