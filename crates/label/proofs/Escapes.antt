@@ -105,7 +105,7 @@ cond-most : (t : Bool) (x y : List ℕ) → length x ≤ 6 → length y ≤ 6 �
 cond-most true x y p q = p
 cond-most false x y p q = q
 
-pub byte-most : (b : ℕ) → length (escapeByte b) ≤ 6
+byte-most : (b : ℕ) → length (escapeByte b) ≤ 6
 unfolding escapeByte ascii
 byte-most b =
     cond-most (eqb b 38) _ _ (omega arith)
@@ -147,8 +147,8 @@ escaped-most r h = omega (arith, text-most (r .units), sound-parts r h .few-unit
 
 -- ── the indices ──
 
-figure-none : (d : ℕ) → d < 10 → odd (48 + d) ≡ false
-figure-none d h = odd-not (48 + d) (omega arith) (λ e. omega arith)
+figure-not-odd : (d : ℕ) → d < 10 → odd (48 + d) ≡ false
+figure-not-odd d h = odd-not (48 + d) (omega arith) (λ e. omega arith)
 
 digit-not-odd : (b : ℕ) → isDigit b ≡ true → odd b ≡ false
 digit-not-odd b h =
@@ -163,10 +163,10 @@ fraction-none : (f : ℕ) → f < 1000 → none odd (fraction f) ≡ true
 unfolding fraction
 fraction-none f h =
     cases (eqb (f % 100) 0)
-    (λ a. rw (a, figure-none (f / 100) (omega arith)))
+    (λ a. rw (a, figure-not-odd (f / 100) (omega arith)))
     (λ a. cases (eqb (f % 10) 0)
-    (λ b. rw (a, b, figure-none (f / 100) (omega arith), figure-none (f / 10 % 10) (omega arith)))
-    (λ b. rw (a, b, figure-none (f / 100) (omega arith), figure-none (f / 10 % 10) (omega arith), figure-none (f % 10) (omega arith))))
+    (λ b. rw (a, b, figure-not-odd (f / 100) (omega arith), figure-not-odd (f / 10 % 10) (omega arith)))
+    (λ b. rw (a, b, figure-not-odd (f / 100) (omega arith), figure-not-odd (f / 10 % 10) (omega arith), figure-not-odd (f % 10) (omega arith))))
 
 value-none : (n : ℕ) → none odd (valueBytes n) ≡ true
 unfolding valueBytes

@@ -218,7 +218,7 @@ fn unit_length(u: u16) -> usize
     3
 }
 
-// How many bytes a byte becomes, escaped: it is stored where there is no place for more than one.
+// How many bytes a byte becomes, escaped: storing it counts them, though there is no room for them.
 fn escaped_length(b: u8) -> usize
     ensures { λ r. ⌜ r ≡ length (escapeByte b) ⌝ }
     ensures bounds { λ r. ⌜ r ≤ 6 ⌝ }
