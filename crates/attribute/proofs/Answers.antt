@@ -13,7 +13,6 @@ use Rattle.label.specs.declared.Resolving.{Resolving}
 use Rattle.label.specs.declared.Resolving.the-variants.{Resolved, Refused}
 use Rattle.label.proofs.Basics.{no-ok}
 use Rattle.label.proofs.Walks.{ok-path}
-use Rattle.words.specs.Puts.{Put}
 use Rattle.words.proofs.Puts.{put-room}
 use Rattle.attribute.specs.declared.Stored.{Stored}
 use Rattle.attribute.specs.declared.Stored.the-variants.{Bytes, Bad}

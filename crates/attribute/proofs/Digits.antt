@@ -2,11 +2,11 @@
 -- Assumes nothing.
 use Prim.Native.Nat.{ℕ, zero, suc, _+_, _*_, _≤_, _<_, min}
 use native.Mathlib.Omega.{arith}
-use native.Mathlib.Nat.{mul-le-mul-right, mul-suc}
+use native.Mathlib.Nat.{mul-suc}
 use native.Mathlib.Numerals.{add-one}
 use mathlib.Core.Path.{_≡_, refl, sym, ap, _∙_}
 use mathlib.Core.Logic.{⊎-elim}
-use mathlib.Core.Bool.{Bool, true, false, cond, not, _&&_, and-false}
+use mathlib.Core.Bool.{Bool, true, false, not, and-false}
 use mathlib.Core.List.{List, [], _∷_}
 use borrow.Author.Tests.{lt-ltb, le-ltb, ltb-true, ltb-false, eq-eqb, ne-eqb}
 use lib.Dec.{eqb, ltb}
@@ -19,7 +19,6 @@ use Rattle.label.proofs.Attributes.{closed-none, closed-here, body-here, closed
 use Rattle.label.proofs.Basics.{clash, cases}
 use Rattle.label.proofs.Texts.{xml-range}
 use Rattle.attribute.specs.declared.Number.{Number}
-use Rattle.attribute.specs.declared.Reference.{Reference}
 use Rattle.attribute.specs.declared.Reference.the-variants.{To, Bad}
 use Rattle.attribute.specs.References.{beyond, front, numberAt, referenceBy}
 

@@ -5,9 +5,9 @@ use native.Mathlib.Omega.{arith}
 use native.Mathlib.Nat.{add-zero}
 use native.Mathlib.Numerals.{add-one}
 use mathlib.Core.Path.{_≡_, refl, sym, ap, _∙_}
-use mathlib.Core.Bool.{Bool, true, false}
+use mathlib.Core.Bool.{false}
 use mathlib.Core.List.{List, [], _∷_}
-use borrow.Author.Tests.{eq-eqb, ne-eqb}
+use borrow.Author.Tests.{ne-eqb}
 use lib.Dec.{eqb}
 use lib.ListN.{length, getD, drop}
 use lib.Seq.{drop-cons, getD-drop}
@@ -15,7 +15,6 @@ use Rattle.label.specs.Bytes.{cut}
 use Rattle.label.specs.Attribute.{predefined, numbered, referred, body, isClosed}
 use Rattle.label.proofs.Attributes.{body-here, closed-further, body-further}
 use Rattle.label.proofs.Basics.{cases}
-use Rattle.attribute.specs.declared.Reference.{Reference}
 use Rattle.attribute.specs.References.{referenceBy}
 
 -- a byte that is not 0 stands before the end

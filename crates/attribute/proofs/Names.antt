@@ -1,10 +1,10 @@
 -- Laws of a reference's name: the loop that compares it, and what a reference is by the name that stands there with its `;`.
 -- Assumes nothing.
-use Prim.Native.Nat.{ℕ, suc, _+_, _≤_, _<_}
+use Prim.Native.Nat.{ℕ, _+_, _≤_, _<_}
 use native.Mathlib.Omega.{arith}
 use native.Mathlib.Nat.{add-suc}
 use native.Mathlib.Numerals.{add-one}
-use mathlib.Core.Path.{_≡_, refl, sym, ap, _∙_}
+use mathlib.Core.Path.{_≡_, refl, sym, _∙_}
 use mathlib.Core.Bool.{Bool, true, false, not, _&&_, and-false}
 use mathlib.Core.List.{List, [], _∷_, _++_}
 use borrow.Author.Tests.{eq-eqb, ne-eqb, eqb-true, not-true}
@@ -17,7 +17,6 @@ use Rattle.label.specs.Attribute.{same, predefined, body, isClosed}
 use Rattle.label.proofs.Attributes.{closed-none, closed-here, body-here, closed-further, body-further}
 use Rattle.label.proofs.Basics.{and-l, and-r, clash, cases}
 use Rattle.label.proofs.Splits.{none}
-use Rattle.attribute.specs.declared.Reference.{Reference}
 use Rattle.attribute.specs.declared.Reference.the-variants.{To, Bad}
 use Rattle.attribute.specs.References.{begins, referenceBy}
 

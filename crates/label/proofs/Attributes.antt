@@ -1,20 +1,20 @@
 -- Raw attribute values: resolving restores what escaping made, from any place on; what resolving comes to at a place; how long its result is.
 -- Assumes nothing.
-use Prim.Native.Nat.{ℕ, zero, suc, _+_, _*_, _-_, _≤_, _<_}
+use Prim.Native.Nat.{ℕ, zero, suc, _+_, _-_, _≤_, _<_}
 use native.Mathlib.Omega.{arith}
 use native.Mathlib.Nat.{add-zero, add-suc, suc-add}
-use mathlib.Core.Path.{_≡_, refl, sym, ap, _∙_}
-use mathlib.Core.Bool.{Bool, true, false, cond, not, _&&_, _||_, and-false}
+use mathlib.Core.Path.{_≡_, refl, ap, _∙_}
+use mathlib.Core.Bool.{true, false, not, _&&_, _||_, and-false}
 use mathlib.Core.List.{List, [], _∷_, _++_}
 use borrow.Author.Tests.{eqb-true}
-use lib.Dec.{eqb, ltb}
+use lib.Dec.{eqb}
 use lib.ListN.{length, getD, drop, length-append, drop-of-length-le}
 use lib.Seq.{drop-cons, drop-drop}
-use Rattle.label.specs.Outcome.{Outcome, ok, no, need, _>>=_, _>>_}
+use Rattle.label.specs.Outcome.{ok, no}
 use Rattle.label.specs.Bytes.{ascii, cut}
 use Rattle.label.specs.Text.{xmlChar}
 use Rattle.label.specs.Write.{utf8}
-use Rattle.label.specs.Attribute.{same, predefined, digitValue, allOf, valueBehind, numbered, referred, body, isClosed, isReference, isGood, spaced, gives, further, resolveFrom, resolve, escapeByte, escape}
+use Rattle.label.specs.Attribute.{same, predefined, digitValue, allOf, valueBehind, numbered, referred, body, isClosed, isReference, isGood, spaced, gives, further, resolveFrom, escapeByte, escape}
 use Rattle.label.proofs.Basics.{and-l, and-r, clash, cases, need-ok, bind-ok}
 use Rattle.label.proofs.Texts.{utf8-short}
 use Rattle.label.proofs.Walks.{ok-path}

@@ -25,8 +25,8 @@ use Rattle.label.specs.declared.Advance.{Advance}
 use Rattle.label.specs.declared.Advance.the-variants.{Given, Own}
 use Rattle.label.specs.declared.Glyph.{Glyph}
 use Rattle.label.specs.declared.Cluster.{Cluster}
-use Rattle.label.proofs.Basics.{and-l, and-r, and-i, or-l, or-r, clash, cases}
-use Rattle.label.proofs.Splits.{none, allNone, none-append, trim-nil, trim-gone, trim-kept, join-free}
+use Rattle.label.proofs.Basics.{and-l, and-r, or-l, or-r, clash, cases}
+use Rattle.label.proofs.Splits.{none, allNone, none-append, none-trim, join-free}
 use Rattle.label.proofs.Decimals.{all-decimal, digits-none}
 use Rattle.label.proofs.Sounds.{sound-parts}
 use Rattle.label.proofs.Sizes.{sound-short}
@@ -200,13 +200,6 @@ index-none : (i : Index) → none odd (indexBytes i) ≡ true
 unfolding indexBytes
 index-none Font = refl
 index-none (Named n) = decimal-none n
-
-none-trim : (t : ℕ → Bool) (l : List (List ℕ)) → allNone t l ≡ true → allNone t (trim l) ≡ true
-none-trim t [] h = rw trim-nil
-none-trim t (x ∷ xs) h =
-    cases (empty x && empty (trim xs))
-    (λ e. rw (trim-gone x xs e))
-    (λ e. rw (trim-kept x xs e) (and-i (none t x) (allNone t (trim xs)) (and-l (none t x) (allNone t xs) h) (none-trim t xs (and-r (none t x) (allNone t xs) h))))
 
 -- parts joined, those empty at the end dropped
 joined-none : (c : ℕ) (l : List (List ℕ)) → odd c ≡ false → allNone odd l ≡ true → none odd (join c (trim l)) ≡ true

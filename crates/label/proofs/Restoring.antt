@@ -9,17 +9,17 @@ use mathlib.Core.List.{List, [], _∷_}
 use borrow.Author.Tests.{leb-true, le-leb}
 use lib.Dec.{leb, eqb}
 use lib.IntN.{ℤ}
-use lib.ListN.{length, take}
+use lib.ListN.{length}
 use Rattle.label.specs.Outcome.{Outcome, ok, no, need, _>>_}
-use Rattle.label.specs.Bytes.{ascii, Cut, cut}
+use Rattle.label.specs.Bytes.{ascii, Cut}
 use Rattle.label.specs.Run.{Run, read}
 use Rattle.label.specs.Sound.{flatClusters, flatGlyphs, Readable, runOf}
 use Rattle.label.specs.Write.{Label, write, normal}
 use Rattle.label.specs.Attribute.{resolve, escapeByte, escape}
-use Rattle.label.specs.Calls.{filledAfter, textAfter, indicesAfter, readInto, resolveInto, readRaw, askedFor, writeInto, writeAsked}
+use Rattle.label.specs.Calls.{readInto, resolveInto, readRaw, askedFor, writeInto, writeAsked}
 use Rattle.label.specs.Wire.{fromHalves, fromWords, halves, words, noLeftOver, readBytes, writeBytes, writeAskedBytes}
 use Rattle.label.specs.Checks.{GivenBy, saidRun, rawGives, resolveChecks, rawLabelChecks, askedChecks, askedByteChecks}
-use Rattle.label.specs.Demands.{Roomy, RoomyFor, bytes, ReadableBytes, NotWrote}
+use Rattle.label.specs.Demands.{RoomyFor, bytes, ReadableBytes, NotWrote}
 use Rattle.label.specs.Restoring.{LeftBy, WroteLabel, cameOut, escapedText, escapedIndices, Restored, isMarkup, Restoring}
 use Rattle.label.proofs.Basics.{cases, bind-ok, need-ok}
 use Rattle.label.proofs.Splits.{none, none-append}

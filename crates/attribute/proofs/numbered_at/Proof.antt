@@ -1,7 +1,6 @@
 -- `attribute::numbered_at` meets its contract. Assumes nothing.
 use Rattle.attribute.proofs.Digits.{number-open, number-outside, number-good}
 use borrow.Author.Tests.{not-true, not-false}
-use native.Mathlib.Omega.{arith}
 use borrow.Author.Needs.{needs}
 use Rattle.attribute.proofs.numbered_at.Statement.{statement}
 use Rattle.attribute.proofs.numbered_at.Tie as tie

@@ -2,7 +2,7 @@
 use Rattle.attribute.proofs.Names.{left-end, left-short, left-other, left-next}
 use Rattle.attribute.specs.References.{begins}
 use lib.ListN.{length, drop}
-use mathlib.Core.Path.{_≡_, sym, refl, _∙_}
+use mathlib.Core.Path.{_≡_, sym, _∙_}
 use native.Mathlib.Nat.{add-zero}
 use Prim.Native.Nat.{_+_, _-_, _≤_}
 use borrow.Author.Needs.{needs}

@@ -1,9 +1,7 @@
 -- `attribute::width_at` meets its contract. Assumes nothing.
 use Rattle.attribute.specs.Stores.{widthAt}
-use lib.Dec.{eqb}
 use mathlib.Core.Path.{sym, _∙_}
 use borrow.Author.Tests.{eq-eqb, ne-eqb}
-use mathlib.Core.Bool.{and-false}
 use native.Mathlib.Omega.{arith}
 use borrow.Author.Needs.{needs}
 use Rattle.attribute.proofs.width_at.Statement.{statement}

@@ -1,5 +1,5 @@
 use native.Mathlib.Omega.{arith}
-use mathlib.Core.Path.{sym, ap, subst, _∙_}
+use mathlib.Core.Path.{sym, ap, subst}
 use Rattle.label.specs.Calls.{resolvingOutcome}
 use Rattle.label.specs.declared.Resolving.{Resolving}
 use Rattle.glyph_label.specs.Answers.{filledAnswer}
