@@ -22,13 +22,13 @@ fn digit_value(b: u8) -> u32
     ensures { λ r. ⌜ r ≡ digitValue b ⌝ }
     ensures bounds { λ r. ⌜ r ≤ 16 ⌝ }
 {
-    if text::is_within(48, 57, b) {
+    if text::is_within(b'0', b'9', b) {
         return words::wide(b) - 48;
     }
-    if text::is_within(97, 102, b) {
+    if text::is_within(b'a', b'f', b) {
         return words::wide(b) - 87;
     }
-    if text::is_within(65, 70, b) {
+    if text::is_within(b'A', b'F', b) {
         return words::wide(b) - 55;
     }
     16
@@ -77,7 +77,7 @@ fn numbered_at(s: &[u8], at: usize, base: u32) -> Reference
 {
     let n = number_at(s, at, base);
     let end = n.end;
-    if text::byte_or_zero(s, end) != 59 {
+    if text::byte_or_zero(s, end) != b';' {
         return Reference::Bad;
     }
     if !text::is_xml(n.value) {
@@ -150,10 +150,10 @@ fn reference_at(s: &[u8], at: usize) -> Reference
     requires { ⌜ at ≤ length (now s) ⌝ }
     ensures { λ r. ⌜ r ≡ referenceBy referred (now (s .entry)) at ⌝ }
 {
-    if text::byte_or_zero(s, at) != 35 {
+    if text::byte_or_zero(s, at) != b'#' {
         return named_at(s, at);
     }
-    if text::byte_or_zero(s, at + 1) != 120 {
+    if text::byte_or_zero(s, at + 1) != b'x' {
         return numbered_at(s, at + 1, 10);
     }
     numbered_at(s, at + 2, 16)
@@ -165,8 +165,8 @@ fn reference_at(s: &[u8], at: usize) -> Reference
 fn spaced_byte(b: u8) -> u8
     ensures { λ r. ⌜ r ≡ spaced b ⌝ }
 {
-    if words::either(words::either(b == 9, b == 10), b == 13) {
-        return 32;
+    if words::either(words::either(b == b'\t', b == b'\n'), b == b'\r') {
+        return b' ';
     }
     b
 }
@@ -177,10 +177,10 @@ fn width_at(s: &[u8], at: usize) -> usize
     ensures { λ r. ⌜ r ≡ widthAt (now (s .entry)) at ⌝ }
     ensures bounds { λ r. ⌜ (1 ≤ r) × (r ≤ 2) ⌝ }
 {
-    if s[at] != 13 {
+    if s[at] != b'\r' {
         return 1;
     }
-    if text::byte_or_zero(s, at + 1) != 10 {
+    if text::byte_or_zero(s, at + 1) != b'\n' {
         return 1;
     }
     2
@@ -200,10 +200,10 @@ fn put_resolved(out: &mut [u8], raw: &[u8]) -> Stored
     let mut i = 0;
     while i < raw.len() {
         let b = raw[i];
-        if b == 60 {
+        if b == b'<' {
             return Stored::Bad(i);
         }
-        if b != 38 {
+        if b != b'&' {
             n = words::put_byte(out, n, spaced_byte(b));
             i += width_at(raw, i);
             continue;

@@ -1,22 +1,23 @@
--- Raw attribute values: resolving restores what escaping made, from any place on; what resolving comes to at a place; how long its result is.
+-- Raw attribute values: resolving restores what escaping made, from any place on; what resolving comes to at a place; decimal references; how long the
+-- result is.
 -- Assumes nothing.
-use Prim.Native.Nat.{ℕ, zero, suc, _+_, _-_, _≤_, _<_}
+use Prim.Native.Nat.{ℕ, zero, suc, _+_, _*_, _-_, _≤_, _<_}
 use native.Mathlib.Omega.{arith}
 use native.Mathlib.Nat.{add-zero, add-suc, suc-add}
 use mathlib.Core.Path.{_≡_, refl, ap, _∙_}
-use mathlib.Core.Bool.{true, false, not, _&&_, _||_, and-false}
+use mathlib.Core.Bool.{true, false, cond, not, _&&_, _||_, and-false}
 use mathlib.Core.List.{List, [], _∷_, _++_}
-use borrow.Author.Tests.{eqb-true}
-use lib.Dec.{eqb}
+use borrow.Author.Tests.{eqb-true, lt-ltb, le-ltb}
+use lib.Dec.{eqb, ltb}
 use lib.ListN.{length, getD, drop, length-append, drop-of-length-le}
 use lib.Seq.{drop-cons, drop-drop}
 use Rattle.label.specs.Outcome.{ok, no}
-use Rattle.label.specs.Bytes.{ascii, cut}
-use Rattle.label.specs.Text.{xmlChar}
+use Rattle.label.specs.Bytes.{ascii, empty, cut, isDigit, allDigits, digits, valueFrom, value}
+use Rattle.label.specs.Text.{within, xmlChar}
 use Rattle.label.specs.Write.{utf8}
 use Rattle.label.specs.Attribute.{same, predefined, digitValue, allOf, valueBehind, numbered, referred, body, isClosed, isReference, isGood, spaced, gives, further, resolveFrom, escapeByte, escape}
 use Rattle.label.proofs.Basics.{and-l, and-r, clash, cases, need-ok, bind-ok}
-use Rattle.label.proofs.Texts.{utf8-short}
+use Rattle.label.proofs.Texts.{within-lo, within-hi, utf8-short}
 use Rattle.label.proofs.Walks.{ok-path}
 use Rattle.label.proofs.Cursors.{onto}
 
@@ -114,6 +115,37 @@ module _ (b : ℕ) (t : List ℕ) where
   pub body-further : eqb b 59 ≡ false → body (b ∷ t) ≡ b ∷ body t
   unfolding body cut
   body-further e = rw (e, body)
+
+-- ── decimal digits are those of document 01 ──
+
+ten-digit : (b : ℕ) → ltb (digitValue b) 10 ≡ isDigit b
+unfolding digitValue
+ten-digit b =
+    cases (within 48 57 b)
+    (λ d. let h = within-hi 48 57 b d in rw d (lt-ltb (b - 48) 10 (omega arith)))
+    (λ d. cases (within 97 102 b)
+    (λ l. let h = within-lo 97 102 b l in rw (d, l) (le-ltb (b - 87) 10 (omega arith)))
+    (λ l. cases (within 65 70 b)
+    (λ u. let h = within-lo 65 70 b u in rw (d, l, u) (le-ltb (b - 55) 10 (omega arith)))
+    (λ u. rw (d, l, u))))
+
+ten-all : (s : List ℕ) → allOf 10 s ≡ allDigits s
+unfolding allOf allDigits
+ten-all [] = refl
+ten-all (b ∷ s) = rw (ten-digit b, ten-all s)
+
+ten-value : (n : ℕ) (s : List ℕ) → allDigits s ≡ true → valueBehind 10 n s ≡ valueFrom n s
+unfolding valueBehind allDigits valueFrom
+ten-value n [] h = refl
+ten-value n (b ∷ s) h =
+    let d : digitValue b ≡ b - 48 = unfold digitValue in rw (and-l (isDigit b) (allDigits s) h) in
+    rw d (ten-value (n * 10 + (b - 48)) s (and-r (isDigit b) (allDigits s) h))
+
+pub ten-numbered : (s : List ℕ) → numbered 10 s ≡ cond (digits s) (value s) 0
+unfolding numbered
+ten-numbered s =
+    rw (ten-all s)
+    (cases (allDigits s) (λ a. rw (a, ten-value 0 s a)) (λ a. rw (a, and-false (not (empty s)))))
 
 -- ── how long the result is ──
 

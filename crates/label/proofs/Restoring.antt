@@ -29,7 +29,7 @@ use Rattle.label.proofs.Sounds.{read-sound}
 use Rattle.label.proofs.Checks.{asked-by-checks, asked-bytes-by-checks, resolve-by-checks, raw-label-by-checks, given-is}
 use Rattle.label.proofs.Demands.{bytes-from, not-wrote, held, demand-3}
 use Rattle.label.proofs.Sizes.{sound-short}
-use Rattle.label.proofs.Attributes.{restored, resolved-within}
+use Rattle.label.proofs.Attributes.{restored, ten-numbered, resolved-within}
 use Rattle.label.proofs.Escapes.{escaped-most, indices-plain, unasked}
 
 -- ── the writer asked, by the writer of demand 3 ──
@@ -253,4 +253,5 @@ restoring =
       largest = λ t i r h. let s = read-sound t i r h in
           record { for-text = escaped-most r s; for-indices = rw (indices-plain (r .clusters) (r .glyphs)) (sound-short r s .for-indices) };
       indices-stay = indices-plain;
+      decimal = ten-numbered;
     }

@@ -5,18 +5,18 @@
 use Prim.Native.Nat.{ℕ, _*_, _/_, _≤_}
 use mathlib.Core.Path.{_≡_}
 use mathlib.Core.Logic.{_↔_, _⊎_}
-use mathlib.Core.Bool.{Bool, true, false, _||_}
+use mathlib.Core.Bool.{Bool, true, false, cond, _||_}
 use mathlib.Core.List.{List}
 use lib.Dec.{eqb}
 use lib.IntN.{ℤ}
 use lib.ListN.{length, take}
 use Rattle.label.specs.Limits.{maxUnits, maxIndicesBytes}
 use Rattle.label.specs.Outcome.{Outcome, ok, no}
-use Rattle.label.specs.Bytes.{cut}
+use Rattle.label.specs.Bytes.{cut, digits, value}
 use Rattle.label.specs.Run.{Run, read}
 use Rattle.label.specs.Sound.{flatClusters, flatGlyphs, Readable}
 use Rattle.label.specs.Write.{Label, normal, indicesOf}
-use Rattle.label.specs.Attribute.{resolve, escape}
+use Rattle.label.specs.Attribute.{numbered, resolve, escape}
 use Rattle.label.specs.Calls.{filled, filledCount, filledAfter, readInto, resolveInto, readRaw, askedFor, writeInto, writeAsked, lengths, lengthsOf, textAfter, indicesAfter}
 use Rattle.label.specs.Wire.{fromHalves, fromWords, readBytes, writeBytes, writeAskedBytes}
 use Rattle.label.specs.Checks.{GivenBy, resolveChecks, rawLabelChecks, askedChecks, askedByteChecks}
@@ -110,3 +110,5 @@ pub record Restoring : Type 0 where
   pub largest : (t i : List ℕ) (r : Run) → read t i ≡ ok r → RoomyFor (askedFor true (normal r)) (6 * maxUnits) maxIndicesBytes
   -- indices have none of the six bytes
   pub indices-stay : (cs : List Cluster) (gs : List Glyph) → escape (indicesOf cs gs) ≡ indicesOf cs gs
+  -- the digits of a decimal reference are those of document 01, "read as one whole number"
+  pub decimal : (s : List ℕ) → numbered 10 s ≡ cond (digits s) (value s) 0

@@ -139,22 +139,22 @@ fn put_escaped(out: &mut [u8], at: usize, b: u8) -> usize
     ensures { λ r. ⌜ Put (now (out .entry)) at (escapeByte b) r (now (out .exit)) ⌝ }
     ensures bounds { λ r. ⌜ r ≤ at + 6 ⌝ }
 {
-    if b == 38 {
+    if b == b'&' {
         return words::put_bytes(out, at, b"&amp;");
     }
-    if b == 60 {
+    if b == b'<' {
         return words::put_bytes(out, at, b"&lt;");
     }
-    if b == 34 {
+    if b == b'"' {
         return words::put_bytes(out, at, b"&quot;");
     }
-    if b == 9 {
+    if b == b'\t' {
         return words::put_bytes(out, at, b"&#9;");
     }
-    if b == 10 {
+    if b == b'\n' {
         return words::put_bytes(out, at, b"&#10;");
     }
-    if b == 13 {
+    if b == b'\r' {
         return words::put_bytes(out, at, b"&#13;");
     }
     words::put_byte(out, at, b)
