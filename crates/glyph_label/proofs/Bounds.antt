@@ -34,7 +34,9 @@ use Rattle.label.proofs.Attributes.{resolved-within}
 use Rattle.label.proofs.Sounds.{text-ok, read-sound}
 use Rattle.sound.specs.Sounds.{unitSum}
 use Rattle.sound.proofs.Facts.{few-units, few-glyphs, units-add-up, glyphs-add-up}
-use Rattle.glyph_label.specs.Runs.{pickBytes, Small32, ReadingFits, WritingFits, StretchFits, FilledFits}
+use Rattle.run_bytes.specs.Runs.{pickBytes}
+use Rattle.run_bytes.proofs.Sizes.{counts-few}
+use Rattle.glyph_label.specs.Fits.{Small32, ReadingFits, WritingFits, StretchFits, FilledFits}
 
 -- ── the places of 1 to 15 ──
 
@@ -132,16 +134,6 @@ read-placed text indices =
     (λ us e. let f = text-few text us e in run-placed 262145 us indices (omega arith) (omega (arith, entries-length indices))))
 
 -- ── a reading ──
-
--- the counts of an accepted label
-pub counts-few : (text indices : List ℕ) (n : Counts) → counted (read text indices) ≡ ok n → (n .units ≤ 4096) × (n .clusters ≤ 4096) × (n .glyphs ≤ 4096)
-counts-few text indices n h = go (read text indices) refl h
-  where
-    go : (o : Outcome Run) → read text indices ≡ o → counted o ≡ ok n → (n .units ≤ 4096) × (n .clusters ≤ 4096) × (n .glyphs ≤ 4096)
-    go (no m p) e q = no-ok m p n q
-    go (ok r) e q =
-        let s = sound-roomy r (read-sound text indices r e) in
-        rw (← ok-path (counts r) n q) (s .for-units, omega (arith, s .for-clusters), omega (arith, s .for-glyphs))
 
 pub reading-fits : (u c g : ℕ) (text indices : List ℕ) → ReadingFits (counted (readBytes u c g text indices))
 unfolding readBytes readInto

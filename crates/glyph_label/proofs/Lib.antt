@@ -1,5 +1,1 @@
-pub mod Sizes
 pub mod Bounds
-pub mod Fills
-pub mod Writes
-pub mod Tasks

@@ -1,3 +1,2 @@
 pub mod Answers
-pub mod Runs
-pub mod Tasks
+pub mod Fits

@@ -3,7 +3,7 @@ use mathlib.Core.Path.{sym, ap, subst}
 use Rattle.label.specs.Calls.{resolvingOutcome}
 use Rattle.label.specs.declared.Resolving.{Resolving}
 use Rattle.glyph_label.specs.Answers.{filledAnswer}
-use Rattle.glyph_label.specs.Runs.{FilledFits}
+use Rattle.glyph_label.specs.Fits.{FilledFits}
 use borrow.Author.Needs.{needs}
 use Rattle.glyph_label.proofs.filled_answer.Statement.{statement}
 use Rattle.glyph_label.proofs.filled_answer.Tie as tie

@@ -1,6 +1,6 @@
 use Rattle.glyph_label.proofs.Bounds.{reading-fits, rounded-fits}
 use Rattle.glyph_label.proofs.Fills.{answer-beside}
-use Rattle.glyph_label.specs.Runs.{Small32, ReadingFits}
+use Rattle.glyph_label.specs.Fits.{Small32, ReadingFits}
 use mathlib.Core.Path.{sym, subst, _∙_}
 use borrow.Author.Needs.{needs}
 use Rattle.glyph_label.proofs.glyph_label_read.Statement.{statement}

@@ -1,5 +1,5 @@
 use Rattle.glyph_label.proofs.Bounds.{filled-fits}
-use Rattle.glyph_label.specs.Runs.{FilledFits}
+use Rattle.glyph_label.specs.Fits.{FilledFits}
 use Rattle.glyph_label.specs.Answers.{filledAnswer}
 use mathlib.Core.Path.{sym, ap, subst, _∙_}
 use borrow.Author.Needs.{needs}

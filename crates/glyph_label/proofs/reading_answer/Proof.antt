@@ -1,4 +1,4 @@
-use Rattle.glyph_label.specs.Runs.{Small32, ReadingFits}
+use Rattle.glyph_label.specs.Fits.{Small32, ReadingFits}
 use Rattle.glyph_label.specs.Answers.{readingAnswer}
 use Rattle.label.specs.declared.Reading.{Reading}
 use Rattle.label.specs.Calls.{readingOutcome, readingRounded}

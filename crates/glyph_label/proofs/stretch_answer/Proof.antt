@@ -1,4 +1,4 @@
-use Rattle.glyph_label.specs.Runs.{StretchFits}
+use Rattle.glyph_label.specs.Fits.{StretchFits}
 use Rattle.glyph_label.specs.Answers.{stretchAnswer}
 use Rattle.label.specs.declared.Pick.{Pick}
 use Rattle.label.specs.Calls.{pickOutcome}

@@ -1,4 +1,4 @@
-use Rattle.glyph_label.specs.Runs.{WritingFits}
+use Rattle.glyph_label.specs.Fits.{WritingFits}
 use Rattle.glyph_label.specs.Answers.{writingAnswer}
 use Rattle.label.specs.declared.Writing.{Writing}
 use Rattle.label.specs.Calls.{writingOutcome}

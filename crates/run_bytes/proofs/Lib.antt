@@ -1,0 +1,4 @@
+pub mod Sizes
+pub mod Fills
+pub mod Writes
+pub mod Tasks

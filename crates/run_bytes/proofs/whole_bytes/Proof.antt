@@ -1,0 +1,15 @@
+use borrow.Author.Needs.{needs}
+use Rattle.run_bytes.proofs.whole_bytes.Statement.{statement}
+use Rattle.run_bytes.proofs.whole_bytes.Tie as tie
+
+both-requires : tie.Need-both-requires
+both-requires c κs = search needs
+
+both-requires-2 : tie.Need-both-requires-2
+both-requires-2 c κs = search needs
+
+returns : tie.Need-returns
+returns c = rw (c .both2 .ensures, c .before .both .ensures)
+
+pub whole-bytes-spec : {M : Type 1} → statement M
+whole-bytes-spec = tie.close (tie.spec both-requires both-requires-2 returns)
