@@ -19,23 +19,23 @@ use Rattle.label.specs.Sound.{clustersOf, glyphsOf, wholeClusters, wholeGlyphs,
 use Rattle.label.specs.Write.{Label, normal, write}
 use Rattle.label.specs.Pick.{holding, touched, turned, inside, pickUnits, pickGlyphs}
 use Rattle.label.specs.Attribute.{isGood, further, resolveFrom, resolve}
-use Rattle.label.specs.Calls.{counts, counted, readInto, lengths, askedFor, writeAsked, filledCount, resolveInto}
+use Rattle.label.specs.Calls.{readingOutcome, readingRounded, counts, counted, readInto, lengths, askedFor, writeAsked, filledCount, resolveInto}
 use Rattle.label.specs.Wire.{halves, words, noLeftOver, readBytes, writeAskedBytes, pickUnitsBytes, pickGlyphsBytes}
 use Rattle.label.specs.Demands.{RoomyFor}
 use Rattle.label.specs.declared.Cluster.{Cluster}
-use Rattle.label.specs.declared.Counts.{Counts}
+use Rattle.label.specs.declared.Reading.{Reading}
 use Rattle.label.specs.declared.Stretch.{Stretch}
-use Rattle.label.proofs.Basics.{and-l, and-r, cases, no-ok}
+use Rattle.label.proofs.Basics.{and-l, and-r, cases}
 use Rattle.label.proofs.Rounded.{entries-length, rounded-most, beside-few}
-use Rattle.label.proofs.Walks.{step-ok, ok-path}
-use Rattle.label.proofs.Sizes.{sound-roomy}
+use Rattle.label.proofs.Walks.{step-ok}
 use Rattle.label.proofs.Escapes.{asked-short}
 use Rattle.label.proofs.Attributes.{resolved-within}
-use Rattle.label.proofs.Sounds.{text-ok, read-sound}
+use Rattle.label.proofs.Sounds.{text-ok}
 use Rattle.sound.specs.Sounds.{unitSum}
 use Rattle.sound.proofs.Facts.{few-units, few-glyphs, units-add-up, glyphs-add-up}
 use Rattle.run_bytes.specs.Runs.{pickBytes}
 use Rattle.run_bytes.proofs.Sizes.{counts-few}
+use Rattle.glyph_label.specs.Answers.{readingAnswer}
 use Rattle.glyph_label.specs.Fits.{Small32, ReadingFits, WritingFits, StretchFits, FilledFits}
 
 -- ── the places of 1 to 15 ──
@@ -159,6 +159,15 @@ pub rounded-fits : (u c g : ℕ) (text indices : List ℕ) → Small32 (beside (
 unfolding readBytes readInto
 rounded-fits u c g text indices =
     bind-fits (rounded indices) (read text indices) _ (λ r e. omega (arith, rounded-most text indices r e))
+
+-- a refusal's count is 0 in the answer too
+pub answer-beside : (o : Outcome Run) (n : ℕ) (a : Reading) → readingOutcome a ≡ counted o → readingRounded a ≡ beside n o
+    → readingAnswer (readingOutcome a) (readingRounded a) ≡ readingAnswer (counted o) n
+answer-beside o n a e h = rw (e, h) (go o)
+  where
+    go : (o : Outcome Run) → readingAnswer (counted o) (beside n o) ≡ readingAnswer (counted o) n
+    go (ok r) = refl
+    go (no i p) = refl
 
 -- ── a writing ──
 

@@ -22,7 +22,6 @@ use Rattle.label.specs.declared.Reading.the-variants.{Read, Refused}
 use Rattle.label.proofs.Parts.{length-clusters, length-glyphs}
 use Rattle.label.proofs.Basics.{no-ok}
 use Rattle.label.proofs.Walks.{ok-path}
-use Rattle.run_bytes.specs.Answers.{readingAnswer}
 use Rattle.run_bytes.specs.Runs.{Accepted, ReadBytes}
 
 -- ── the numbers of an accepted label, packed ──
@@ -107,15 +106,6 @@ module _ (text indices U C G : List ℕ) where
 
   abbrev Answer : Reading → List ℕ → List ℕ → List ℕ → Type 0
   Answer a U′ C′ G′ = (readingOutcome a ≡ counted R) × ((readingRounded a ≡ beside (rounded indices) R) × ReadBytes R U C G U′ C′ G′)
-
-  -- the answer for C: a refusal's count is 0 there too
-  pub answer-beside : (a : Reading) → readingOutcome a ≡ counted R → readingRounded a ≡ beside (rounded indices) R
-      → readingAnswer (readingOutcome a) (readingRounded a) ≡ readingAnswer (counted R) (rounded indices)
-  answer-beside a e h = rw (e, h) (go R)
-    where
-      go : (o : Outcome Run) → readingAnswer (counted o) (beside (rounded indices) o) ≡ readingAnswer (counted o) (rounded indices)
-      go (ok r) = refl
-      go (no n p) = refl
 
   refuses : (x : Refusal) {a : Reading} → a ≡ Refused x → R ≡ no (x .number) (x .place) → Answer a U C G
   refuses x q e = rw (q, e) (refl, (refl, record { units = refl; clusters = refl; glyphs = refl }))

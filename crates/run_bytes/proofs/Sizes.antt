@@ -8,11 +8,16 @@ use borrow.Author.Tests.{le-leb, leb-true}
 use lib.Dec.{leb, eqb}
 use lib.IntN.{ℤ}
 use lib.ListN.{length}
+use Rattle.label.specs.Outcome.{Outcome, ok, no}
+use Rattle.label.specs.Run.{Run, read}
+use Rattle.label.specs.Calls.{counts, counted}
 use Rattle.label.specs.Sound.{natural, choice, wholeClusters, wholeGlyphs, clustersOf, glyphsOf, soundRun, runOf, sound}
 use Rattle.label.specs.Wire.{halves, words, evenBytes, wordBytes, noLeftOver}
 use Rattle.label.specs.declared.Counts.{Counts}
 use Rattle.label.proofs.Sizes.{sound-roomy}
-use Rattle.label.proofs.Basics.{and-l, and-r, cases, clash}
+use Rattle.label.proofs.Sounds.{read-sound}
+use Rattle.label.proofs.Walks.{ok-path}
+use Rattle.label.proofs.Basics.{and-l, and-r, cases, clash, no-ok}
 use Rattle.words.proofs.Packs.{halves-length, words-length}
 use Rattle.run_bytes.specs.Runs.{within, wholeBytes, mayBeSound, Holds}
 

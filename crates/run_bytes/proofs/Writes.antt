@@ -6,7 +6,7 @@ use Prim.Native.Nat.{ℕ}
 use lib.IntN.{ℤ}
 use lib.ListN.{length, take, drop}
 use lib.Seq.{take-at}
-use Rattle.label.specs.Outcome.{Outcome, no, need, _>>=_, _>>_}
+use Rattle.label.specs.Outcome.{Outcome, no, need, _>>_}
 use Rattle.label.specs.Sound.{sound}
 use Rattle.label.specs.Write.{write}
 use Rattle.label.specs.Pick.{pickUnits, pickGlyphs}

@@ -1,6 +1,6 @@
 -- What the inner calls promise: arrays large enough for a run's numbers, and the lent bytes after a reading or a writing.
 -- Assumes nothing.
-use Prim.Native.Nat.{ℕ, _*_, _/_, _%_, _<_, _≤_}
+use Prim.Native.Nat.{ℕ, _*_, _/_, _%_, _≤_}
 use mathlib.Core.Path.{_≡_}
 use mathlib.Core.Bool.{Bool, true, false, _&&_}
 use mathlib.Core.List.{List}
@@ -13,7 +13,6 @@ use Rattle.label.specs.Write.{Label}
 use Rattle.label.specs.Calls.{writingOutcome, counted, lengths, filled, textAfter, indicesAfter}
 use Rattle.label.specs.Wire.{halves, words, unitBytesAfter, clusterBytesAfter, glyphBytesAfter, pickUnitsBytes, pickGlyphsBytes}
 use Rattle.label.specs.declared.Counts.{Counts}
-use Rattle.label.specs.declared.Lengths.{Lengths}
 use Rattle.label.specs.declared.Stretch.{Stretch}
 use Rattle.label.specs.declared.Writing.{Writing}
 

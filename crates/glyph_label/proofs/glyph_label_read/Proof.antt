@@ -1,5 +1,7 @@
-use Rattle.glyph_label.proofs.Bounds.{reading-fits, rounded-fits}
-use Rattle.glyph_label.proofs.Fills.{answer-beside}
+use Rattle.glyph_label.proofs.Bounds.{reading-fits, rounded-fits, answer-beside}
+use Rattle.label.specs.Wire.{readBytes}
+use Rattle.label.specs.Rounded.{rounded}
+use lib.ListN.{length}
 use Rattle.glyph_label.specs.Fits.{Small32, ReadingFits}
 use mathlib.Core.Path.{sym, subst, _∙_}
 use borrow.Author.Needs.{needs}
@@ -29,7 +31,7 @@ returns c =
     let a = c .before .before .before .before .before .before .before .before .before .before .before .before .before .before .before .before .args in
     let b = c .before .before .before .before .before .before .before .read-bytes in
     let r = b .ensures in
-    (c .reading-answer .ensures ∙ answer-beside (a .text .now) (a .indices .now) (a .units .now) (a .clusters .now) (a .glyphs .now) (b .result) (r .0) (r .1 .0), (r .1 .1 .units, (r .1 .1 .clusters, r .1 .1 .glyphs)))
+    (c .reading-answer .ensures ∙ answer-beside (readBytes (length (a .units .now)) (length (a .clusters .now)) (length (a .glyphs .now)) (a .text .now) (a .indices .now)) (rounded (a .indices .now)) (b .result) (r .0) (r .1 .0), (r .1 .1 .units, (r .1 .1 .clusters, r .1 .1 .glyphs)))
 
 pub glyph-label-read-spec : {M : Type 1} → statement M
 glyph-label-read-spec =
