@@ -167,6 +167,7 @@ fn part_answer(x: label::Part) -> GlyphLabelPart
         length: x.length,
     }
 }
+
 // ── the calls ──
 
 // Reads a label: its run as bytes into three lent buffers, where none of 1 to 18 holds.

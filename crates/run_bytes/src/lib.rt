@@ -394,6 +394,7 @@ fn unsound_writing() -> label::Writing
     })
 }
 
+// The writing of a run handed in as bytes, escaped or not: 19 where bytes are left over, or more than those of any sound run.
 pub fn write_bytes(
     escape: bool,
     units: &[u8],
@@ -452,6 +453,7 @@ fn unsound_pick() -> label::Pick
     })
 }
 
+// A pick from a run handed in as bytes, from glyphs to units or, turned, from units to glyphs.
 pub fn pick_bytes(
     units: &[u8],
     clusters: &[u8],
