@@ -108,6 +108,7 @@ escapeByte b =
     (cond (eqb b 10) (ascii "&#10;")
     (cond (eqb b 13) (ascii "&#13;") (b ∷ []))))))
 
+-- "to escape": bytes with each of the six replaced
 unfoldable pub escape : List ℕ → List ℕ
 escape [] = []
 escape (b ∷ bs) = escapeByte b ++ escape bs
