@@ -20,6 +20,9 @@ python3 tests/independent/trials.py target/trials
 cmp target/trials/stdin crates/trials/stdin
 cmp target/trials/stdout crates/trials/stdout
 
+# the archive's calls run beside the programs
+python3 $compare archive target/libglyph_label.so --seed "$seed" --count $archive > target/archive.log & calls=$!
 python3 $compare relabel target/bin/relabel --seed "$seed" --count $relabel
 python3 $compare trials target/bin/trials --seed "$seed" --count $trials
-python3 $compare archive target/libglyph_label.so --seed "$seed" --count $archive
+wait $calls || { cat target/archive.log; exit 1; }
+cat target/archive.log
