@@ -8,9 +8,9 @@ use borrow.Author.Tests.{le-leb, lt-leb}
 use lib.ListN.{length}
 use Rattle.label.specs.Outcome.{Outcome, ok, no}
 use Rattle.label.specs.Attribute.{resolve}
-use Rattle.label.specs.Calls.{refusal, resolvingOutcome, resolveInto, filledCount, filledAfter}
-use Rattle.label.specs.declared.Resolving.{Resolving}
-use Rattle.label.specs.declared.Resolving.the-variants.{Resolved, Refused}
+use Rattle.label.specs.Calls.{refusal, fillingOutcome, resolveInto, filledCount, filledAfter}
+use Rattle.label.specs.declared.Filling.{Filling}
+use Rattle.label.specs.declared.Filling.the-variants.{Filled, Refused}
 use Rattle.label.proofs.Basics.{no-ok}
 use Rattle.label.proofs.Walks.{ok-path}
 use Rattle.words.proofs.Puts.{put-room}
@@ -19,21 +19,21 @@ use Rattle.attribute.specs.declared.Stored.the-variants.{Bytes, Bad}
 use Rattle.attribute.specs.Stores.{Stores}
 
 -- the two clauses of the call, where resolving comes to w
-abbrev Answer : Outcome (List ℕ) → Resolving → List ℕ → List ℕ → Type 0
-Answer w r T T′ = (resolvingOutcome r ≡ filledCount w) × (T′ ≡ filledAfter w T)
+abbrev Answer : Outcome (List ℕ) → Filling → List ℕ → List ℕ → Type 0
+Answer w r T T′ = (fillingOutcome r ≡ filledCount w) × (T′ ≡ filledAfter w T)
 
-refuses : {w : Outcome (List ℕ)} {r : Resolving} (n p : ℕ) (T : List ℕ) → r ≡ Refused (refusal n p) → w ≡ no n p → Answer w r T T
+refuses : {w : Outcome (List ℕ)} {r : Filling} (n p : ℕ) (T : List ℕ) → r ≡ Refused (refusal n p) → w ≡ no n p → Answer w r T T
 refuses n p T f e = rw (e, f) (refl, refl)
 
 -- the raw value resolves to w
 module _ (raw T w : List ℕ) (e : resolve raw ≡ ok w) where
-  too-short : {r : Resolving} → r ≡ Refused (refusal 24 (length w)) → length T < length w → Answer (resolveInto (length T) raw) r T T
+  too-short : {r : Filling} → r ≡ Refused (refusal 24 (length w)) → length T < length w → Answer (resolveInto (length T) raw) r T T
   too-short k h = refuses 24 (length w) T k is
     where
       is : resolveInto (length T) raw ≡ no 24 (length w)
       is = unfold resolveInto in rw (e, lt-leb (length w) (length T) h)
 
-  stored : length w ≤ length T → {T′ : List ℕ} (s : Stored) → Stores raw T s T′ → Answer (resolveInto (length T) raw) (Resolved (length w)) T T′
+  stored : length w ≤ length T → {T′ : List ℕ} (s : Stored) → Stores raw T s T′ → Answer (resolveInto (length T) raw) (Filled (length w)) T T′
   stored h (Bad p) k = no-ok 23 p w (sym k ∙ e)
   stored h (Bytes m) k =
       let a : resolveInto (length T) raw ≡ ok w = unfold resolveInto in rw (e, le-leb (length w) (length T) h) in
@@ -42,7 +42,7 @@ module _ (raw T w : List ℕ) (e : resolve raw ≡ ok w) where
 
 -- the first pass, into a buffer of its own, answered s
 module _ (raw T old new : List ℕ) (s : Stored) (f : Stores raw old s new) where
-  pub refuses-23 : {p : ℕ} {r : Resolving} → s ≡ Bad p → r ≡ Refused (refusal 23 p) → Answer (resolveInto (length T) raw) r T T
+  pub refuses-23 : {p : ℕ} {r : Filling} → s ≡ Bad p → r ≡ Refused (refusal 23 p) → Answer (resolveInto (length T) raw) r T T
   refuses-23 {p} e k = refuses 23 p T k is
     where
       is : resolveInto (length T) raw ≡ no 23 p
@@ -56,9 +56,9 @@ module _ (raw T old new : List ℕ) (s : Stored) (f : Stores raw old s new) wher
     count : length (came .0) ≡ n
     count = let b = came .2 .behind in omega arith
 
-    pub refuses-24 : {r : Resolving} → r ≡ Refused (refusal 24 n) → length T < n → Answer (resolveInto (length T) raw) r T T
+    pub refuses-24 : {r : Filling} → r ≡ Refused (refusal 24 n) → length T < n → Answer (resolveInto (length T) raw) r T T
     refuses-24 k h = too-short raw T (came .0) (came .1) (k ∙ ap (λ (x : ℕ). Refused (refusal 24 x)) (sym count)) (omega (arith, count))
 
-    pub resolves : n ≤ length T → {T′ : List ℕ} (s′ : Stored) → Stores raw T s′ T′ → Answer (resolveInto (length T) raw) (Resolved n) T T′
+    pub resolves : n ≤ length T → {T′ : List ℕ} (s′ : Stored) → Stores raw T s′ T′ → Answer (resolveInto (length T) raw) (Filled n) T T′
     resolves h {T′} s′ k =
-        subst (λ (x : ℕ). Answer (resolveInto (length T) raw) (Resolved x) T T′) count (stored raw T (came .0) (came .1) (omega (arith, count)) s′ k)
+        subst (λ (x : ℕ). Answer (resolveInto (length T) raw) (Filled x) T T′) count (stored raw T (came .0) (came .1) (omega (arith, count)) s′ k)

@@ -1,48 +1,21 @@
--- Laws of a reference's name: the loop that compares it, and what a reference is by the name that stands there with its `;`.
+-- What a reference is by the name that stands there with its `;`.
 -- Assumes nothing.
-use Prim.Native.Nat.{ℕ, _+_, _≤_, _<_}
+use Prim.Native.Nat.{ℕ, _+_}
 use native.Mathlib.Omega.{arith}
-use native.Mathlib.Nat.{add-suc}
-use native.Mathlib.Numerals.{add-one}
 use mathlib.Core.Path.{_≡_, refl, sym, _∙_}
 use mathlib.Core.Bool.{Bool, true, false, not, _&&_, and-false}
 use mathlib.Core.List.{List, [], _∷_, _++_}
-use borrow.Author.Tests.{eq-eqb, ne-eqb, eqb-true, not-true}
+use borrow.Author.Tests.{ne-eqb, eqb-true, not-true}
 use lib.Dec.{eqb}
-use lib.ListN.{length, getD, drop, drop-of-length-le}
-use lib.Seq.{drop-cons}
-use Rattle.label.specs.Bytes.{ascii}
+use lib.ListN.{length, drop}
+use Rattle.label.specs.Bytes.{ascii, begins}
 use Rattle.label.specs.Text.{xmlChar}
 use Rattle.label.specs.Attribute.{same, predefined, body, isClosed}
 use Rattle.label.proofs.Attributes.{closed-none, closed-here, body-here, closed-further, body-further}
 use Rattle.label.proofs.Basics.{and-l, and-r, clash, cases}
 use Rattle.label.proofs.Splits.{none}
 use Rattle.attribute.specs.declared.Reference.the-variants.{To, Bad}
-use Rattle.attribute.specs.References.{begins, referenceBy}
-
--- ── the loop: what is left to compare ──
-
-module _ (s : List ℕ) (at : ℕ) (w : List ℕ) (i : ℕ) where
-  abbrev left : ℕ → Bool
-  left k = begins (drop k w) (drop (at + k) s)
-
-  pub left-end : length w ≤ i → left i ≡ true
-  unfolding begins
-  left-end h = rw (drop-of-length-le w h)
-
-  pub left-short : i < length w → length s ≤ at + i → left i ≡ false
-  unfolding begins
-  left-short h k = rw (drop-cons w i 0 h, drop-of-length-le s k)
-
-  left-step : i < length w → at + i < length s → left i ≡ (eqb (getD s (at + i) 0) (getD w i 0) && left (i + 1))
-  unfolding begins
-  left-step h k = rw (drop-cons w i 0 h, drop-cons s (at + i) 0 k, add-one, add-suc at i)
-
-  pub left-other : i < length w → at + i < length s → (getD s (at + i) 0 ≡ getD w i 0 → ⊥) → left i ≡ false
-  left-other h k e = left-step h k ∙ rw (ne-eqb (getD s (at + i) 0) (getD w i 0) e)
-
-  pub left-next : i < length w → at + i < length s → getD s (at + i) 0 ≡ getD w i 0 → left (i + 1) ≡ left i
-  left-next h k e = sym (left-step h k ∙ rw (eq-eqb (getD s (at + i) 0) (getD w i 0) e))
+use Rattle.attribute.specs.References.{referenceBy}
 
 -- ── a reference by its name ──
 

@@ -25,12 +25,6 @@ unfoldable pub numberAt : ℕ → List ℕ → ℕ → Number
 numberAt base s at =
     record { value = min (valueBehind base 0 (front base (drop at s))) beyond; end = at + length (front base (drop at s)) }
 
--- the bytes w stand at the front
-unfoldable pub begins : List ℕ → List ℕ → Bool
-begins [] t = true
-begins (x ∷ w) [] = false
-begins (x ∷ w) (y ∷ t) = eqb y x && begins w t
-
 -- what stands at a place up to its `;`, as f reads it: a character that may stand, with the place behind `;`; or no reference
 unfoldable pub referenceBy : (List ℕ → ℕ) → List ℕ → ℕ → Reference
 referenceBy f s at =

@@ -3,11 +3,11 @@ ghost use mathlib.Core.Path.{_≡_};
 ghost use Prim.Native.Nat.{_+_, _*_, _≤_, _<_, min};
 ghost use lib.ListN.{length, drop};
 ghost use Rattle.label.specs.Attribute.{predefined, digitValue, numbered, referred, spaced};
-ghost use Rattle.label.specs.Calls.{refusal, resolvingOutcome, resolveInto, filledCount, filledAfter};
-ghost use Rattle.attribute.specs.References.{beyond, numberAt, begins, referenceBy};
+ghost use Rattle.label.specs.Calls.{refusal, fillingOutcome, resolveInto, filledCount, filledAfter};
+ghost use Rattle.attribute.specs.References.{beyond, numberAt, referenceBy};
 ghost use Rattle.attribute.specs.Stores.{widthAt, Stores};
+use label::Filling;
 use label::Refusal;
-use label::Resolving;
 
 // ── references ──
 
@@ -89,54 +89,36 @@ fn numbered_at(s: &[u8], at: usize, base: u32) -> Reference
     }
 }
 
-// Whether the bytes w stand at a place.
-fn stands_at(s: &[u8], at: usize, w: &[u8]) -> bool
-    requires { ⌜ at ≤ length (now s) ⌝ }
-    ensures { λ r. ⌜ r ≡ begins (now (w .entry)) (drop at (now (s .entry))) ⌝ }
-{
-    let mut i = 0;
-    while i < w.len() {
-        if s.len() - at <= i {
-            return false;
-        }
-        if s[at + i] != w[i] {
-            return false;
-        }
-        i += 1;
-    }
-    true
-}
-
 // The reference whose name stands at a place.
 fn named_at(s: &[u8], at: usize) -> Reference
     requires { ⌜ at ≤ length (now s) ⌝ }
     ensures { λ r. ⌜ r ≡ referenceBy predefined (now (s .entry)) at ⌝ }
 {
-    if stands_at(s, at, b"amp;") {
+    if words::stands_at(s, at, b"amp;") {
         return Reference::To {
             code: 38,
             next: at + 4,
         };
     }
-    if stands_at(s, at, b"lt;") {
+    if words::stands_at(s, at, b"lt;") {
         return Reference::To {
             code: 60,
             next: at + 3,
         };
     }
-    if stands_at(s, at, b"gt;") {
+    if words::stands_at(s, at, b"gt;") {
         return Reference::To {
             code: 62,
             next: at + 3,
         };
     }
-    if stands_at(s, at, b"quot;") {
+    if words::stands_at(s, at, b"quot;") {
         return Reference::To {
             code: 34,
             next: at + 5,
         };
     }
-    if stands_at(s, at, b"apos;") {
+    if words::stands_at(s, at, b"apos;") {
         return Reference::To {
             code: 39,
             next: at + 5,
@@ -223,16 +205,16 @@ fn put_resolved(out: &mut [u8], raw: &[u8]) -> Stored
 
 // ── the call ──
 
-fn refused(number: usize, place: usize) -> Resolving
-    ensures { λ r. ⌜ r ≡ Resolving.Refused (refusal number place) ⌝ }
+fn refused(number: usize, place: usize) -> Filling
+    ensures { λ r. ⌜ r ≡ Filling.Refused (refusal number place) ⌝ }
 {
-    Resolving::Refused(Refusal { number, place })
+    Filling::Refused(Refusal { number, place })
 }
 
 // One raw attribute value resolved into `out`, where no reference is bad, no raw `<` stands in it, and `out` has room. A first pass judges and measures, a
 // second one stores.
-pub fn resolve(raw: &[u8], out: &mut [u8]) -> Resolving
-    ensures result { λ r. ⌜ resolvingOutcome r ≡ filledCount (resolveInto (length (now (out .entry))) (now (raw .entry))) ⌝ }
+pub fn resolve(raw: &[u8], out: &mut [u8]) -> Filling
+    ensures result { λ r. ⌜ fillingOutcome r ≡ filledCount (resolveInto (length (now (out .entry))) (now (raw .entry))) ⌝ }
     ensures out { λ _. ⌜ now (out .exit) ≡ filledAfter (resolveInto (length (now (out .entry))) (now (raw .entry))) (now (out .entry)) ⌝ }
 {
     let mut none = [0u8; 1];
@@ -243,7 +225,7 @@ pub fn resolve(raw: &[u8], out: &mut [u8]) -> Resolving
                 return refused(24, n);
             }
             put_resolved(out, raw);
-            Resolving::Resolved(n)
+            Filling::Filled(n)
         }
     }
 }

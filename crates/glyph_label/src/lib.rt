@@ -4,7 +4,7 @@ ghost use mathlib.Core.Bool.{true};
 ghost use Prim.Native.Nat.{min};
 ghost use lib.ListN.{length};
 ghost use Rattle.label.specs.Rounded.{rounded as roundedIn};
-ghost use Rattle.label.specs.Calls.{readingOutcome, readingRounded, writingOutcome, pickOutcome, counted, lengths, textAfter, indicesAfter, resolvingOutcome, filledCount, filledAfter, resolveInto};
+ghost use Rattle.label.specs.Calls.{readingOutcome, readingRounded, writingOutcome, pickOutcome, counted, lengths, textAfter, indicesAfter, fillingOutcome, filledCount, filledAfter, resolveInto};
 ghost use Rattle.label.specs.Wire.{readBytes, unitBytesAfter, clusterBytesAfter, glyphBytesAfter, writeBytes, writeAskedBytes, pickUnitsBytes, pickGlyphsBytes};
 ghost use Rattle.label.specs.Fault.{faultPart};
 ghost use Rattle.glyph_label.specs.Answers.{readingAnswer, writingAnswer, filledAnswer, stretchAnswer, partAnswer};
@@ -113,17 +113,17 @@ fn place_32(p: usize) -> u32
     }
 }
 
-fn filled_answer(r: label::Resolving) -> GlyphLabelFilled
-    requires { ⌜ FilledFits (resolvingOutcome r) ⌝ }
-    ensures { λ a. ⌜ a ≡ filledAnswer (resolvingOutcome r) ⌝ }
+fn filled_answer(r: label::Filling) -> GlyphLabelFilled
+    requires { ⌜ FilledFits (fillingOutcome r) ⌝ }
+    ensures { λ a. ⌜ a ≡ filledAnswer (fillingOutcome r) ⌝ }
 {
     match r {
-        label::Resolving::Resolved(n) => GlyphLabelFilled {
+        label::Filling::Filled(n) => GlyphLabelFilled {
             number: 0,
             place: 0,
             filled: n,
         },
-        label::Resolving::Refused(x) => GlyphLabelFilled {
+        label::Filling::Refused(x) => GlyphLabelFilled {
             number: x.number as u32,
             place: place_32(x.place),
             filled: 0,

@@ -1,5 +1,5 @@
--- Bytes of ASCII. Parts of byte lists: split at a byte, cut at the first byte of a kind, digits and their value; and the way back: join, trailing empty
--- parts dropped, digits of a number.
+-- Bytes of ASCII. Parts of byte lists: at the front, split at a byte, cut at the first byte of a kind, digits and their value; and the way back: join,
+-- trailing empty parts dropped, digits of a number.
 -- Assumes nothing.
 use Prim.Native.Nat.{ℕ, zero, suc, _+_, _*_, _-_, _/_, _%_}
 use Prim.Native.Char.{code}
@@ -12,6 +12,12 @@ use lib.Dec.{leb, ltb, eqb}
 unfoldable pub ascii : String → List ℕ
 ascii none = []
 ascii (c then s) = code c ∷ ascii s
+
+-- the bytes w stand at the front
+unfoldable pub begins : List ℕ → List ℕ → Bool
+begins [] t = true
+begins (x ∷ w) [] = false
+begins (x ∷ w) (y ∷ t) = eqb y x && begins w t
 
 -- no element
 abbrev pub empty : {A : Type 0} → List A → Bool

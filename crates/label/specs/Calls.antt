@@ -23,10 +23,8 @@ use Rattle.label.specs.declared.Writing.the-variants as W
 use Rattle.label.specs.declared.Stretch.{Stretch}
 use Rattle.label.specs.declared.Pick.{Pick}
 use Rattle.label.specs.declared.Pick.the-variants as P
-use Rattle.label.specs.declared.Listing.{Listing}
-use Rattle.label.specs.declared.Listing.the-variants as L
-use Rattle.label.specs.declared.Resolving.{Resolving}
-use Rattle.label.specs.declared.Resolving.the-variants as X
+use Rattle.label.specs.declared.Filling.{Filling}
+use Rattle.label.specs.declared.Filling.the-variants as F
 
 -- ── answers ──
 
@@ -52,13 +50,9 @@ abbrev pub pickOutcome : Pick → Outcome Stretch
 pickOutcome (P.Picked s) = ok s
 pickOutcome (P.Refused x) = no (x .number) (x .place)
 
-abbrev pub listingOutcome : Listing → Outcome ℕ
-listingOutcome (L.Listed n) = ok n
-listingOutcome (L.Refused x) = no (x .number) (x .place)
-
-abbrev pub resolvingOutcome : Resolving → Outcome ℕ
-resolvingOutcome (X.Resolved n) = ok n
-resolvingOutcome (X.Refused x) = no (x .number) (x .place)
+abbrev pub fillingOutcome : Filling → Outcome ℕ
+fillingOutcome (F.Filled n) = ok n
+fillingOutcome (F.Refused x) = no (x .number) (x .place)
 
 -- ── buffers ──
 

@@ -13,6 +13,7 @@ pub mod Fault
 pub mod Calls
 pub mod Wire
 pub mod Relabel
+pub mod Sheet
 pub mod Checks
 pub mod Labels
 pub mod Cases

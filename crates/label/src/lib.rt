@@ -164,15 +164,9 @@ pub enum Pick {
     Refused(Refusal),
 }
 
-// How many glyph records were listed.
-pub enum Listing {
-    Listed(usize),
-    Refused(Refusal),
-}
-
-// How many bytes came out of a raw attribute value.
-pub enum Resolving {
-    Resolved(usize),
+// How many places of a lent list or buffer were filled.
+pub enum Filling {
+    Filled(usize),
     Refused(Refusal),
 }
 

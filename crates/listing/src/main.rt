@@ -1,8 +1,8 @@
 // Lists the glyphs of three runs in four records, and prints each answer and the records after it.
 use label::Advance;
+use label::Filling;
 use label::Glyph;
 use label::Index;
-use label::Listing;
 
 fn print_index(index: Index) {
     match index {
@@ -50,13 +50,13 @@ fn print_glyph(g: Glyph) {
 }
 
 // A line of `listed` and the count, or of `no`, number and place.
-fn print_answer(answer: Listing) {
+fn print_answer(answer: Filling) {
     match answer {
-        Listing::Listed(n) => {
+        Filling::Filled(n) => {
             io::write_all(1, b"listed ");
             io::print_decimal(1, n as u64);
         }
-        Listing::Refused(x) => {
+        Filling::Refused(x) => {
             let number = x.number;
             let place = x.place;
             io::write_all(1, b"no ");

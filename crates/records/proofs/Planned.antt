@@ -11,9 +11,9 @@ use lib.ListN.{length}
 use borrow.Author.Tests.{le-leb, lt-leb, leb-true}
 use Rattle.label.specs.Outcome.{Outcome, ok, no}
 use Rattle.label.specs.Sound.{sound, glyphsOf}
-use Rattle.label.specs.Calls.{refusal, listInto, listingOutcome, filledCount, filledAfter}
+use Rattle.label.specs.Calls.{refusal, listInto, fillingOutcome, filledCount, filledAfter}
 use Rattle.label.specs.declared.Glyph.{Glyph}
-use Rattle.label.specs.declared.Listing.the-variants.{Listed, Refused}
+use Rattle.label.specs.declared.Filling.the-variants.{Filled, Refused}
 use Rattle.label.proofs.Basics.{cases}
 use Rattle.sound.proofs.Parts.{glyph-count}
 use Rattle.records.specs.declared.Plan.{Plan}
@@ -41,7 +41,7 @@ module _ (room : ℕ) (us : List ℕ) (cs gs : List ℤ) where
   unfolding planOf
   short h l = rw (refuses-18 h (lt-leb (length (glyphsOf gs)) room (rw (glyph-count gs) l)), glyph-count gs)
 
-  pub whole : sound us cs gs ≡ true → length gs / 4 ≤ room → _≡_ {A = Plan} record { count = length gs / 4; answer = Listed (length gs / 4) } (planOf room us cs gs)
+  pub whole : sound us cs gs ≡ true → length gs / 4 ≤ room → _≡_ {A = Plan} record { count = length gs / 4; answer = Filled (length gs / 4) } (planOf room us cs gs)
   unfolding planOf
   whole h l = rw (lists h (le-leb (length (glyphsOf gs)) room (rw (glyph-count gs) l)), glyph-count gs)
 
@@ -59,11 +59,11 @@ module _ (room : ℕ) (us : List ℕ) (cs gs : List ℤ) where
       three (λ e. rw e (zero-le, zero-le)) (λ e. rw e (zero-le, zero-le))
       (λ h l e. rw e (leb-true (length (glyphsOf gs)) room l, omega (arith, glyph-count gs)))
 
-  pub answer-is : listingOutcome (planOf room us cs gs .answer) ≡ filledCount (listInto room us cs gs)
+  pub answer-is : fillingOutcome (planOf room us cs gs .answer) ≡ filledCount (listInto room us cs gs)
   unfolding planOf
   answer-is = of (listInto room us cs gs)
     where
-      of : (o : Outcome (List Glyph)) → listingOutcome (planned o .answer) ≡ filledCount o
+      of : (o : Outcome (List Glyph)) → fillingOutcome (planned o .answer) ≡ filledCount o
       of (ok l) = refl
       of (no n p) = refl
 

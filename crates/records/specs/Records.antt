@@ -12,7 +12,7 @@ use Rattle.label.specs.Calls.{refusal, listInto}
 use Rattle.label.specs.declared.Index.{Index}
 use Rattle.label.specs.declared.Index.the-variants.{Font}
 use Rattle.label.specs.declared.Glyph.{Glyph}
-use Rattle.label.specs.declared.Listing.the-variants.{Listed, Refused}
+use Rattle.label.specs.declared.Filling.the-variants.{Filled, Refused}
 use Rattle.records.specs.declared.Plan.{Plan}
 
 -- the index of a number, where it is one; else the font's
@@ -40,7 +40,7 @@ records s n = recordsFrom s 0 n
 
 -- what is done for a listing: how many records are stored, none where it is refused, and the answer
 abbrev pub planned : Outcome (List Glyph) → Plan
-planned (ok gs) = record { count = length gs; answer = Listed (length gs) }
+planned (ok gs) = record { count = length gs; answer = Filled (length gs) }
 planned (no n p) = record { count = 0; answer = Refused (refusal n p) }
 
 -- the same for a run's numbers and a list of `room` records

@@ -1,8 +1,8 @@
 // The glyphs of a sound run as a list of glyph records.
 use label::Advance;
+use label::Filling;
 use label::Glyph;
 use label::Index;
-use label::Listing;
 use label::Refusal;
 ghost use mathlib.Core.Path.{_≡_};
 ghost use mathlib.Core.List.{_++_};
@@ -10,7 +10,7 @@ ghost use Prim.Native.Nat.{_<_, _≤_, _+_, _*_};
 ghost use lib.ListN.{length, drop};
 ghost use Rattle.words.specs.Places.{place};
 ghost use Rattle.label.specs.Sound.{numberAdvance};
-ghost use Rattle.label.specs.Calls.{refusal, listInto, listingOutcome, filledCount, filledAfter};
+ghost use Rattle.label.specs.Calls.{refusal, listInto, fillingOutcome, filledCount, filledAfter};
 ghost use Rattle.records.specs.Records.{indexOf, recordOf, records, planOf};
 
 // A number from 0 to the largest index names an index; any other leaves it to the font.
@@ -72,16 +72,16 @@ fn fill(out: &mut [Glyph], glyphs: &[i32], n: usize)
 // What the listing answers, and how many records it stores: none where it refuses.
 struct Plan {
     count: usize,
-    answer: Listing,
+    answer: Filling,
 }
 
 // A refusal stores nothing.
 fn refuses(number: usize, place: usize) -> Plan
-    ensures { λ r. ⌜ r ≡ record { count = 0; answer = Listing.Refused (refusal number place) } ⌝ }
+    ensures { λ r. ⌜ r ≡ record { count = 0; answer = Filling.Refused (refusal number place) } ⌝ }
 {
     Plan {
         count: 0,
-        answer: Listing::Refused(Refusal { number, place }),
+        answer: Filling::Refused(Refusal { number, place }),
     }
 }
 
@@ -98,13 +98,13 @@ fn decide(units: &[u16], clusters: &[i32], glyphs: &[i32], room: usize) -> Plan
     }
     Plan {
         count: n,
-        answer: Listing::Listed(n),
+        answer: Filling::Filled(n),
     }
 }
 
 // Lists the glyphs of a run in `out`: 19 where the run is not sound, 18 where `out` is too short. The records behind stay, and a refusal changes none.
-pub fn list_records(units: &[u16], clusters: &[i32], glyphs: &[i32], out: &mut [Glyph]) -> Listing
-    ensures result { λ r. ⌜ listingOutcome r ≡ filledCount (listInto (length (now (out .entry))) (now (units .entry)) (now (clusters .entry)) (now (glyphs .entry))) ⌝ }
+pub fn list_records(units: &[u16], clusters: &[i32], glyphs: &[i32], out: &mut [Glyph]) -> Filling
+    ensures result { λ r. ⌜ fillingOutcome r ≡ filledCount (listInto (length (now (out .entry))) (now (units .entry)) (now (clusters .entry)) (now (glyphs .entry))) ⌝ }
     ensures records { λ r. ⌜ now (out .exit) ≡ filledAfter (listInto (length (now (out .entry))) (now (units .entry)) (now (clusters .entry)) (now (glyphs .entry))) (now (out .entry)) ⌝ }
 {
     let plan = decide(units, clusters, glyphs, out.len());
@@ -114,13 +114,13 @@ pub fn list_records(units: &[u16], clusters: &[i32], glyphs: &[i32], out: &mut [
 
 // Four records by value, and what the listing into them answers.
 pub struct Four {
-    pub answer: Listing,
+    pub answer: Filling,
     pub records: [Glyph; 4],
 }
 
 // The same with four records that are passed by value and handed back.
 pub fn list_four(units: &[u16], clusters: &[i32], glyphs: &[i32], records: [Glyph; 4]) -> Four
-    ensures result { λ r. ⌜ listingOutcome (r .answer) ≡ filledCount (listInto 4 (now (units .entry)) (now (clusters .entry)) (now (glyphs .entry))) ⌝ }
+    ensures result { λ r. ⌜ fillingOutcome (r .answer) ≡ filledCount (listInto 4 (now (units .entry)) (now (clusters .entry)) (now (glyphs .entry))) ⌝ }
     ensures records { λ r. ⌜ r .records ≡ filledAfter (listInto 4 (now (units .entry)) (now (clusters .entry)) (now (glyphs .entry))) records ⌝ }
 {
     let mut out = records;

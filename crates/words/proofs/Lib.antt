@@ -4,3 +4,4 @@ pub mod Places
 pub mod Puts
 pub mod Packs
 pub mod Finds
+pub mod Begins

@@ -9,7 +9,7 @@ ghost use lib.Dec.{eqb};
 ghost use lib.ListN.{length, drop};
 ghost use mir.Syntax.{w32};
 ghost use mir.Val.{ofZ, toZ};
-ghost use Rattle.label.specs.Bytes.{cut};
+ghost use Rattle.label.specs.Bytes.{begins, cut};
 ghost use Rattle.label.specs.Sound.{natural, choice, nat, size};
 ghost use Rattle.label.specs.Calls.{filled};
 ghost use Rattle.label.specs.Wire.{fromHalves, fromWords, halves, words};
@@ -193,6 +193,24 @@ pub fn find_byte(s: &[u8], from: usize, b: u8) -> usize
         i += 1;
     }
     i
+}
+
+// Whether the bytes w stand at a place.
+pub fn stands_at(s: &[u8], at: usize, w: &[u8]) -> bool
+    requires { ⌜ at ≤ length (now s) ⌝ }
+    ensures { λ r. ⌜ r ≡ begins (now (w .entry)) (drop at (now (s .entry))) ⌝ }
+{
+    let mut i = 0;
+    while i < w.len() {
+        if s.len() - at <= i {
+            return false;
+        }
+        if s[at + i] != w[i] {
+            return false;
+        }
+        i += 1;
+    }
+    true
 }
 
 // ── a run's numbers as bytes and back; what stands behind them stays ──

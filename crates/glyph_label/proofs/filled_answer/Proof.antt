@@ -1,7 +1,7 @@
 use native.Mathlib.Omega.{arith}
 use mathlib.Core.Path.{sym, ap, subst}
-use Rattle.label.specs.Calls.{resolvingOutcome}
-use Rattle.label.specs.declared.Resolving.{Resolving}
+use Rattle.label.specs.Calls.{fillingOutcome}
+use Rattle.label.specs.declared.Filling.{Filling}
 use Rattle.glyph_label.specs.Answers.{filledAnswer}
 use Rattle.glyph_label.specs.Fits.{FilledFits}
 use borrow.Author.Needs.{needs}
@@ -15,16 +15,16 @@ enum-known-r-2 : tie.Need-enum-known-r-2
 enum-known-r-2 c = search needs
 
 cast-t5 : tie.Need-cast-t5
-cast-t5 c = omega (arith, subst (λ (a : Resolving). FilledFits (resolvingOutcome a)) (c .before .before .r2 .given .1) (c .before .before .before .before .pre))
+cast-t5 c = omega (arith, subst (λ (a : Filling). FilledFits (fillingOutcome a)) (c .before .before .r2 .given .1) (c .before .before .before .before .pre))
 
 place-32-requires : tie.Need-place-32-requires
 place-32-requires c κs = search needs
 
 returns : tie.Need-returns
-returns c = sym (ap (λ (a : Resolving). filledAnswer (resolvingOutcome a)) (c .before .r .given .1))
+returns c = sym (ap (λ (a : Filling). filledAnswer (fillingOutcome a)) (c .before .r .given .1))
 
 returns-2 : tie.Need-returns-2
-returns-2 c = rw (c .place-32 .ensures) (sym (ap (λ (a : Resolving). filledAnswer (resolvingOutcome a)) (c .before .before .before .r2 .given .1)))
+returns-2 c = rw (c .place-32 .ensures) (sym (ap (λ (a : Filling). filledAnswer (fillingOutcome a)) (c .before .before .before .r2 .given .1)))
 
 pub filled-answer-spec : {M : Type 1} → statement M
 filled-answer-spec =

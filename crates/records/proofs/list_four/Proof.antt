@@ -53,14 +53,14 @@ use denote.Triple.Walked.{Stays, stay-none-slice, stay-dropped, walkOf, AllGo, g
 use denote.Exit.{yes}
 use Rattle.records.specs.declared.Four.{Four}
 use Rattle.label.specs.declared.Glyph.{Glyph}
-use Rattle.label.specs.declared.Listing.{Listing}
+use Rattle.label.specs.declared.Filling.{Filling}
 use Rattle.label.specs.Outcome.{Outcome}
-use Rattle.label.specs.Calls.{listInto, listingOutcome, filledCount, filledAfter}
+use Rattle.label.specs.Calls.{listInto, fillingOutcome, filledCount, filledAfter}
 use Rattle.records.proofs.Facts.{says-both, heard-both}
 use Rattle.label.proofs.Glyph as T
 use Rattle.label.proofs.Glyph.Laws as T′
-use Rattle.label.proofs.Listing as S
-use Rattle.label.proofs.Listing.Laws as S′
+use Rattle.label.proofs.Filling as S
+use Rattle.label.proofs.Filling.Laws as S′
 use Rattle.records.proofs.Four as F
 use Rattle.records.proofs.Four.Laws as F′
 use Rattle.records.proofs.list_records as g
@@ -143,8 +143,8 @@ module _ {M : Type 1} (𝓤 : URA M) (H : Heap 𝓤) (A : Atoms 𝓤) (W : Given
   listed m = listInto m (now us) (now cs) s
 
   -- the contract's two clauses, for m records
-  abbrev Answers : ℕ → Listing → Type 0
-  Answers m r = listingOutcome r ≡ filledCount (listed m)
+  abbrev Answers : ℕ → Filling → Type 0
+  Answers m r = fillingOutcome r ≡ filledCount (listed m)
 
   abbrev Stores : ℕ → List Glyph → Type 0
   Stores m zs = zs ≡ filledAfter (listed m) xs
@@ -235,16 +235,16 @@ module _ {M : Type 1} (𝓤 : URA M) (H : Heap 𝓤) (A : Atoms 𝓤) (W : Given
     torn = qed W (toks₄ ∷ []) ∵ split ! $ move ! (1 ∷ []) $ split ! $ move ! (1 ∷ []) $ split ! $ move ! (1 ∷ []) $ split ! $ move ! (0 ∷ 4 ∷ 3 ∷ 2 ∷ 1 ∷ []) $ done !
 
   -- ---- the exit
-  abbrev four : Listing → List Glyph → Four
+  abbrev four : Filling → List Glyph → Four
   four r zs = record { answer = r; records = zs }
 
-  abbrev fval : Listing → List Glyph → Val
+  abbrev fval : Filling → List Glyph → Val
   fval r zs = vstruct (vcons (EL.val S.the-type S′.the-laws r) (vcons (aval zs) vnil))
 
-  made : (r : Listing) (zs : List Glyph) → Is S.the-row r (EL.vals S.the-type S′.the-laws r) → Is R4 zs (avals zs) → Is F.the-row (four r zs) (fval r zs ∷ [])
+  made : (r : Filling) (zs : List Glyph) → Is S.the-row r (EL.vals S.the-type S′.the-laws r) → Is R4 zs (avals zs) → Is F.the-row (four r zs) (fval r zs ∷ [])
   made r zs is isZ = ((EL.vals S.the-type S′.the-laws r, (avals zs, tt)), (refl, (is, ((isZ .0, ((isZ .1 .0 .0, length-map zs (T.the-type .to) ∙ isZ .1 .0 .1), as-fields zs (isZ .0) (isZ .1 .1))), tt))))
 
-  exits : (r : Listing) (zs : List Glyph) → Is S.the-row r (EL.vals S.the-type S′.the-laws r) → Is R4 zs (avals zs) → Answers 4 r × Stores 4 zs
+  exits : (r : Filling) (zs : List Glyph) → Is S.the-row r (EL.vals S.the-type S′.the-laws r) → Is R4 zs (avals zs) → Answers 4 r × Stores 4 zs
       → ent 𝓤 (⋆ 𝓤 H A (toks ∷ kept ∷ [])) (Post (fval r zs))
   exits r zs is isZ e =
       qed W (toks ∷ kept ∷ []) ∵
@@ -271,7 +271,7 @@ module _ {M : Type 1} (𝓤 : URA M) (H : Heap 𝓤) (A : Atoms 𝓤) (W : Given
         -- [Own₃; the lender's part; the new token; _9; …; _8; …; _7; …; _6; …; …; _4; …; _3; …; _2; …; _1; …; _0; …; what is had at entry]
         move ! (22 ∷ 2 ∷ 0 ∷ []) $ use3 W (raw (Lists 𝓤 H A mem run .pre (to l₅ α γ)) ⊛ kept) (lends l₅ α γ) $ split ! $
         calls-at ! fm (Lists 𝓤 H A mem run) known (to l₅ α γ) (and-then ! (load ! (from ! (stop !)) (look ! 18 refl)) (and-then ! (load ! (from ! (stop !)) (look ! 16 refl)) (and-then ! (load ! (from ! (stop !)) (look ! 14 refl)) (and-then ! (load ! (from ! (stop !)) (look ! 5 refl)) (no-more !))))) (λ u.
-        use1 W (later (some (λ (r : Listing). (toks₄ l₅ α γ ⊛ ‵ (S.the-row .own r (u ∷ []))) ⊛ raw (ensured 𝓤 H A g.ended (g.clauses 𝓤 H A mem run) (κs₄ l₅ α γ) (given₄ l₅ α γ) tt r)))) (id⊢ 𝓤 _) $ await ! tt $ pick ! (λ r.
+        use1 W (later (some (λ (r : Filling). (toks₄ l₅ α γ ⊛ ‵ (S.the-row .own r (u ∷ []))) ⊛ raw (ensured 𝓤 H A g.ended (g.clauses 𝓤 H A mem run) (κs₄ l₅ α γ) (given₄ l₅ α γ) tt r)))) (id⊢ 𝓤 _) $ await ! tt $ pick ! (λ r.
         -- what the callee ensures, at some last list
         split ! $ move ! (1 ∷ []) $ use1 W (some (λ (ws : Lasts g.ended (κs₄ l₅ α γ) (given₄ l₅ α γ)). ‵ (lasts g.ended (κs₄ l₅ α γ) (given₄ l₅ α γ) ws) ⊛ raw (sep 𝓤 (fact 𝓤 (Answers (length xs) r)) (fact 𝓤 (Stores (length xs) (ws .1 .1 .1 .0)))))) (id⊢ 𝓤 _) $ pick ! (λ ws.
         split ! $ move ! (1 ∷ []) $ use1 W (raw (fact 𝓤 (Answers (length xs) r × Stores (length xs) (ws .1 .1 .1 .0)))) (heard-both 𝓤 (Answers (length xs) r) (Stores (length xs) (ws .1 .1 .1 .0))) $

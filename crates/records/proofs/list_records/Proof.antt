@@ -43,14 +43,14 @@ use denote.Triple.Walked.{says, Stays, stay-none-slice, gave-slice, walkOf, AllG
 use denote.Exit.{yes}
 use Rattle.label.specs.declared.Glyph.{Glyph}
 use Rattle.records.specs.declared.Plan.{Plan}
-use Rattle.label.specs.Calls.{listingOutcome}
+use Rattle.label.specs.Calls.{fillingOutcome}
 use Rattle.records.specs.Records.{planOf}
 use Rattle.records.proofs.Facts.{says-both}
 use Rattle.records.proofs.Stored.{stored}
 use Rattle.records.proofs.Planned.{plan-fits, answer-is, records-are}
 use Rattle.label.proofs.Glyph as T
-use Rattle.label.proofs.Listing as S
-use Rattle.label.proofs.Listing.Laws as S′
+use Rattle.label.proofs.Filling as S
+use Rattle.label.proofs.Filling.Laws as S′
 use Rattle.records.proofs.Plan as P
 use Rattle.records.proofs.Plan.Laws as P′
 use Rattle.records.proofs.decide as d
@@ -199,7 +199,7 @@ module _ {M : Type 1} (𝓤 : URA M) (H : Heap 𝓤) (A : Atoms 𝓤) (W : Given
   exits p is e zs e₂ l =
       qed W (toks₂ ∷ ‵ (finally R (out .name) zs) ∷ kept₂ ∷ []) ∵
       suffices ! _ (ends-at 𝓤 H A f.ended stayed (f.clauses 𝓤 H A mem run) W ((κs, qs, tt, x, at), tt) (EL.val S.the-type S′.the-laws (p .answer)) (p .answer) (tt, (tt, (tt, (zs, tt)))) (tt, (tt, (tt, (l, tt))))) $
-      says-both ! (ap (λ (r : Plan). listingOutcome (r .answer)) e ∙ answer-is (length ys) (now us) (now cs) s)
+      says-both ! (ap (λ (r : Plan). fillingOutcome (r .answer)) e ∙ answer-is (length ys) (now us) (now cs) s)
       (e₂ ∙ ap (λ (r : Plan). stored s ys (r .count)) e ∙ records-are (length ys) (now us) (now cs) s ys) $
       split ! $ move ! (1 ∷ []) $ split ! $ move ! (4 ∷ []) $ split ! $ move ! (1 ∷ []) $ split ! $ move ! (1 ∷ []) $ split ! $ move ! (1 ∷ []) $ split ! $
       -- [Own₁; Own₂; Own₀; κ₁; κ₀; κ₂; true; κ₃; the last list]
