@@ -1,25 +1,26 @@
 -- "Checks, in order": the table of document 01 as a list, in its order, of causes with their numbers and places, and those of document 02. Each cause is computed from what the call is
 -- given, whatever the others say; each call is shown to be what the first cause that holds decides (laws `read-by-checks`, `write-by-checks` and others).
 -- Assumes nothing.
-use Prim.Native.Nat.{ℕ, zero, suc, _+_, _*_}
+use Prim.Native.Nat.{ℕ, zero, suc, _+_, _*_, _-_}
 use mathlib.Core.Path.{_≡_}
 use mathlib.Core.Bool.{Bool, true, false, cond, not, _&&_, _||_}
 use mathlib.Core.List.{List, [], _∷_, _++_}
 use lib.Dec.{leb}
 use lib.IntN.{ℤ}
-use lib.ListN.{length}
+use lib.ListN.{length, drop}
 use Rattle.label.specs.Limits.{maxTextBytes, maxIndicesBytes, maxUnits, maxGlyphs, maxIndex}
 use Rattle.label.specs.Outcome.{Outcome, ok, no}
-use Rattle.label.specs.Bytes.{empty, value}
+use Rattle.label.specs.Bytes.{begins, empty, value}
 use Rattle.label.specs.Text.{lead, starts, scalar, xmlChar, unitsOf, braced, marked, unmarked}
 use Rattle.label.specs.Entry.{part, indexDigits, wellFormed, fieldFits, entryOf, entries}
 use Rattle.label.specs.Run.{Run, Parts, fontGlyph, cluster, before, whole, State, start, opens, takes, allowed, next}
 use Rattle.label.specs.Sound.{sound, runOf, glyphsOf}
-use Rattle.label.specs.Write.{normal}
+use Rattle.label.specs.Write.{Label, normal}
 use Rattle.label.specs.Attribute.{isGood, gives, further}
 use Rattle.label.specs.Pick.{inside}
 use Rattle.label.specs.Calls.{askedFor}
 use Rattle.label.specs.Wire.{halves, words, noLeftOver}
+use Rattle.label.specs.Sheet.{header, recordLength, isRecord, recordLabel}
 
 -- whether a row's cause holds, its number and its place
 pub record Check : Type 0 where
@@ -193,3 +194,24 @@ askedChecks asked text indices us cs gs =
 
 unfoldable pub askedByteChecks : Bool → ℕ → ℕ → List ℕ → List ℕ → List ℕ → List Check
 askedByteChecks asked text indices us cs gs = check (not (noLeftOver us cs gs)) 19 0 ∷ askedChecks asked text indices (halves us) (words cs) (words gs)
+
+-- ── a sheet's file: document 02, CR 3 ──
+
+-- 26 of each record in order; the first `skip` bytes belong to a record already judged
+unfoldable pub recordChecks : ℕ → ℕ → List ℕ → List Check
+recordChecks skip k [] = []
+recordChecks (suc skip) k (b ∷ bs) = recordChecks skip k bs
+recordChecks zero k (b ∷ bs) = check (not (isRecord (b ∷ bs))) 26 k ∷ recordChecks (recordLength (b ∷ bs) - 1) (suc k) bs
+
+-- the labels of the records that the lengths say
+unfoldable pub saidLabels : ℕ → List ℕ → List Label
+saidLabels skip [] = []
+saidLabels (suc skip) (b ∷ bs) = saidLabels skip bs
+saidLabels zero (b ∷ bs) = recordLabel (b ∷ bs) ∷ saidLabels (recordLength (b ∷ bs) - 1) bs
+
+-- 25, 26, 27 of a file and a list of `room` numbers, "in this order"
+unfoldable pub sheetChecks : ℕ → List ℕ → List Check
+sheetChecks room file =
+    check (not (begins header file)) 25 0 ∷
+    (recordChecks 0 0 (drop 5 file) ++
+    (check (not (leb (2 * length (saidLabels 0 (drop 5 file))) room)) 27 (length (saidLabels 0 (drop 5 file))) ∷ []))

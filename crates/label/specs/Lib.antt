@@ -19,3 +19,4 @@ pub mod Labels
 pub mod Cases
 pub mod Demands
 pub mod Restoring
+pub mod Answering

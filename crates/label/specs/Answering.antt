@@ -1,0 +1,88 @@
+-- Document 02, CR 3: what a sheet's answers promise, stated on the definitions that the contracts of the calls cite: a record whose fields are its
+-- sentences. proofs/Answering.antt has a value of it. A field whose name has `byte` says the same of the call for C.
+-- Assumes nothing.
+use Prim.Native.Nat.{ℕ, suc, _+_, _*_, _/_, _≤_}
+use mathlib.Core.Path.{_≡_}
+use mathlib.Core.Logic.{_↔_, _⊎_}
+use mathlib.Core.Bool.{true}
+use mathlib.Core.List.{List, [], _∷_, _++_}
+use lib.IntN.{ℤ, pos}
+use lib.ListN.{length, take, drop}
+use Rattle.label.specs.Outcome.{Outcome, ok, no}
+use Rattle.label.specs.Run.{Run, read}
+use Rattle.label.specs.Write.{Label}
+use Rattle.label.specs.Calls.{filled, filledCount, filledAfter, readInto}
+use Rattle.label.specs.Wire.{fromWords, words, readBytes}
+use Rattle.label.specs.Sheet.{sheetFile, fitsFile, labelsOf, answerOf, answer, answers, sheetInto, sheetIntoBytes, numberBytesAfter}
+use Rattle.label.specs.Checks.{GivenBy, sheetChecks}
+use Rattle.label.specs.Demands.{Roomy, bytes}
+
+-- a file can hold these labels, and a list of `room` numbers their answers
+abbrev pub Holds : List Label → ℕ → Type 0
+Holds ls room = (fitsFile ls ≡ true) × (2 * length ls ≤ room)
+
+-- "every accepted file is the bytes of exactly one list of labels": it is the file of these, and of no others
+pub record OneList (file : List ℕ) (ls : List Label) : Type 0 where
+  pub fits : fitsFile ls ≡ true
+  pub is : sheetFile ls ≡ file
+  pub only : (ms : List Label) → fitsFile ms ≡ true → sheetFile ms ≡ file → ms ≡ ls
+
+-- the answer list that held `old`, after the call on the file of these labels; the same of the bytes that C lends
+abbrev pub answered : List Label → List ℤ → List ℤ
+answered ls old = filledAfter (sheetInto (length old) (sheetFile ls)) old
+
+abbrev pub answeredBytes : List Label → List ℕ → List ℕ
+answeredBytes ls old = numberBytesAfter (sheetIntoBytes (length old) (sheetFile ls)) old
+
+-- the two numbers of label k in an answer list, and in its bytes
+abbrev pub answerAt : ℕ → List ℤ → List ℤ
+answerAt k list = take 2 (drop (2 * k) list)
+
+abbrev pub answerInBytes : ℕ → List ℕ → List ℤ
+answerInBytes k list = words (take 8 (drop (8 * k) list))
+
+-- "large buffers" for a single reading of a label: 16 to 18 don't hold
+abbrev pub Large : Label → ℕ → ℕ → ℕ → Type 0
+Large l u c g = (r : Run) → read (l .text) (l .indices) ≡ ok r → Roomy r u c g
+
+-- what the call with outcome o leaves in an answer list: the answers to the labels of the file, two places each; or a refusal, and the list as it was
+abbrev pub Answers : Outcome (List ℤ) → ℕ → List ℕ → List ℤ → Type 0
+Answers o room file old =
+    ((ls : List Label) × (labelsOf file ≡ ok ls) × (2 * length ls ≤ room) × (filledCount o ≡ ok (2 * length ls)) × (filledAfter o old ≡ filled (answers ls) old))
+    ⊎ ((n : ℕ) × (p : ℕ) × GivenBy (sheetChecks room file) n p × (filledCount o ≡ no n p) × (filledAfter o old ≡ old))
+
+-- the same of the bytes that C lends
+abbrev pub AnswersBytes : Outcome (List ℤ) → ℕ → List ℕ → List ℕ → Type 0
+AnswersBytes o room file old =
+    ((ls : List Label) × (labelsOf file ≡ ok ls) × (2 * length ls ≤ room) × (filledCount o ≡ ok (2 * length ls)) × (numberBytesAfter o old ≡ filled (fromWords (answers ls)) old))
+    ⊎ ((n : ℕ) × (p : ℕ) × GivenBy (sheetChecks room file) n p × (filledCount o ≡ no n p) × (numberBytesAfter o old ≡ old))
+
+pub record Answering : Type 0 where
+  -- the file of every list of labels that fits the format is read as that list
+  pub back : (ls : List Label) → fitsFile ls ≡ true → labelsOf (sheetFile ls) ≡ ok ls
+  -- every file that is read as a list of labels is the file of that list, and of no other; so is every file that the call accepts
+  pub one-list : (file : List ℕ) (ls : List Label) → bytes file ≡ true → labelsOf file ≡ ok ls → OneList file ls
+  pub accepts : (room : ℕ) (file : List ℕ) (list : List ℤ) → bytes file ≡ true
+      → (sheetInto room file ≡ ok list) ↔ ((ls : List Label) × OneList file ls × (2 * length ls ≤ room) × (list ≡ answers ls))
+  -- "They equal those of single readings with large buffers, for every list of labels in such a file, at every position", whatever the lists held before
+  pub single : (xs ys : List Label) (l : Label) (old : List ℤ) (u c g : ℕ) → Holds (xs ++ (l ∷ ys)) (length old) → Large l u c g
+      → answerAt (length xs) (answered (xs ++ (l ∷ ys)) old) ≡ answerOf (readInto u c g (l .text) (l .indices))
+  pub byte-single : (xs ys : List Label) (l : Label) (old : List ℕ) (u c g : ℕ) → Holds (xs ++ (l ∷ ys)) (length old / 4) → Large l (u / 2) (c / 4) (g / 4)
+      → answerInBytes (length xs) (answeredBytes (xs ++ (l ∷ ys)) old) ≡ answerOf (readBytes u c g (l .text) (l .indices))
+  -- "A refused label changes no other's answer": one label in place of another, or two that change places, refused or not, leave all other answers
+  pub replaced : (xs ys : List Label) (l m : Label) (old : List ℤ) (k : ℕ) → Holds (xs ++ (l ∷ ys)) (length old) → Holds (xs ++ (m ∷ ys)) (length old) → (k ≡ length xs → ⊥)
+      → answerAt k (answered (xs ++ (l ∷ ys)) old) ≡ answerAt k (answered (xs ++ (m ∷ ys)) old)
+  pub swapped : (xs ys zs : List Label) (l m : Label) (old : List ℤ) (k : ℕ) → Holds (xs ++ (l ∷ (ys ++ (m ∷ zs)))) (length old)
+      → (k ≡ length xs → ⊥) → (k ≡ length xs + suc (length ys) → ⊥)
+      → answerAt k (answered (xs ++ (l ∷ (ys ++ (m ∷ zs)))) old) ≡ answerAt k (answered (xs ++ (m ∷ (ys ++ (l ∷ zs)))) old)
+  pub byte-replaced : (xs ys : List Label) (l m : Label) (old : List ℕ) (k : ℕ) → Holds (xs ++ (l ∷ ys)) (length old / 4) → Holds (xs ++ (m ∷ ys)) (length old / 4)
+      → (k ≡ length xs → ⊥) → answerInBytes k (answeredBytes (xs ++ (l ∷ ys)) old) ≡ answerInBytes k (answeredBytes (xs ++ (m ∷ ys)) old)
+  -- "0 and 0 when accepted", and only then
+  pub accepted : (l : Label) → (answer l ≡ (pos 0 ∷ pos 0 ∷ [])) ↔ ((r : Run) × (read (l .text) (l .indices) ≡ ok r))
+  -- "25: mark or version wrong or cut off; 26: file ends inside a record, place the record; 27: answer list too short, place the labels in the file; in this
+  -- order": given exactly when its cause holds and no earlier one does
+  pub fixed : (room : ℕ) (file : List ℕ) (n p : ℕ) → (sheetInto room file ≡ no n p) ↔ GivenBy (sheetChecks room file) n p
+  pub bytes-fixed : (room : ℕ) (file : List ℕ) (n p : ℕ) → (sheetIntoBytes room file ≡ no n p) ↔ GivenBy (sheetChecks (room / 4) file) n p
+  -- "a call that fills a lent list or buffer returns how many places it filled, and places behind them stay"; every refusal changes no lent place
+  pub memory : (file : List ℕ) (old : List ℤ) → Answers (sheetInto (length old) file) (length old) file old
+  pub byte-memory : (file old : List ℕ) → AnswersBytes (sheetIntoBytes (length old) file) (length old / 4) file old
