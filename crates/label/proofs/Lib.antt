@@ -18,3 +18,4 @@ pub mod Checks
 pub mod Sizes
 pub mod Escapes
 pub mod Restoring
+pub mod Sheets
