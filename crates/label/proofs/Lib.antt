@@ -18,4 +18,5 @@ pub mod Checks
 pub mod Sizes
 pub mod Escapes
 pub mod Restoring
+pub mod Places
 pub mod Sheets
