@@ -9,7 +9,7 @@ use lib.IntN.{ℤ}
 use lib.ListN.{length}
 use Rattle.label.specs.Outcome.{Outcome, ok, no, need, _>>=_, _>>_}
 use Rattle.label.specs.Rounded.{rounded, beside}
-use Rattle.label.specs.Run.{Run, whole, placed, read}
+use Rattle.label.specs.Run.{Run, read}
 use Rattle.label.specs.Sound.{clustersOf, glyphsOf, wholeClusters, wholeGlyphs, soundRun, runOf, sound}
 use Rattle.label.specs.Write.{Label, normal, write}
 use Rattle.label.specs.Pick.{holding, touched, turned, inside, pickUnits, pickGlyphs}

@@ -130,7 +130,7 @@ fn put_u32(buf: &mut [u8], at: usize, n: u32)
     buf[at + 3] = (n >> 24 & 0xff) as u8;
 }
 
-fn get_u32(buf: &[u8], at: usize) -> u32
+pub fn get_u32(buf: &[u8], at: usize) -> u32
     requires { ⌜ at + 3 < length (now buf) ⌝ }
     ensures { λ r. ⌜ r ≡ wordAt (now (buf .entry)) at ⌝ }
 {
@@ -141,7 +141,7 @@ fn get_u32(buf: &[u8], at: usize) -> u32
     b0 + b1 * 256 + b2 * 65536 + b3 * 16777216
 }
 
-fn put_i32(buf: &mut [u8], at: usize, v: i32)
+pub fn put_i32(buf: &mut [u8], at: usize, v: i32)
     requires { ⌜ at + 3 < length (now buf) ⌝ }
     ensures { λ _. ⌜ now (buf .exit) ≡ putInt (now (buf .entry)) at v ⌝ }
 {
@@ -170,7 +170,7 @@ fn put_u16(buf: &mut [u8], at: usize, n: u16)
     buf[at + 1] = (n >> 8) as u8;
 }
 
-fn get_u16(buf: &[u8], at: usize) -> u16
+pub fn get_u16(buf: &[u8], at: usize) -> u16
     requires { ⌜ at + 1 < length (now buf) ⌝ }
     ensures { λ r. ⌜ r ≡ halfAt (now (buf .entry)) at ⌝ }
 {

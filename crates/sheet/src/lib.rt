@@ -1,0 +1,176 @@
+// A sheet's labels in one call: the records of its file are found, and each label is judged where it stands in the file.
+ghost use mathlib.Core.Path.{_≡_};
+ghost use mathlib.Core.List.{[], _∷_};
+ghost use Prim.Native.Nat.{_/_, _≤_};
+ghost use lib.ListN.{length};
+ghost use Rattle.label.specs.Calls.{refusal, fillingOutcome, filledCount, filledAfter};
+ghost use Rattle.label.specs.Sheet.{answer as answerTo, sheetInto, sheetIntoBytes, numberBytesAfter};
+ghost use Rattle.sheet.specs.Records.{recordAt, labelIn, Accepted};
+use label::Filling;
+use label::Refusal;
+
+// ── records ──
+
+// Where a record's text and indices start, and where it ends.
+struct Record {
+    text: usize,
+    indices: usize,
+    end: usize,
+}
+
+// A record, or that the file ends inside it.
+enum Found {
+    Whole(Record),
+    Cut,
+}
+
+// The record at a place: two lengths, of 2 and of 4 bytes, the text and the indices.
+fn record_at(file: &[u8], at: usize) -> Found
+    requires { ⌜ at ≤ length (now file) ⌝ }
+    ensures { λ r. ⌜ r ≡ recordAt (now (file .entry)) at ⌝ }
+{
+    if file.len() - at < 6 {
+        return Found::Cut;
+    }
+    let text = at + 6;
+    let indices = text + words::get_u16(file, at) as usize;
+    let end = indices + words::widened(words::get_u32(file, at + 2));
+    if file.len() < end {
+        return Found::Cut;
+    }
+    Found::Whole(Record { text, indices, end })
+}
+
+// ── the file ──
+
+fn refused(number: usize, place: usize) -> Filling
+    ensures { λ r. ⌜ r ≡ Filling.Refused (refusal number place) ⌝ }
+{
+    Filling::Refused(Refusal { number, place })
+}
+
+// 25 to 27 of a file and an answer list of `room` numbers, or how many numbers the answers are.
+fn judge(file: &[u8], room: usize) -> Filling
+    ensures { λ r. ⌜ fillingOutcome r ≡ filledCount (sheetInto room (now (file .entry))) ⌝ }
+{
+    if !words::stands_at(file, 0, b"SLB\x01\x00") {
+        return refused(25, 0);
+    }
+    let mut n = 0;
+    let mut at = 5;
+    while at < file.len() {
+        match record_at(file, at) {
+            Found::Whole(x) => {
+                n += 1;
+                at = x.end;
+            }
+            Found::Cut => {
+                return refused(26, n);
+            }
+        }
+    }
+    if room / 2 < n {
+        return refused(27, n);
+    }
+    Filling::Filled(2 * n)
+}
+
+// ── answers ──
+
+// The answer to a label: number and place of its refusal, 0 and 0 where it is accepted.
+struct Answer {
+    number: i32,
+    place: i32,
+}
+
+fn answer_to(file: &[u8], x: Record) -> Answer
+    requires { ⌜ (x .text ≤ x .indices) × (x .indices ≤ x .end) × (x .end ≤ length (now file)) ⌝ }
+    ensures { λ r. ⌜ (r .number ∷ r .place ∷ []) ≡ answerTo (labelIn (now (file .entry)) x) ⌝ }
+{
+    match reader::survey(&file[x.text..x.indices], &file[x.indices..x.end]) {
+        label::Reading::Read { counts, rounded } => Answer {
+            number: 0,
+            place: 0,
+        },
+        label::Reading::Refused(r) => Answer {
+            number: r.number as i32,
+            place: r.place as i32,
+        },
+    }
+}
+
+fn put_answers(file: &[u8], answers: &mut [i32])
+    requires { ⌜ Accepted (now file) (length (now answers)) ⌝ }
+    ensures { λ _. ⌜ now (answers .exit) ≡ filledAfter (sheetInto (length (now (answers .entry))) (now (file .entry))) (now (answers .entry)) ⌝ }
+{
+    let mut k = 0;
+    let mut at = 5;
+    while at < file.len() {
+        match record_at(file, at) {
+            Found::Whole(x) => {
+                let a = answer_to(file, x);
+                answers[k] = a.number;
+                answers[k + 1] = a.place;
+                k += 2;
+                at = x.end;
+            }
+            // An accepted file has no such record.
+            Found::Cut => {
+                return;
+            }
+        }
+    }
+}
+
+// The same as bytes, 4 a number.
+fn put_answer_bytes(file: &[u8], answers: &mut [u8])
+    requires { ⌜ Accepted (now file) (length (now answers) / 4) ⌝ }
+    ensures { λ _. ⌜ now (answers .exit) ≡ numberBytesAfter (sheetIntoBytes (length (now (answers .entry))) (now (file .entry))) (now (answers .entry)) ⌝ }
+{
+    let mut k = 0;
+    let mut at = 5;
+    while at < file.len() {
+        match record_at(file, at) {
+            Found::Whole(x) => {
+                let a = answer_to(file, x);
+                words::put_i32(answers, k, a.number);
+                words::put_i32(answers, k + 4, a.place);
+                k += 8;
+                at = x.end;
+            }
+            Found::Cut => {
+                return;
+            }
+        }
+    }
+}
+
+// ── the calls ──
+
+// The answers to the labels of a sheet's file, two numbers each, where none of 25 to 27 holds.
+pub fn read_sheet(file: &[u8], answers: &mut [i32]) -> Filling
+    ensures result { λ r. ⌜ fillingOutcome r ≡ filledCount (sheetInto (length (now (answers .entry))) (now (file .entry))) ⌝ }
+    ensures answers { λ _. ⌜ now (answers .exit) ≡ filledAfter (sheetInto (length (now (answers .entry))) (now (file .entry))) (now (answers .entry)) ⌝ }
+{
+    match judge(file, answers.len()) {
+        Filling::Filled(n) => {
+            put_answers(file, answers);
+            Filling::Filled(n)
+        }
+        Filling::Refused(x) => Filling::Refused(x),
+    }
+}
+
+// The same with an answer list of bytes: a number is 4, two's complement, low byte first.
+pub fn read_sheet_bytes(file: &[u8], answers: &mut [u8]) -> Filling
+    ensures result { λ r. ⌜ fillingOutcome r ≡ filledCount (sheetIntoBytes (length (now (answers .entry))) (now (file .entry))) ⌝ }
+    ensures answers { λ _. ⌜ now (answers .exit) ≡ numberBytesAfter (sheetIntoBytes (length (now (answers .entry))) (now (file .entry))) (now (answers .entry)) ⌝ }
+{
+    match judge(file, answers.len() / 4) {
+        Filling::Filled(n) => {
+            put_answer_bytes(file, answers);
+            Filling::Filled(n)
+        }
+        Filling::Refused(x) => Filling::Refused(x),
+    }
+}
