@@ -1,4 +1,4 @@
--- A sheet's file, record by record.
+-- A sheet's file, record by record: what it comes to, read back and forth; and how many numbers its answers are.
 -- Assumes nothing.
 use Prim.Native.Nat.{ℕ, zero, suc, _+_, _*_, _-_, _≤_, _<_}
 use native.Mathlib.Omega.{arith}
@@ -9,11 +9,12 @@ use borrow.Author.Tests.{leb-true, le-leb, ltb-true, lt-ltb, eqb-true}
 use lib.Dec.{eqb, ltb}
 use lib.ListN.{length, getD, take, drop, length-append, take-append-drop, length-drop}
 use lib.Seq.{length-take-le, take-append-seam, drop-append-seam, drop-drop, take-add}
-use Rattle.label.specs.Outcome.{ok, no, _>>=_}
-use Rattle.label.specs.Write.{Label}
+use Rattle.label.specs.Outcome.{Outcome, ok, no, _>>=_}
 use Rattle.label.specs.Bytes.{ascii, begins}
+use Rattle.label.specs.Run.{Run, read}
+use Rattle.label.specs.Write.{Label}
 use Rattle.label.specs.Wire.{fromHalves}
-use Rattle.label.specs.Sheet.{header, recordBytes, recordsBytes, sheetFile, fitsFile, textLength, indicesLength, recordLength, isRecord, recordLabel, labelsFrom, labelsOf}
+use Rattle.label.specs.Sheet.{header, recordBytes, recordsBytes, sheetFile, fitsFile, textLength, indicesLength, recordLength, isRecord, recordLabel, labelsFrom, labelsOf, answerOf, answer, answers}
 use Rattle.label.specs.Demands.{bytes}
 use Rattle.label.proofs.Basics.{and-l, and-r, bind-ok, need-ok}
 use Rattle.label.proofs.Walks.{ok-path}
@@ -25,6 +26,7 @@ labels-skip zero k s = refl
 labels-skip (suc j) k [] = refl
 labels-skip (suc j) k (b ∷ s) = labels-skip j k s
 
+-- a record has some bytes
 length-some : (s : List ℕ) → suc (recordLength s - 1) ≡ recordLength s
 unfolding recordLength
 length-some s = omega arith
@@ -55,37 +57,37 @@ module _ (k : ℕ) where
 -- ── a record that was written is read back ──
 
 module _ (l : Label) (rest : List ℕ) where
-  abbrev file : List ℕ
-  file = recordBytes l ++ rest
+  abbrev here : List ℕ
+  here = recordBytes l ++ rest
 
-  text-length : textLength file ≡ length (l .text)
+  text-length : textLength here ≡ length (l .text)
   unfolding textLength recordBytes fromHalves
   text-length = omega arith
 
-  indices-length : indicesLength file ≡ length (l .indices)
+  indices-length : indicesLength here ≡ length (l .indices)
   unfolding indicesLength recordBytes fromHalves
   indices-length = four-bytes (length (l .indices))
 
-  record-length : recordLength file ≡ length (recordBytes l)
+  record-length : recordLength here ≡ length (recordBytes l)
   unfolding recordLength
   record-length = rw (text-length, indices-length) (sym bytes-of)
     where
       bytes-of : length (recordBytes l) ≡ 6 + length (l .text) + length (l .indices)
       bytes-of = unfold recordBytes fromHalves in omega (arith, length-append (l .text) (l .indices))
 
-  is-record : isRecord file ≡ true
+  is-record : isRecord here ≡ true
   unfolding isRecord
-  is-record = le-leb (recordLength file) (length file) (omega (arith, record-length, length-append (recordBytes l) rest))
+  is-record = le-leb (recordLength here) (length here) (omega (arith, record-length, length-append (recordBytes l) rest))
 
-  some-byte : 1 ≤ length file
+  some-byte : 1 ≤ length here
   unfolding recordBytes fromHalves
   some-byte = omega arith
 
-  record-label : recordLabel file ≡ l
+  record-label : recordLabel here ≡ l
   unfolding recordLabel
-  record-label = rw (text-length, indices-length, ← drop-drop (length (l .text)) 6 file) taken
+  record-label = rw (text-length, indices-length, ← drop-drop (length (l .text)) 6 here) taken
     where
-      taken : record { text = take (length (l .text)) (drop 6 file); indices = take (length (l .indices)) (drop (length (l .text)) (drop 6 file)) } ≡ l
+      taken : record { text = take (length (l .text)) (drop 6 here); indices = take (length (l .indices)) (drop (length (l .text)) (drop 6 here)) } ≡ l
       taken = unfold recordBytes fromHalves in
           (rw (append-assoc (l .text) (l .indices) rest, take-append-seam (l .text) (l .indices ++ rest), drop-append-seam (l .text) (l .indices ++ rest), take-append-seam (l .indices) rest))
 
@@ -106,7 +108,7 @@ record Forth (s : List ℕ) : Type 0 where
   fewer : ltb (length (recordLabel s .indices)) 4294967296 ≡ true
   is : recordBytes (recordLabel s) ++ drop (recordLength s) s ≡ s
 
--- text and indices of n and m bytes
+-- text and indices of n and m bytes, and the rest
 parts-forth : (n m : ℕ) (s : List ℕ) → (take n s ++ take m (drop n s)) ++ drop (n + m) s ≡ s
 parts-forth n m s = rw (← take-add n m s) (take-append-drop (n + m) s)
 
@@ -151,7 +153,7 @@ record-forth (a ∷ b ∷ c ∷ d ∷ f ∷ g ∷ s) h e =
       is = rw (di, et, ei, dr, p, q, z .p, z .q, z .r, z .s, parts-forth n m s);
     }
 
--- every list of records is that of the labels that it is read as, and they fit; the first `skip` bytes belong to a record already read
+-- the records of these labels, which fit
 abbrev Records : List ℕ → List Label → Type 0
 Records s ls = (fitsFile ls ≡ true) × (recordsBytes ls ≡ s)
 
@@ -159,6 +161,7 @@ no-records : (ls : List Label) → ok [] ≡ ok ls → Records [] ls
 unfolding fitsFile recordsBytes
 no-records ls e = subst (Records []) (ok-path [] ls e) (refl, refl)
 
+-- records are those of the labels that they are read as; the first `skip` bytes belong to a record already read
 records-forth : (s : List ℕ) (skip k : ℕ) (ls : List Label) → bytes s ≡ true → labelsFrom skip k s ≡ ok ls → Records (drop skip s) ls
 unfolding bytes labelsFrom fitsFile recordsBytes
 records-forth [] zero k ls h e = no-records ls e
@@ -187,7 +190,7 @@ bytes-drop zero s h = h
 bytes-drop (suc j) [] h = h
 bytes-drop (suc j) (b ∷ s) h = bytes-drop j s (and-r (ltb b 256) (bytes s) h)
 
--- the file of labels that fit is read as them
+-- the file of a list of labels is read as that list
 pub back : (ls : List Label) → labelsOf (sheetFile ls) ≡ ok ls
 unfolding labelsOf sheetFile header begins ascii fromHalves
 back ls = records-back ls 0
@@ -199,3 +202,22 @@ forth file ls h e =
     let (t, x) = need-ok (begins header file) 25 0 _ ls e in
     let (f, q) = records-forth (drop 5 file) 0 0 ls (bytes-drop 5 file h) x in
     (f, rw q (unfold header ascii fromHalves in begins-with header file t))
+
+-- ── the answers ──
+
+pub length-answer : (l : Label) → length (answer l) ≡ 2
+length-answer l = go (read (l .text) (l .indices))
+  where
+    go : (o : Outcome Run) → length (answerOf o) ≡ 2
+    go (ok r) = refl
+    go (no n p) = refl
+
+pub length-answers : (ls : List Label) → length (answers ls) ≡ 2 * length ls
+unfolding answers
+length-answers [] = refl
+length-answers (l ∷ ls) = length-append (answer l) (answers ls) ∙ omega (arith, length-answer l, length-answers ls)
+
+pub answers-append : (xs ys : List Label) → answers (xs ++ ys) ≡ answers xs ++ answers ys
+unfolding answers
+answers-append [] ys = refl
+answers-append (x ∷ xs) ys = rw (answers-append xs ys, append-assoc (answer x) (answers xs) (answers ys))
