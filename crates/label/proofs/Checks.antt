@@ -1,16 +1,16 @@
 -- Each call is what the table's first cause that holds decides.
 -- Assumes nothing.
-use Prim.Native.Nat.{ℕ, zero, suc, _+_, _*_}
+use Prim.Native.Nat.{ℕ, zero, suc, _+_, _*_, _-_}
 use mathlib.Core.Path.{_≡_, refl, sym, _∙_, ap}
 use mathlib.Core.Logic.{_↔_}
 use mathlib.Core.Bool.{Bool, true, false, cond, not, _&&_, _||_, false≢true}
 use mathlib.Core.List.{List, [], _∷_, _++_}
 use lib.Dec.{leb}
 use lib.IntN.{ℤ}
-use lib.ListN.{length}
+use lib.ListN.{length, drop}
 use Rattle.label.specs.Limits.{maxTextBytes, maxIndicesBytes, maxUnits, maxGlyphs, maxIndex}
 use Rattle.label.specs.Outcome.{Outcome, ok, no, need, _>>=_, _>>_}
-use Rattle.label.specs.Bytes.{empty, value}
+use Rattle.label.specs.Bytes.{begins, empty, value}
 use Rattle.label.specs.Text.{lead, starts, scalar, xmlChar, unitsOf, decode, braced, marked, unmarked, textUnits}
 use Rattle.label.specs.Entry.{part, indexDigits, wellFormed, fieldFits, Entry, entryOf, entry, entries}
 use Rattle.label.specs.Run.{Run, Parts, fontGlyph, cluster, before, whole, tail, State, start, opens, takes, allowed, next, placed, step, walk, runFrom, read}
@@ -20,7 +20,8 @@ use Rattle.label.specs.Pick.{inside, touched, turned, pickUnits, pickGly
 use Rattle.label.specs.Attribute.{isGood, gives, further, resolveFrom}
 use Rattle.label.specs.Calls.{readInto, writeInto, listInto, resolveInto, readRaw, askedFor, writeAsked}
 use Rattle.label.specs.Wire.{halves, words, noLeftOver, writeBytes, writeAskedBytes, pickUnitsBytes, pickGlyphsBytes}
-use Rattle.label.specs.Checks.{Check, check, verdict, refuses, GivenBy, textChecks, bitUnits, entryChecks, tailChecks, walkChecks, tailParts, walkParts, saidUnits, saidParts, saidRun, runChecks, labelChecks, readChecks, writeChecks, pickChecks, listChecks, writeByteChecks, pickByteChecks, rawChecks, rawGives, resolveChecks, rawLabelChecks, askedChecks, askedByteChecks}
+use Rattle.label.specs.Sheet.{header, recordLength, isRecord, recordLabel, labelsFrom, labelsOf, answers, sheetInto}
+use Rattle.label.specs.Checks.{Check, check, verdict, refuses, GivenBy, textChecks, bitUnits, entryChecks, tailChecks, walkChecks, tailParts, walkParts, saidUnits, saidParts, saidRun, runChecks, labelChecks, readChecks, writeChecks, pickChecks, listChecks, writeByteChecks, pickByteChecks, rawChecks, rawGives, resolveChecks, rawLabelChecks, askedChecks, askedByteChecks, recordChecks, saidLabels, sheetChecks}
 use Rattle.label.proofs.Basics.{no-ok, or-l, or-r}
 
 -- ── a list of checks before an outcome ──
@@ -55,6 +56,10 @@ verdict-append (c ∷ xs) ys o = go (c .holds) (verdict-append xs ys o)
 seq-bind : {A B : Type 0} (v : Outcome (Unit {0})) (a : A) (f : A → Outcome B) → ((v >> ok a) >>= f) ≡ (v >> f a)
 seq-bind (ok x) a f = refl
 seq-bind (no n p) a f = refl
+
+seq-out : {A B : Type 0} (v : Outcome (Unit {0})) (x : Outcome A) (f : A → Outcome B) → ((v >> x) >>= f) ≡ (v >> (x >>= f))
+seq-out (ok a) x f = refl
+seq-out (no n p) x f = refl
 
 -- ── the text ──
 
@@ -181,10 +186,6 @@ text-by-checks {A = A} text cs f o h =
     ∙ ap (λ (x : Outcome A). verdict (textChecks 0 0 text) >> x) (two fine few (unmarked all) ∙ rw h (sym (check-need fine 4 0 (check (not few) 5 0 ∷ cs) o ∙ rw (check-need few 5 0 cs o))))
     ∙ sym (verdict-append (textChecks 0 0 text) rest o)
   where
-    seq-out : (v : Outcome (Unit {0})) (x : Outcome (List ℕ)) (f : List ℕ → Outcome A) → ((v >> x) >>= f) ≡ (v >> (x >>= f))
-    seq-out (ok a) x f = refl
-    seq-out (no n p) x f = refl
-
     two : (a b : Bool) (us : List ℕ) → ((need a 4 0 >> (need b 5 0 >> ok us)) >>= f) ≡ (need a 4 0 >> (need b 5 0 >> f us))
     two false b us = refl
     two true false us = refl
@@ -293,6 +294,33 @@ raw-label-by-checks a b text indices =
     ∙ ap (λ (o : Outcome Run). verdict (resolveChecks a text) >> (verdict (resolveChecks b indices) >> o)) (read-by-checks t i)
     ∙ sym (verdict-append (resolveChecks a text) _ (ok (saidRun t i)) ∙ ap (λ (o : Outcome Run). verdict (resolveChecks a text) >> o)
     (verdict-append (resolveChecks b indices) (labelChecks t i) (ok (saidRun t i))))
+
+-- a sheet's file
+labels-by-checks : (bs : List ℕ) (skip k : ℕ) → labelsFrom skip k bs ≡ (verdict (recordChecks skip k bs) >> ok (saidLabels skip bs))
+unfolding labelsFrom recordChecks saidLabels verdict
+labels-by-checks [] zero k = refl
+labels-by-checks [] (suc skip) k = refl
+labels-by-checks (b ∷ bs) (suc skip) k = labels-by-checks bs skip k
+labels-by-checks (b ∷ bs) zero k =
+    let n : ℕ = recordLength (b ∷ bs) - 1 in
+    rw (labels-by-checks bs n (suc k), seq-bind (verdict (recordChecks n (suc k) bs)) (saidLabels n bs) (λ ls. ok (recordLabel (b ∷ bs) ∷ ls)))
+    (sym (check-need (isRecord (b ∷ bs)) 26 k (recordChecks n (suc k) bs) (ok (recordLabel (b ∷ bs) ∷ saidLabels n bs))))
+
+pub sheet-by-checks : (room : ℕ) (file : List ℕ) → sheetInto room file ≡ (verdict (sheetChecks room file) >> ok (answers (saidLabels 0 (drop 5 file))))
+unfolding sheetInto labelsOf sheetChecks
+sheet-by-checks room file =
+    let s : List ℕ = drop 5 file in
+    let ls : List Label = saidLabels 0 s in
+    let c : List Check = recordChecks 0 0 s in
+    let l : List Check = check (not (leb (2 * length ls) room)) 27 (length ls) ∷ [] in
+    let f : List Label → Outcome (List ℤ) = λ x. need (leb (2 * length x) room) 27 (length x) >> ok (answers x) in
+    seq-out (need (begins header file) 25 0) (labelsFrom 0 0 s) f
+    ∙ ap (λ (o : Outcome (List ℤ)). need (begins header file) 25 0 >> o)
+    (ap (λ (o : Outcome (List Label)). o >>= f) (labels-by-checks s 0 0)
+    ∙ seq-bind (verdict c) ls f
+    ∙ ap (λ (o : Outcome (List ℤ)). verdict c >> o) (sym (check-last (leb (2 * length ls) room) 27 (length ls) (ok (answers ls))))
+    ∙ sym (verdict-append c l (ok (answers ls))))
+    ∙ sym (check-need (begins header file) 25 0 (c ++ l) (ok (answers ls)))
 
 -- over bytes: 19 for bytes left over comes first
 handed-by-checks : {A : Type 0} (us cs gs : List ℕ) (l : List Check) (o p : Outcome A) → o ≡ (verdict l >> p)

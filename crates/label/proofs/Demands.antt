@@ -30,7 +30,7 @@ use Rattle.label.proofs.Wires.{length-halves, length-words, halves-back
 
 -- ── the reader and the writer, with room ──
 
-read-into : (t i : List ℕ) (r : Run) (u c g : ℕ) → read t i ≡ ok r → Roomy r u c g → readInto u c g t i ≡ ok r
+pub read-into : (t i : List ℕ) (r : Run) (u c g : ℕ) → read t i ≡ ok r → Roomy r u c g → readInto u c g t i ≡ ok r
 unfolding readInto
 read-into t i r u c g h m =
     rw (h, le-leb (length (r .units)) u (m .for-units), le-leb (2 * length (r .clusters)) c (m .for-clusters), le-leb (4 * length (r .glyphs)) g (m .for-glyphs))

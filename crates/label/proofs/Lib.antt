@@ -20,3 +20,4 @@ pub mod Escapes
 pub mod Restoring
 pub mod Places
 pub mod Sheets
+pub mod Answering
