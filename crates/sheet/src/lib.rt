@@ -87,7 +87,10 @@ fn answer_to(file: &[u8], x: Record) -> Answer
     requires { ⌜ (x .text ≤ x .indices) × (x .indices ≤ x .end) × (x .end ≤ length (now file)) ⌝ }
     ensures { λ r. ⌜ (r .number ∷ r .place ∷ []) ≡ answerTo (labelIn (now (file .entry)) x) ⌝ }
 {
-    match reader::survey(&file[x.text..x.indices], &file[x.indices..x.end]) {
+    let text = x.text;
+    let indices = x.indices;
+    let end = x.end;
+    match reader::survey(&file[text..indices], &file[indices..end]) {
         label::Reading::Read { counts, rounded } => Answer {
             number: 0,
             place: 0,
@@ -109,8 +112,10 @@ fn put_answers(file: &[u8], answers: &mut [i32])
         match record_at(file, at) {
             Found::Whole(x) => {
                 let a = answer_to(file, x);
-                answers[k] = a.number;
-                answers[k + 1] = a.place;
+                let number = a.number;
+                let place = a.place;
+                answers[k] = number;
+                answers[k + 1] = place;
                 k += 2;
                 at = x.end;
             }
