@@ -266,5 +266,5 @@ pub extern "C" fn glyph_label_fault(
 ) -> GlyphLabelPart
     ensures { λ r. ⌜ r ≡ partAnswer (faultPart (now (text .entry)) (now (indices .entry)) number place) ⌝ }
 {
-    part_answer(reader::find_part(text, indices, number, place))
+    part_answer(faults::find_part(text, indices, number, place))
 }

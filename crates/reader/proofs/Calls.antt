@@ -1,4 +1,4 @@
--- The calls: from the text to its units, from the counts that were found to the run, and 16 to 18.
+-- The calls: where the units start, from the counts that were found to the run, and 16 to 18.
 -- Assumes nothing.
 use Prim.Native.Nat.{ℕ, _*_, _≤_, _<_}
 use native.Mathlib.Omega.{arith}
@@ -8,12 +8,12 @@ use mathlib.Core.List.{List, [], _∷_}
 use borrow.Author.Tests.{le-leb, lt-leb, leb-true}
 use lib.Dec.{eqb, leb}
 use lib.IntN.{ℤ}
-use lib.ListN.{length, getD, drop, length-replicate, List·getD-eq-default}
+use lib.ListN.{length, getD, length-replicate, List·getD-eq-default}
 use Rattle.label.specs.Outcome.{Outcome, ok, no, need, _>>=_, _>>_}
 use Rattle.label.specs.Bytes.{empty}
-use Rattle.label.specs.Text.{decode, marked, textUnits}
+use Rattle.label.specs.Text.{marked}
 use Rattle.label.specs.Entry.{entries}
-use Rattle.label.specs.Run.{Run, Parts, State, start, opens, takes, next, walk, tail, before, cluster, fontGlyph, runFrom, read}
+use Rattle.label.specs.Run.{Run, Parts, State, start, opens, takes, next, walk, tail, before, cluster, fontGlyph, read}
 use Rattle.label.specs.Sound.{flatClusters, flatGlyphs}
 use Rattle.label.specs.Rounded.{beside}
 use Rattle.label.specs.Calls.{refusal, readingOutcome, readingRounded, readInto, counts, counted, filled, unitsAfter, clustersAfter, glyphsAfter}
@@ -24,18 +24,16 @@ use Rattle.label.specs.declared.Refusal.{Refusal}
 use Rattle.label.specs.declared.Reading.{Reading}
 use Rattle.label.specs.declared.Reading.the-variants.{Read, Refused}
 use Rattle.label.proofs.Checks.{runWith}
-use Rattle.label.proofs.Basics.{clash, need-ok, no-ok, and-r}
+use Rattle.label.proofs.Basics.{need-ok, no-ok, and-r}
 use Rattle.label.proofs.Walks.{ok-path, Walked, walk-ok}
-use Rattle.label.proofs.Sounds.{text-ok, WasRead, read-ok}
+use Rattle.label.proofs.Sounds.{WasRead, read-ok}
 use Rattle.text.specs.Moves.{unitsFrom}
-use Rattle.text.specs.Texts.{unitsStart, unitsRead, textRead}
-use Rattle.text.specs.declared.TextUnits.{TextUnits}
-use Rattle.text.specs.declared.TextRead.{TextRead}
-use Rattle.text.specs.declared.TextRead.the-variants.{Units, Refused as TextRefused}
+use Rattle.text.specs.Texts.{unitsStart}
 use Rattle.text.proofs.Texts.{text-from}
-use Rattle.reader.specs.Steps.{tailParts}
-use Rattle.reader.proofs.Walking.{walk-end, units-at}
-use Rattle.reader.proofs.Endings.{tail-is}
+use Rattle.survey.specs.Steps.{tailParts}
+use Rattle.survey.proofs.Walking.{walk-end, units-at}
+use Rattle.survey.proofs.Endings.{tail-is}
+use Rattle.survey.proofs.Judging.{TextHas, text-has}
 
 -- ── where the units start ──
 
@@ -53,64 +51,6 @@ module _ (t : List ℕ) where
   pub start-plain : (b : Bool) → b ≡ marked t → b ≡ false → 0 ≡ unitsStart t
   unfolding unitsStart
   start-plain b e h = rw (sym e ∙ h)
-
--- ── from the text to its units ──
-
--- a text whose run has the units from that byte on
-pub record TextHas (t : List ℕ) (n at : ℕ) : Type 0 where
-  pub is : textUnits t ≡ ok (unitsFrom t at)
-  pub decodes : decode 0 at (drop at t) ≡ ok (unitsFrom t at)
-  pub count : n ≡ length (unitsFrom t at)
-  pub few : n ≤ 4096
-
-text-has : (t us : List ℕ) → textUnits t ≡ ok us → TextHas t (length us) (unitsStart t)
-text-has t us h =
-    let d : decode 0 (unitsStart t) (drop (unitsStart t) t) ≡ ok us = text-from t us h in
-    let e : unitsFrom t (unitsStart t) ≡ us = units-at t (unitsStart t) us d in
-    record {
-      is = h ∙ ap ok (sym e);
-      decodes = d ∙ ap ok (sym e);
-      count = ap length (sym e);
-      few = leb-true (length us) 4096 (text-ok t us h .fifth);
-    }
-
-pub text-units : (t : List ℕ) (r : TextRead) (u : TextUnits) → r ≡ textRead t → r ≡ Units u → TextHas t (u .count) (u .start)
-unfolding textRead
-text-units t r u e h = go (textUnits t) refl (sym e ∙ h)
-  where
-    go : (o : Outcome (List ℕ)) → textUnits t ≡ o → unitsRead (unitsStart t) o ≡ Units u → TextHas t (u .count) (u .start)
-    go (ok us) q x =
-        let n : length us ≡ u .count = cc in
-        let s : unitsStart t ≡ u .start = cc in
-        subst (λ (m : ℕ). TextHas t m (u .start)) n (subst (λ (m : ℕ). TextHas t (length us) m) s (text-has t us q))
-    go (no i p) q x = let z : true ≡ false = cc in clash true refl z
-
--- ── 1 to 15 ──
-
-module _ (t s : List ℕ) where
-  pub text-long : (r : Reading) → r ≡ Refused (refusal 1 0) → 16384 < length t → readingOutcome r ≡ counted (read t s)
-  unfolding read
-  text-long r e h = rw (e, lt-leb (length t) 16384 h)
-
-  pub indices-long : (r : Reading) → r ≡ Refused (refusal 1 0) → 262144 < length s → readingOutcome r ≡ counted (read t s)
-  unfolding read
-  indices-long r e h = rw (e, lt-leb (length s) 262144 h, and-false (leb (length t) 16384))
-
-  module _ (ht : length t ≤ 16384) (hs : length s ≤ 262144) where
-    read-text : read t s ≡ (textUnits t >>= (λ us. runFrom us s))
-    unfolding read
-    read-text = rw (le-leb (length t) 16384 ht, le-leb (length s) 262144 hs)
-
-    pub read-units : (n at : ℕ) → TextHas t n at → counted (runFrom (unitsFrom t at) s) ≡ counted (read t s)
-    read-units n at x = sym (ap counted (read-text ∙ ap (λ (o : Outcome (List ℕ)). o >>= (λ us. runFrom us s)) (x .is)))
-
-    pub text-refused : (r : TextRead) (x : Refusal) → r ≡ textRead t → r ≡ TextRefused x → no (x .number) (x .place) ≡ counted (read t s)
-    unfolding textRead
-    text-refused r x e h = sym (ap counted (read-text ∙ go (textUnits t) (sym e ∙ h)))
-      where
-        go : (o : Outcome (List ℕ)) → unitsRead (unitsStart t) o ≡ TextRefused x → (o >>= (λ us. runFrom us s)) ≡ no (x .number) (x .place)
-        go (ok us) q = let z : true ≡ false = cc in clash true refl z
-        go (no i p) q = let y : refusal i p ≡ x = cc in rw (← y)
 
 -- ── an accepted label ──
 

@@ -25,11 +25,12 @@ use Rattle.label.proofs.Cursors.{joined, after, added}
 use Rattle.entry.specs.Items.{cap, here}
 use Rattle.entry.specs.declared.Item.{Item}
 use Rattle.entry.specs.declared.EntryRead.the-variants.{Read, Refused}
-use Rattle.reader.specs.Steps.{itemEntry, advanced, entryAt, takenBy, openedHere, clusterPlaces, glyphPlaces, Storable, tailParts}
-use Rattle.reader.proofs.Entries.{empty-eqb, leftFrom, left-is, left-few}
-use Rattle.reader.proofs.Placing.{read-is, refused-is}
-use Rattle.reader.proofs.Walking.{walk-end, stateOf, Stands, Ready, Turned, turned, takes-cut, refusing, step-no, ends-open, ends-shut}
-use Rattle.reader.proofs.Endings.{tail-is}
+use Rattle.survey.specs.Steps.{itemEntry, advanced, entryAt, tailParts}
+use Rattle.reader.specs.Stores.{takenBy, openedHere, clusterPlaces, glyphPlaces, Storable}
+use Rattle.survey.proofs.Entries.{empty-eqb, leftFrom, left-is, left-few}
+use Rattle.survey.proofs.Placing.{read-is, refused-is}
+use Rattle.survey.proofs.Walking.{walk-end, stateOf, Stands, Ready, Turned, turned, takes-cut, refusing, step-no, ends-open, ends-shut}
+use Rattle.survey.proofs.Endings.{tail-is}
 use Rattle.reader.proofs.Stores.{Stored, Flattens, clusters-flatten, glyphs-flatten, room-more, flat-stored}
 
 -- ── an open cluster's glyphs are there ──

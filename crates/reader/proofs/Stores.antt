@@ -18,7 +18,7 @@ use Rattle.label.specs.Sound.{indexNumber, advanceNumber, advanceFits, flatClus
 use Rattle.label.specs.Calls.{filled}
 use Rattle.label.specs.declared.Advance.the-variants.{Given}
 use Rattle.label.specs.declared.Glyph.{Glyph}
-use Rattle.reader.specs.Steps.{openedHere, clusterPlaces, glyphPlaces}
+use Rattle.reader.specs.Stores.{openedHere, clusterPlaces, glyphPlaces}
 
 -- ── a cluster ──
 

@@ -353,7 +353,7 @@ pub fn read_bytes(
     ensures rounded { λ r. ⌜ readingRounded r ≡ beside (roundedIn (now (indices .entry))) (readBytes (length (now (units .entry))) (length (now (clusters .entry))) (length (now (glyphs .entry))) (now (text .entry)) (now (indices .entry))) ⌝ }
     ensures { λ _. ⌜ ReadBytes (readBytes (length (now (units .entry))) (length (now (clusters .entry))) (length (now (glyphs .entry))) (now (text .entry)) (now (indices .entry))) (now (units .entry)) (now (clusters .entry)) (now (glyphs .entry)) (now (units .exit)) (now (clusters .exit)) (now (glyphs .exit)) ⌝ }
 {
-    match reader::survey(text, indices) {
+    match survey::survey(text, indices) {
         label::Reading::Read { counts, rounded } => {
             if units.len() / 2 < counts.units {
                 return refused(16, counts.units);

@@ -90,7 +90,7 @@ fn answer_to(file: &[u8], x: Record) -> Answer
     let text = x.text;
     let indices = x.indices;
     let end = x.end;
-    match reader::survey(&file[text..indices], &file[indices..end]) {
+    match survey::survey(&file[text..indices], &file[indices..end]) {
         label::Reading::Read { counts, rounded } => Answer {
             number: 0,
             place: 0,

@@ -13,7 +13,7 @@ use Rattle.entry.specs.declared.EntryRead.the-variants.{Read}
 use Rattle.reader.proofs.Calls.{Found, found, units-filled, clusters-filled, glyphs-filled}
 use Rattle.reader.proofs.Filling.{Filled, fill-never, storable, filled-on, end-clusters, end-glyphs, clusters-end, glyphs-end}
 use Rattle.reader.proofs.Stores.{stored-start}
-use Rattle.reader.proofs.Walking.{nothing, stands-start, ready-start, read-here, digits-here}
+use Rattle.survey.proofs.Walking.{nothing, stands-start, ready-start, read-here, digits-here}
 use Rattle.reader.proofs.fill.Statement.{statement}
 use Rattle.reader.proofs.fill.Tie as tie
 

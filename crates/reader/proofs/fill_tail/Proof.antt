@@ -6,7 +6,8 @@ use lib.ListN.{length}
 use lib.Seq.{sets}
 use Rattle.label.specs.Run.{cluster, fontGlyph}
 use Rattle.label.specs.Sound.{flatClusters, flatGlyphs}
-use Rattle.reader.specs.Steps.{clusterPlaces, glyphPlaces, tailParts}
+use Rattle.survey.specs.Steps.{tailParts}
+use Rattle.reader.specs.Stores.{clusterPlaces, glyphPlaces}
 use Rattle.reader.proofs.Stores.{opened-yes, clusters-flatten, glyphs-flatten, tail-more, tail-done}
 use Rattle.reader.proofs.fill_tail.Statement.{statement}
 use Rattle.reader.proofs.fill_tail.Tie as tie

@@ -3,7 +3,7 @@ use Rattle.sheet.proofs.answer_to.Statement.{statement}
 use Rattle.sheet.proofs.answer_to.Tie as tie
 use Rattle.sheet.proofs.answer_to.Reads as reads
 use Rattle.sheet.proofs.answer_to.Lts as lts
-use Rattle.reader.proofs.survey.Reads as survey-reads
+use Rattle.survey.proofs.survey.Reads as survey-reads
 
 -- src/lib.rt:93:26
 sub-survey : tie.Need-sub-survey

@@ -1,0 +1,61 @@
+use mathlib.Core.Bool.{Bool, _&&_}
+use mathlib.Core.Path.{sym, _∙_, ap}
+use borrow.Author.Needs.{needs}
+use lib.Dec.{ltb}
+use lib.ListN.{length}
+use Rattle.faults.proofs.Faults.{part-text, part-entry, part-none, part-starts}
+use Rattle.faults.proofs.find_part.Statement.{statement}
+use Rattle.faults.proofs.find_part.Tie as tie
+
+is-of-text-requires : tie.Need-is-of-text-requires
+is-of-text-requires c κs = search needs
+
+both-requires : tie.Need-both-requires
+both-requires c κs = search needs
+
+part-of-requires : tie.Need-part-of-requires
+part-of-requires c κs =
+    let a = c .before .before .before .before .before in
+    let t = c .before .both .ensures ∙ ap (λ (b : Bool). b && ltb (a .args .place) (length (a .args .text .now))) (c .before .before .is-of-text .ensures) in
+    part-starts (a .args .text .now) (a .args .indices .now) (a .args .number) _ _ t (c .if1 .taken)
+
+returns : tie.Need-returns
+returns c =
+    let a = c .before .before .before .before .before .before in
+    let t = c .before .before .both .ensures ∙ ap (λ (b : Bool). b && ltb (a .args .place) (length (a .args .text .now))) (c .before .before .before .is-of-text .ensures) in
+    c .part-of .ensures ∙ part-text _ _ _ _ _ t (c .before .if1 .taken)
+
+is-of-entry-requires : tie.Need-is-of-entry-requires
+is-of-entry-requires c κs = search needs
+
+find-entry-requires : tie.Need-find-entry-requires
+find-entry-requires c κs = search needs
+
+returns-2 : tie.Need-returns-2
+returns-2 c =
+    let a = c .before .before .before .before .before .before .before .before in
+    let t = c .before .before .before .before .both .ensures ∙ ap (λ (b : Bool). b && ltb (a .args .place) (length (a .args .text .now))) (c .before .before .before .before .before .is-of-text .ensures) in
+    c .find-entry .ensures ∙ part-entry _ _ _ _ _ t (c .before .before .before .if1 .left) (sym (c .before .before .is-of-entry .ensures) ∙ c .before .if2 .taken)
+
+part-of-requires-2 : tie.Need-part-of-requires-2
+part-of-requires-2 c κs = search needs
+
+returns-3 : tie.Need-returns-3
+returns-3 c =
+    let a = c .before .before .before .before .before .before .before .before in
+    let t = c .before .before .before .before .both .ensures ∙ ap (λ (b : Bool). b && ltb (a .args .place) (length (a .args .text .now))) (c .before .before .before .before .before .is-of-text .ensures) in
+    c .part-of2 .ensures ∙ part-none _ _ _ _ _ t (c .before .before .before .if1 .left) (sym (c .before .before .is-of-entry .ensures) ∙ c .before .if2 .left)
+
+pub find-part-spec : {M : Type 1} → statement M
+find-part-spec =
+    tie.close
+    (tie.spec
+    is-of-text-requires
+    both-requires
+    part-of-requires
+    returns
+    is-of-entry-requires
+    find-entry-requires
+    returns-2
+    part-of-requires-2
+    returns-3)

@@ -1,0 +1,6 @@
+pub mod Entries
+pub mod Placing
+pub mod Walking
+pub mod Surveying
+pub mod Endings
+pub mod Judging

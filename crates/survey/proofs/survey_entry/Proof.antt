@@ -1,0 +1,115 @@
+-- `survey::survey_entry` meets its contract. Assumes nothing.
+use native.Mathlib.Omega.{arith}
+use mathlib.Core.Path.{refl, sym, _∙_}
+use borrow.Author.Needs.{needs}
+use Rattle.survey.proofs.Placing.{moves-fit, plain-is, turn-plain}
+use Rattle.survey.proofs.Walking.{read-here, read-inside, digits-here, steps-read, steps-refused}
+use Rattle.survey.proofs.survey_entry.Statement.{statement}
+use Rattle.survey.proofs.survey_entry.Tie as tie
+
+digits-at-requires : tie.Need-digits-at-requires
+digits-at-requires c κs = search needs
+
+opens-here-requires : tie.Need-opens-here-requires
+opens-here-requires c κs = search needs
+
+is-plain-requires : tie.Need-is-plain-requires
+is-plain-requires c κs = search needs
+
+both-requires : tie.Need-both-requires
+both-requires c κs = search needs
+
+is-index-requires : tie.Need-is-index-requires
+is-index-requires c κs = search needs
+
+both-requires-2 : tie.Need-both-requires-2
+both-requires-2 c κs = search needs
+
+add-advance : tie.Need-add-advance
+add-advance c =
+    let q = plain-is (c .before .before .before .before .before .opens-here .result) (c .before .before .before .before .is-plain .result) (c .before .before .is-index .result) (c .before .before .before .both .ensures) (c .before .both2 .ensures) (c .if1 .taken) in
+    let m = c .before .before .before .before .is-plain .ensures .1 (q .1) in record { fits = omega (arith, m .0) }
+
+add-advance-2 : tie.Need-add-advance-2
+add-advance-2 c = search needs
+
+add-advance-3 : tie.Need-add-advance-3
+add-advance-3 c = search needs
+
+advance-requires : tie.Need-advance-requires
+advance-requires c κs =
+    let a = c .before .before .before .before .before .before .before .before .before .before in
+    let q = plain-is (c .before .before .before .before .before .before .opens-here .result) (c .before .before .before .before .before .is-plain .result) (c .before .before .before .is-index .result) (c .before .before .before .before .both .ensures) (c .before .before .both2 .ensures) (c .before .if1 .taken) in
+    let m = c .before .before .before .before .before .is-plain .ensures .1 (q .1) in
+    let n = moves-fit (a .args .text .now) (a .args .c) 1 0 0 _ _ (m .1) refl in
+    (omega (arith, a .pre .1 .1, a .pre .1 .3, a .pre .1 .4), omega (arith, n, a .pre .1 .0), a .pre .1 .2)
+
+returns : tie.Need-returns
+returns c =
+    let a = c .before .before .before .before .before .before .before .before .before .before .before in
+    let q = plain-is (c .before .before .before .before .before .before .before .opens-here .result) (c .before .before .before .before .before .before .is-plain .result) (c .before .before .before .before .is-index .result) (c .before .before .before .before .before .both .ensures) (c .before .before .before .both2 .ensures) (c .before .before .if1 .taken) in
+    let m = c .before .before .before .before .before .before .is-plain .ensures .1 (q .1) in
+    let i = c .before .before .before .before .is-index .ensures .1 (q .2) in
+    steps-read _ _ _ _ _ _ (i .1 (a .args .c .entry)) (turn-plain _ _ _ _ _ (sym (c .before .before .before .before .before .before .before .opens-here .ensures) ∙ q .0) (m .1) (c .advance .ensures)) refl
+
+sub-read-entry : tie.Need-sub-read-entry
+sub-read-entry c = search needs
+
+part-read-entry-start : tie.Need-part-read-entry-start
+part-read-entry-start c = search needs
+
+part-read-entry-end : tie.Need-part-read-entry-end
+part-read-entry-end c = search needs
+
+read-entry-requires : tie.Need-read-entry-requires
+read-entry-requires c κs =
+    let a = c .before .before .before .before .before .before .before .before .before .before in
+    let d = c .before .before .before .before .before .before .before .digits-at in digits-here (a .args .indices .now) (a .args .c .place) (d .result) (d .ensures .0) (d .ensures .1 .0)
+
+enum-known-x : tie.Need-enum-known-x
+enum-known-x c = search needs
+
+take-entry-requires : tie.Need-take-entry-requires
+take-entry-requires c κs =
+    let a = c .before .before .before .before .before .before .before .before .before .before .before .before .before .before in
+    let h = read-here (a .args .indices .now) (a .args .c) _ (c .before .before .before .read-entry .ensures) _ (c .before .x .given .1) in
+    let i = read-inside (a .args .indices .now) (a .args .c) _ h (a .pre .1 .3) in
+    (a .pre .0, (a .pre .1 .0, omega (arith, a .pre .1 .1, a .pre .1 .3, a .pre .1 .4), a .pre .1 .2, omega (arith, i, a .pre .1 .4)))
+
+enum-known-r : tie.Need-enum-known-r
+enum-known-r c = search needs
+
+returns-2 : tie.Need-returns-2
+returns-2 c =
+    let a = c .before .before .before .before .before .before .before .before .before .before .before .before .before .before .before in
+    steps-read _ _ _ _ _ _ (read-here (a .args .indices .now) (a .args .c) _ (c .before .before .before .before .read-entry .ensures) _ (c .before .before .x .given .1)) (c .take-entry .ensures .0) (c .take-entry .ensures .1)
+
+returns-3 : tie.Need-returns-3
+returns-3 c =
+    let a = c .before .before .before .before .before .before .before .before .before .before .before .before .before .before in
+    steps-refused _ _ _ _ _ (read-here (a .args .indices .now) (a .args .c) _ (c .before .before .before .read-entry .ensures) _ (c .before .r .given .1))
+
+pub survey-entry-spec : {M : Type 1} → statement M
+survey-entry-spec =
+    tie.close
+    (tie.spec
+    digits-at-requires
+    opens-here-requires
+    is-plain-requires
+    both-requires
+    is-index-requires
+    both-requires-2
+    add-advance
+    add-advance-2
+    add-advance-3
+    advance-requires
+    returns
+    sub-read-entry
+    part-read-entry-start
+    part-read-entry-end
+    read-entry-requires
+    enum-known-x
+    take-entry-requires
+    enum-known-r
+    returns-2
+    returns-3)
