@@ -151,7 +151,7 @@ fn survey_entry(text: &[u8], indices: &[u8], bare: bool, c: label::Cursor) -> Tu
 {
     let place = c.place;
     let byte = c.byte;
-    let digits = entry::digits_at(indices, place, 0);
+    let digits = number::digits_at(indices, place, 0);
     let easy = words::both(opens_here(bare, c), text::is_plain(text, byte));
     if words::both(easy, entry::is_index(indices, place, digits)) {
         return Turn::Took {
@@ -443,7 +443,7 @@ pub fn fill(
     let mut at = first_cursor(indices, 0);
     while at.place <= indices.len() {
         let place = at.place;
-        let digits = entry::digits_at(indices, place, 0);
+        let digits = number::digits_at(indices, place, 0);
         if entry::is_index(indices, place, digits) {
             at = put_entry(count, at, entry::index_item(digits), clusters, glyphs);
         } else {
