@@ -18,11 +18,11 @@ use Rattle.label.specs.declared.Index.the-variants.{Named, Font}
 use Rattle.label.proofs.Basics.{and-l, and-r, clash, cases}
 use Rattle.label.proofs.Splits.{none, empty-nil}
 use Rattle.label.proofs.Cursors.{split-rest, split-all}
+use Rattle.number.specs.Digits.{ends, isBreak}
+use Rattle.number.specs.Numbers.{within}
+use Rattle.number.proofs.Scan.{Cutting, whole, parted, cutting, none-or, none-left, none-right}
 use Rattle.entry.specs.Items.{isSemi, here, entryRead, entryHere}
-use Rattle.entry.specs.Digits.{ends, isBreak}
-use Rattle.entry.specs.Numbers.{within}
 use Rattle.entry.specs.Parts.{Parts, partsOf, mapOf, indexAt, frontOk, fieldOf, wellParted, indexChoice, advanceChoice, offsetBy, roundedBy, roundedParts, scanned}
-use Rattle.entry.proofs.Scan.{Cutting, whole, parted, cutting, none-or, none-left, none-right}
 use Rattle.entry.proofs.FieldBridge.{fieldSize, Fielded, field-is, field-stuck, advance-field, or-right}
 use Rattle.entry.proofs.FrontBridge.{Headed, head-is}
 use Rattle.entry.proofs.FieldBridge as fb

@@ -10,27 +10,26 @@ use lib.IntN.{ℤ, pos}
 use lib.ListN.{length, drop, length-drop}
 use lib.Seq.{drop-drop}
 use borrow.Author.Tests.{eq-eqb, ne-eqb, eqb-true, eqb-false, le-leb, lt-leb, lt-ltb, leb-true, ltb-true}
-use Rattle.label.specs.Limits.{maxIndex, maxThousandths}
+use Rattle.label.specs.Limits.{maxIndex}
 use Rattle.label.specs.Bytes.{value}
-use Rattle.label.specs.Entry.{scaled}
-use Rattle.label.specs.Rounded.{isWhole}
 use Rattle.label.specs.Calls.{refusal}
 use Rattle.label.specs.declared.Index.{Index}
 use Rattle.label.specs.declared.Index.the-variants.{Named}
 use Rattle.label.specs.declared.Advance.{Advance}
 use Rattle.label.specs.declared.Advance.the-variants.{Own}
 use Rattle.label.proofs.Basics.{and-l, and-r, cases, clash}
-use Rattle.entry.specs.declared.Thousandths.{Thousandths}
-use Rattle.entry.specs.declared.Digits.{Digits}
-use Rattle.entry.specs.declared.Number.{Number}
+use Rattle.number.specs.declared.Thousandths.{Thousandths}
+use Rattle.number.specs.declared.Digits.{Digits}
+use Rattle.number.specs.declared.Number.{Number}
+use Rattle.number.specs.Digits.{cap, headOf, ends, isBreak, lead, digitsFrom}
+use Rattle.number.specs.Numbers.{within, Small, signLength, numberOf}
+use Rattle.number.proofs.NumberLaws.{number-small}
 use Rattle.entry.specs.declared.MapPart.{MapPart}
 use Rattle.entry.specs.declared.Front.{Front}
 use Rattle.entry.specs.declared.Field.{Field}
 use Rattle.entry.specs.declared.EntryRead.the-variants.{Read, Refused}
-use Rattle.entry.specs.Items.{cap, isSemi, entryRead, entryHere, IsIndex}
-use Rattle.entry.specs.Digits.{headOf, ends, isBreak, lead, digitsFrom}
-use Rattle.entry.specs.Numbers.{sized, within, signLength, numberOf, Mant, Expo, mantissaOf, exponentOf, sizeOf}
-use Rattle.entry.specs.Parts.{Map, mapOf, mapBy, mapWith, noMap, badMap, leadAt, cutMap, indexAt, frontWith, frontOf, fieldOf, fieldWith, headAt, notGiven, givenBy, Small, Parts, partsOf, wellParted, indexChoice, advanceChoice, offsetBy, roundedBy, roundedParts, judged, scanned}
+use Rattle.entry.specs.Items.{isSemi, entryRead, entryHere, IsIndex}
+use Rattle.entry.specs.Parts.{Map, mapOf, mapBy, mapWith, noMap, badMap, leadAt, cutMap, indexAt, frontWith, frontOf, fieldOf, fieldWith, headAt, notGiven, givenBy, Parts, partsOf, wellParted, indexChoice, advanceChoice, offsetBy, roundedBy, roundedParts, judged, scanned}
 use Rattle.entry.proofs.EntryBridge.{bridge}
 
 -- ── the map ──
@@ -104,20 +103,6 @@ module _ (s : List ℕ) (at : ℕ) (p : headOf (drop at s) ≡ 44) where
   code-given b eb h k ek n en = rw (field-some (drop at s) p, drop-drop 1 at s, h, ← eb, ← ek, drop-drop, ← en)
 
 -- a size is within its limit
-sized-small : (v : ℕ) (x : Bool) → Small (sized v x)
-sized-small v x = cases (leb v maxThousandths) (λ e. rw e (leb-true v maxThousandths e)) (λ e. rw e tt)
-
-size-small : (m : Mant) (x : Expo) → Small (sizeOf m x)
-size-small m x = go (leb (length (m .digits)) 18 && leb (length (x .digits)) 2) refl
-  where
-    go : (b : Bool) → (leb (length (m .digits)) 18 && leb (length (x .digits)) 2) ≡ b → Small (sizeOf m x)
-    go true e = rw e (sized-small (scaled (value (m .digits)) (m .behind) (x .negative) (value (x .digits))) (isWhole (value (m .digits)) (m .behind) (x .negative) (value (x .digits))))
-    go false e = rw e tt
-
-number-small : (t : List ℕ) → Small (numberOf t .size)
-unfolding numberOf
-number-small t = size-small (mantissaOf t) (exponentOf (drop (mantissaOf t .used) t))
-
 pub field-small : (t : List ℕ) → Small (fieldOf t .size)
 unfolding fieldOf
 field-small t = go (eqb (headOf t) 44) refl (ends isBreak (drop 1 t)) refl

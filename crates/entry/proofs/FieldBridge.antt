@@ -12,13 +12,13 @@ use Rattle.label.specs.Bytes.{empty}
 use Rattle.label.specs.Entry.{minus, unsigned, isNumber, isAdvance, isOffset}
 use Rattle.label.proofs.Basics.{and-l, clash}
 use Rattle.label.proofs.Splits.{none}
-use Rattle.entry.specs.declared.Thousandths.{Thousandths}
-use Rattle.entry.specs.declared.Thousandths.the-variants.{Of}
-use Rattle.entry.specs.Digits.{ends, isBreak}
-use Rattle.entry.specs.Numbers.{numberOf, signLength}
+use Rattle.number.specs.declared.Thousandths.{Thousandths}
+use Rattle.number.specs.declared.Thousandths.the-variants.{Of}
+use Rattle.number.specs.Digits.{ends, isBreak}
+use Rattle.number.specs.Numbers.{numberOf, signLength}
+use Rattle.number.proofs.NumberBridge.{signed, none-unsigned, sizedAs, Numbered, number-is}
+use Rattle.number.proofs.NumberBridge as nb
 use Rattle.entry.specs.Parts.{fieldOf, notGiven, givenBy}
-use Rattle.entry.proofs.NumberBridge.{signed, none-unsigned, sizedAs, Numbered, number-is}
-use Rattle.entry.proofs.NumberBridge as nb
 
 or-left : (a b : Bool) → (a || b) ≡ false → a ≡ false
 or-left true b h = h

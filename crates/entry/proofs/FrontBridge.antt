@@ -13,9 +13,9 @@ use Rattle.label.specs.Bytes.{empty, cut, isDigit, allDigits, digits}
 use Rattle.label.specs.Entry.{hasMap, atParenthesis, atColon, isIndexPart, indexDigits, mapUnits, mapGlyphs}
 use Rattle.label.proofs.Basics.{and-r, cases}
 use Rattle.label.proofs.Splits.{none}
-use Rattle.entry.specs.Digits.{headOf, ends, isBreak, lead}
+use Rattle.number.specs.Digits.{headOf, ends, isBreak, lead}
+use Rattle.number.proofs.Scan.{after, Front, full, odd, front, Cutting, whole, parted, cutting, none-left, none-right, some-is, at-break}
 use Rattle.entry.specs.Parts.{Map, mapOf, mapBy, badMap, noMap, oneMap, twoMap, indexAt, frontOk}
-use Rattle.entry.proofs.Scan.{after, Front, full, odd, front, Cutting, whole, parted, cutting, none-left, none-right, some-is, at-break}
 
 abbrev isClose : ℕ → Bool
 isClose b = eqb b 41

@@ -1,8 +1,3 @@
-pub mod DigitLaws
-pub mod ValueLaws
-pub mod NumberLaws
-pub mod Scan
-pub mod NumberBridge
 pub mod FieldBridge
 pub mod FrontBridge
 pub mod EntryBridge

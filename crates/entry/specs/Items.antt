@@ -15,14 +15,11 @@ use Rattle.label.specs.Rounded.{roundedEntry}
 use Rattle.label.specs.Calls.{refusal}
 use Rattle.label.specs.declared.Index.the-variants.{Named}
 use Rattle.label.specs.declared.Advance.the-variants.{Own}
-use Rattle.entry.specs.declared.Digits.{Digits}
+use Rattle.number.specs.declared.Digits.{Digits}
+use Rattle.number.specs.Digits.{cap}
 use Rattle.entry.specs.declared.Item.{Item}
 use Rattle.entry.specs.declared.EntryRead.{EntryRead}
 use Rattle.entry.specs.declared.EntryRead.the-variants.{Read, Refused}
-
--- a number of digits of any length is kept up to 10^18, which no count of units or glyphs reaches
-abbrev pub cap : ℕ
-cap = 1000000000000000000
 
 -- an entry of n bytes, with r fields rounded, as the code keeps it
 abbrev pub cutItem : ℕ → ℕ → Entry → Item

@@ -1,4 +1,2 @@
 pub mod Items
-pub mod Digits
-pub mod Numbers
 pub mod Parts

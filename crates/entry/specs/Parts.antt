@@ -2,11 +2,11 @@
 -- Assumes nothing.
 use mathlib.Core.Bool.{Bool, true, false, cond, not, _&&_, _||_}
 use mathlib.Core.List.{List}
-use Prim.Native.Nat.{ℕ, _+_, _≤_, min}
+use Prim.Native.Nat.{ℕ, _+_, min}
 use lib.ListN.{length, drop}
 use lib.Dec.{leb, ltb, eqb}
 use lib.IntN.{ℤ, pos, negℤ}
-use Rattle.label.specs.Limits.{maxIndex, maxThousandths}
+use Rattle.label.specs.Limits.{maxIndex}
 use Rattle.label.specs.Outcome.{Outcome, ok, need, _>>=_, _>>_}
 use Rattle.label.specs.Bytes.{value}
 use Rattle.label.specs.Entry.{Entry}
@@ -14,15 +14,15 @@ use Rattle.label.specs.declared.Index.{Index}
 use Rattle.label.specs.declared.Index.the-variants.{Named, Font}
 use Rattle.label.specs.declared.Advance.{Advance}
 use Rattle.label.specs.declared.Advance.the-variants.{Given, Own}
-use Rattle.entry.specs.declared.Thousandths.{Thousandths}
-use Rattle.entry.specs.declared.Thousandths.the-variants.{Of, Over}
+use Rattle.number.specs.declared.Thousandths.{Thousandths}
+use Rattle.number.specs.declared.Thousandths.the-variants.{Of, Over}
+use Rattle.number.specs.declared.Number.{Number}
+use Rattle.number.specs.Digits.{cap, headOf, ends, isBreak, lead}
+use Rattle.number.specs.Numbers.{signLength, numberOf, within}
 use Rattle.entry.specs.declared.MapPart.{MapPart}
 use Rattle.entry.specs.declared.Front.{Front}
 use Rattle.entry.specs.declared.Field.{Field}
-use Rattle.entry.specs.declared.Number.{Number}
-use Rattle.entry.specs.Items.{cap, isSemi}
-use Rattle.entry.specs.Digits.{headOf, ends, isBreak, lead}
-use Rattle.entry.specs.Numbers.{signLength, numberOf, within}
+use Rattle.entry.specs.Items.{isSemi}
 
 -- ── the index part ──
 
@@ -110,11 +110,6 @@ fieldWith b t = cond (ends isBreak (drop 1 t)) (notGiven 1) (givenBy b (1 + sign
 -- a field with its comma; where there is no comma, nothing is given in no bytes
 unfoldable pub fieldOf : List ℕ → Field
 fieldOf t = cond (eqb (headOf t) 44) (fieldWith (headAt 1 t) t) (notGiven 0)
-
--- a size of at most 1,000,000,000
-abbrev pub Small : Thousandths → Type 0
-Small (Of v x) = v ≤ maxThousandths
-Small Over = Unit {0}
 
 -- ── the entry ──
 

@@ -1,25 +1,23 @@
 // One entry of the indices, read in one pass over its bytes.
 ghost use mathlib.Core.Path.{_≡_};
-ghost use mathlib.Core.Bool.{true, cond, _&&_};
-ghost use Prim.Native.Nat.{_+_, _*_, _%_, _^_, _≤_, _<_};
-ghost use lib.Dec.{leb, ltb, eqb};
+ghost use mathlib.Core.Bool.{true, _&&_};
+ghost use Prim.Native.Nat.{_+_, _≤_};
+ghost use lib.Dec.{leb, ltb};
 ghost use lib.ListN.{length, drop};
 ghost use Rattle.label.specs.Limits.{maxIndex, maxThousandths};
 ghost use Rattle.label.specs.Calls.{refusal};
-ghost use Rattle.label.specs.Bytes.{isDigit};
-ghost use Rattle.label.specs.Entry.{isE, nearest, scaled};
-ghost use Rattle.label.specs.Rounded.{isWhole};
+ghost use Rattle.number.specs.Digits.{headOf, ends, isBreak, digitsFrom};
+ghost use Rattle.number.specs.Numbers.{within, Small};
 ghost use Rattle.entry.specs.declared.EntryRead.the-variants.{Refused};
-ghost use Rattle.entry.specs.declared.Thousandths.the-variants.{Of};
-ghost use Rattle.entry.specs.Items.{cap, isSemi, entryHere, indexItem, IsIndex};
-ghost use Rattle.entry.specs.Digits.{headOf, ends, isBreak, pushed, digitsFrom};
-ghost use Rattle.entry.specs.Numbers.{sized, within, mantissaOf, cutMantissa, signLength, exponentOf, cutExponent, numberOf};
-ghost use Rattle.entry.specs.Parts.{mapOf, noMap, badMap, cutMap, frontOf, notGiven, fieldOf, indexChoice, advanceChoice, signedBy, offsetBy, roundedBy, Small};
+ghost use Rattle.entry.specs.Items.{isSemi, entryHere, indexItem, IsIndex};
+ghost use Rattle.entry.specs.Parts.{mapOf, noMap, badMap, cutMap, frontOf, notGiven, fieldOf, indexChoice, advanceChoice, signedBy, offsetBy, roundedBy};
 use label::Advance;
 use label::Glyph;
 use label::Index;
 use label::Limits;
 use label::Refusal;
+use number::Digits;
+use number::Thousandths;
 
 // What an entry says: whether it has a map, the map's two counts (1 and 1 without one; cut at 10^18), its glyph record, how many bytes it has, and how
 // many of its fields were rounded.
@@ -45,13 +43,6 @@ fn refuse(number: usize, place: usize) -> EntryRead
 
 // ── bytes ──
 
-// The byte at a place; 0 at the end, which is no byte that an entry may have.
-fn byte_at(s: &[u8], at: usize) -> u8
-    ensures { λ r. ⌜ r ≡ headOf (drop at (now (s .entry))) ⌝ }
-{
-    if at < s.len() { s[at] } else { 0 }
-}
-
 // Whether the entry ends at a place.
 fn ends_at(s: &[u8], at: usize) -> bool
     ensures { λ r. ⌜ r ≡ ends isSemi (drop at (now (s .entry))) ⌝ }
@@ -68,306 +59,6 @@ fn breaks_at(s: &[u8], at: usize) -> bool
     } else {
         true
     }
-}
-
-// ── digits ──
-
-// The digits that stand at a place: how many, and their value, cut at 10^18.
-pub struct Digits {
-    pub count: usize,
-    pub value: u64,
-}
-
-const CAP: u64 = 1_000_000_000_000_000_000;
-
-fn is_digit(b: u8) -> bool
-    ensures { λ r. ⌜ r ≡ isDigit b ⌝ }
-{
-    words::both(48 <= b, b <= 57)
-}
-
-// One more digit behind v.
-fn push_digit(v: u64, b: u8) -> u64
-    requires { ⌜ (v ≤ cap) × (isDigit b ≡ true) ⌝ }
-    ensures { λ r. ⌜ r ≡ pushed v b ⌝ }
-{
-    let w = v * 10 + (b - 48) as u64;
-    if w < CAP { w } else { CAP }
-}
-
-// The digits at a place, read behind `start`.
-pub fn digits_at(s: &[u8], at: usize, start: u64) -> Digits
-    requires { ⌜ (at ≤ length (now s)) × (start ≤ cap) ⌝ }
-    ensures { λ r. ⌜ r ≡ digitsFrom start (drop at (now (s .entry))) ⌝ }
-    ensures bounds { λ r. ⌜ (at + r .count ≤ length (now (s .entry))) × (r .value ≤ cap) ⌝ }
-{
-    let mut i = at;
-    let mut v = start;
-    while i < s.len() {
-        let b = s[i];
-        if !is_digit(b) {
-            return Digits {
-                count: i - at,
-                value: v,
-            };
-        }
-        v = push_digit(v, b);
-        i += 1;
-    }
-    Digits {
-        count: i - at,
-        value: v,
-    }
-}
-
-// ── values ──
-
-// Whole thousandths, where they are within the limit, and whether the exact value is this one.
-enum Thousandths {
-    Of { count: u32, exact: bool },
-    Over,
-}
-
-// The value 0, exact or rounded to it.
-fn zero(exact: bool) -> Thousandths
-    ensures { λ r. ⌜ r ≡ Of 0 exact ⌝ }
-{
-    Thousandths::Of { count: 0, exact }
-}
-
-// 10^k
-fn power(k: usize) -> u64
-    requires { ⌜ k < 19 ⌝ }
-    ensures { λ r. ⌜ r ≡ 10 ^ k ⌝ }
-{
-    match k {
-        0 => 1,
-        1 => 10,
-        2 => 100,
-        3 => 1_000,
-        4 => 10_000,
-        5 => 100_000,
-        6 => 1_000_000,
-        7 => 10_000_000,
-        8 => 100_000_000,
-        9 => 1_000_000_000,
-        10 => 10_000_000_000,
-        11 => 100_000_000_000,
-        12 => 1_000_000_000_000,
-        13 => 10_000_000_000_000,
-        14 => 100_000_000_000_000,
-        15 => 1_000_000_000_000_000,
-        16 => 10_000_000_000_000_000,
-        17 => 100_000_000_000_000_000,
-        _ => 1_000_000_000_000_000_000,
-    }
-}
-
-fn limited(v: u64, exact: bool) -> Thousandths
-    ensures { λ r. ⌜ r ≡ sized v exact ⌝ }
-{
-    if v <= Limits::THOUSANDTHS {
-        Thousandths::Of {
-            count: v as u32,
-            exact,
-        }
-    } else {
-        Thousandths::Over
-    }
-}
-
-// m × 10^k
-fn grown(m: u64, k: usize) -> Thousandths
-    ensures { λ r. ⌜ r ≡ sized (m * 10 ^ k) true ⌝ }
-{
-    if m == 0 {
-        return zero(true);
-    }
-    if 9 < k {
-        return Thousandths::Over;
-    }
-    if Limits::THOUSANDTHS < m {
-        return Thousandths::Over;
-    }
-    limited(m * power(k), true)
-}
-
-// m / 10^k, rounded: the one place where a value is rounded, by its quotient and its remainder. It is exact where nothing remains.
-fn shrunk(m: u64, k: usize) -> Thousandths
-    requires { ⌜ m < cap ⌝ }
-    ensures { λ r. ⌜ r ≡ sized (nearest m (10 ^ k)) (eqb (m % 10 ^ k) 0) ⌝ }
-{
-    if 18 < k {
-        return zero(m == 0);
-    }
-    let d = power(k);
-    let q = m / d;
-    let r = m % d;
-    let exact = r == 0;
-    if d <= r * 2 {
-        limited(q + 1, exact)
-    } else {
-        limited(q, exact)
-    }
-}
-
-// m × 10^up / 10^down, rounded.
-fn shifted(m: u64, up: usize, down: usize) -> Thousandths
-    requires { ⌜ m < cap ⌝ }
-    ensures { λ r. ⌜ r ≡ sized (nearest (m * 10 ^ up) (10 ^ down)) (eqb (m * 10 ^ up % 10 ^ down) 0) ⌝ }
-{
-    if down <= up {
-        grown(m, up - down)
-    } else {
-        shrunk(m, down - up)
-    }
-}
-
-// n, or 0 where the test holds.
-fn unless(test: bool, n: usize) -> usize
-    ensures { λ r. ⌜ r ≡ cond test 0 n ⌝ }
-    ensures bounds { λ r. ⌜ r ≤ n ⌝ }
-{
-    if test { 0 } else { n }
-}
-
-// m × 10^(e − f) × 1000, rounded; `negative` where e has a minus.
-fn to_thousandths(m: u64, f: usize, negative: bool, e: usize) -> Thousandths
-    requires { ⌜ (m < cap) × (f ≤ 18) × (e ≤ 99) ⌝ }
-    ensures { λ r. ⌜ r ≡ sized (scaled m f negative e) (isWhole m f negative e) ⌝ }
-{
-    let up = unless(negative, e) + 3;
-    let down = f + unless(!negative, e);
-    shifted(m, up, down)
-}
-
-// ── numbers ──
-
-// The digits before any exponent: whether they are well formed, the bytes used, the count of digits, their value, and the count behind the point.
-struct Mantissa {
-    ok: bool,
-    used: usize,
-    count: usize,
-    value: u64,
-    behind: usize,
-}
-
-// The exponent, of no bytes where there is none.
-struct Exponent {
-    ok: bool,
-    used: usize,
-    negative: bool,
-    count: usize,
-    value: u64,
-}
-
-struct Number {
-    ok: bool,
-    used: usize,
-    size: Thousandths,
-}
-
-fn mantissa_at(s: &[u8], at: usize) -> Mantissa
-    requires { ⌜ at ≤ length (now s) ⌝ }
-    ensures { λ r. ⌜ r ≡ cutMantissa (mantissaOf (drop at (now (s .entry)))) ⌝ }
-    ensures bounds { λ r. ⌜ at + r .used ≤ length (now (s .entry)) ⌝ }
-{
-    let whole = digits_at(s, at, 0);
-    let n = whole.count;
-    let v = whole.value;
-    let b = byte_at(s, at + n);
-    if b == 46 {
-        let part = digits_at(s, at + (n + 1), v);
-        let k = part.count;
-        Mantissa {
-            ok: 0 < k,
-            used: n + 1 + k,
-            count: n + k,
-            value: part.value,
-            behind: k,
-        }
-    } else {
-        Mantissa {
-            ok: 0 < n,
-            used: n,
-            count: n,
-            value: v,
-            behind: 0,
-        }
-    }
-}
-
-fn is_exponent(b: u8) -> bool
-    ensures { λ r. ⌜ r ≡ isE b ⌝ }
-{
-    words::either(b == 101, b == 69)
-}
-
-// The bytes of a sign, where b is one.
-fn sign_length(b: u8) -> usize
-    ensures { λ r. ⌜ r ≡ signLength b ⌝ }
-    ensures bounds { λ r. ⌜ r ≤ 1 ⌝ }
-{
-    if words::either(b == 43, b == 45) {
-        1
-    } else {
-        0
-    }
-}
-
-fn exponent_at(s: &[u8], at: usize) -> Exponent
-    requires { ⌜ at ≤ length (now s) ⌝ }
-    ensures { λ r. ⌜ r ≡ cutExponent (exponentOf (drop at (now (s .entry)))) ⌝ }
-    ensures bounds { λ r. ⌜ at + r .used ≤ length (now (s .entry)) ⌝ }
-{
-    if is_exponent(byte_at(s, at)) {
-        let b = byte_at(s, at + 1);
-        let k = 1 + sign_length(b);
-        let d = digits_at(s, at + k, 0);
-        let n = d.count;
-        Exponent {
-            ok: 0 < n,
-            used: k + n,
-            negative: b == 45,
-            count: n,
-            value: d.value,
-        }
-    } else {
-        Exponent {
-            ok: true,
-            used: 0,
-            negative: false,
-            count: 0,
-            value: 0,
-        }
-    }
-}
-
-fn number_at(s: &[u8], at: usize) -> Number
-    requires { ⌜ at ≤ length (now s) ⌝ }
-    ensures { λ r. ⌜ r ≡ numberOf (drop at (now (s .entry))) ⌝ }
-    ensures bounds { λ r. ⌜ at + r .used ≤ length (now (s .entry)) ⌝ }
-{
-    let m = mantissa_at(s, at);
-    let x = exponent_at(s, at + m.used);
-    let ok = words::both(m.ok, x.ok);
-    let used = m.used + x.used;
-    if Limits::DIGITS < m.count {
-        return Number {
-            ok,
-            used,
-            size: Thousandths::Over,
-        };
-    }
-    if Limits::EXPONENT_DIGITS < x.count {
-        return Number {
-            ok,
-            used,
-            size: Thousandths::Over,
-        };
-    }
-    let size = to_thousandths(m.value, m.behind, x.negative, x.value as usize);
-    Number { ok, used, size }
 }
 
 // ── the index part ──
@@ -411,12 +102,12 @@ fn map_of(s: &[u8]) -> MapPart
     ensures { λ r. ⌜ r ≡ cutMap (mapOf (now (s .entry))) ⌝ }
     ensures bounds { λ r. ⌜ r .used ≤ length (now (s .entry)) ⌝ }
 {
-    if byte_at(s, 0) != 40 {
+    if number::byte_at(s, 0) != 40 {
         return no_map();
     }
-    let x = digits_at(s, 1, 0);
+    let x = number::digits_at(s, 1, 0);
     let n = x.count;
-    let h = byte_at(s, 1 + n);
+    let h = number::byte_at(s, 1 + n);
     if h == 41 {
         return MapPart {
             ok: 0 < n,
@@ -429,9 +120,9 @@ fn map_of(s: &[u8]) -> MapPart
     if h != 58 {
         return bad_map();
     }
-    let y = digits_at(s, 1 + (n + 1), 0);
+    let y = number::digits_at(s, 1 + (n + 1), 0);
     let k = y.count;
-    if byte_at(s, 1 + (n + 1) + k) != 41 {
+    if number::byte_at(s, 1 + (n + 1) + k) != 41 {
         return bad_map();
     }
     MapPart {
@@ -462,7 +153,7 @@ fn index_digits(s: &[u8], m: MapPart, first: Digits) -> Digits
     ensures bounds { λ r. ⌜ m .used + r .count ≤ length (now (s .entry)) ⌝ }
 {
     if m.mapped {
-        return digits_at(s, m.used, 0);
+        return number::digits_at(s, m.used, 0);
     }
     first
 }
@@ -506,7 +197,7 @@ fn not_given(n: usize) -> Field
         used: n,
         given: false,
         negative: false,
-        size: zero(true),
+        size: number::zero(true),
     }
 }
 
@@ -515,15 +206,15 @@ fn field_at(s: &[u8], at: usize) -> Field
     ensures { λ r. ⌜ r ≡ fieldOf (drop at (now (s .entry))) ⌝ }
     ensures bounds { λ r. ⌜ at + r .used ≤ length (now (s .entry)) ⌝ }
 {
-    if byte_at(s, at) != 44 {
+    if number::byte_at(s, at) != 44 {
         return not_given(0);
     }
     if breaks_at(s, at + 1) {
         return not_given(1);
     }
-    let b = byte_at(s, at + 1);
-    let k = 1 + sign_length(b);
-    let n = number_at(s, at + k);
+    let b = number::byte_at(s, at + 1);
+    let k = 1 + number::sign_length(b);
+    let n = number::number_at(s, at + k);
     let size = n.size;
     Field {
         ok: n.ok,
@@ -549,7 +240,7 @@ fn rounded_of(z: Thousandths) -> usize
     ensures bounds { λ r. ⌜ r ≤ 1 ⌝ }
 {
     match z {
-        Thousandths::Of { exact, .. } => unless(exact, 1),
+        Thousandths::Of { exact, .. } => number::unless(exact, 1),
         Thousandths::Over => 0,
     }
 }
@@ -642,7 +333,7 @@ fn read_fields(s: &[u8], k: usize, f: Front) -> EntryRead
 {
     let x = field_at(s, f.used);
     let i = f.used + x.used;
-    if byte_at(s, i) != 44 {
+    if number::byte_at(s, i) != 44 {
         return read_advance(s, k, f, x);
     }
     let y = field_at(s, i);

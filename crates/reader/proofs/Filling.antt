@@ -22,7 +22,8 @@ use Rattle.label.specs.declared.Refusal.{Refusal}
 use Rattle.label.proofs.Basics.{cases, need-ok, no-ok, and-l, and-r}
 use Rattle.label.proofs.Walks.{ok-path, Walked, walk-ok, step-ok}
 use Rattle.label.proofs.Cursors.{joined, after, added}
-use Rattle.entry.specs.Items.{cap, here}
+use Rattle.number.specs.Digits.{cap}
+use Rattle.entry.specs.Items.{here}
 use Rattle.entry.specs.declared.Item.{Item}
 use Rattle.entry.specs.declared.EntryRead.the-variants.{Read, Refused}
 use Rattle.survey.specs.Steps.{itemEntry, advanced, entryAt, tailParts}

@@ -156,7 +156,7 @@ pub fn fill(
     let mut at = survey::first_cursor(indices, 0);
     while at.place <= indices.len() {
         let place = at.place;
-        let digits = entry::digits_at(indices, place, 0);
+        let digits = number::digits_at(indices, place, 0);
         if entry::is_index(indices, place, digits) {
             at = put_entry(count, at, entry::index_item(digits), clusters, glyphs);
         } else {

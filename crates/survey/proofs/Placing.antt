@@ -21,8 +21,9 @@ use Rattle.label.proofs.Sounds.{decode-proper}
 use Rattle.text.specs.Moves.{unitsFrom, Moves}
 use Rattle.text.specs.declared.Moved.{Moved}
 use Rattle.text.specs.declared.Moved.the-variants.{To, Past, Half}
-use Rattle.entry.specs.Items.{cap, cutItem, entryRead, indexItem}
-use Rattle.entry.specs.declared.Digits.{Digits}
+use Rattle.number.specs.Digits.{cap}
+use Rattle.number.specs.declared.Digits.{Digits}
+use Rattle.entry.specs.Items.{cutItem, entryRead, indexItem}
 use Rattle.entry.specs.declared.Item.{Item}
 use Rattle.entry.specs.declared.EntryRead.the-variants.{Read, Refused}
 use Rattle.survey.specs.declared.Turn.{Turn}

@@ -25,9 +25,9 @@ use Rattle.label.proofs.Walks.{Stepped, step-ok}
 use Rattle.label.proofs.Sounds.{entry-facts}
 use Rattle.label.proofs.Cursors.{joined, after, added, walk-good, walk-bad, part-rest}
 use Rattle.text.specs.Moves.{unitsFrom}
-use Rattle.entry.specs.Items.{cap, cutItem, here, entryHere}
-use Rattle.entry.specs.Digits.{digitsFrom}
-use Rattle.entry.specs.declared.Digits.{Digits}
+use Rattle.number.specs.Digits.{cap, digitsFrom}
+use Rattle.number.specs.declared.Digits.{Digits}
+use Rattle.entry.specs.Items.{cutItem, here, entryHere}
 use Rattle.entry.specs.declared.Item.{Item}
 use Rattle.entry.specs.declared.EntryRead.{EntryRead}
 use Rattle.entry.specs.declared.EntryRead.the-variants.{Read, Refused}

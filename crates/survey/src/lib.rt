@@ -144,7 +144,7 @@ fn survey_entry(text: &[u8], indices: &[u8], bare: bool, c: label::Cursor) -> Tu
 {
     let place = c.place;
     let byte = c.byte;
-    let digits = entry::digits_at(indices, place, 0);
+    let digits = number::digits_at(indices, place, 0);
     let easy = words::both(opens_here(bare, c), text::is_plain(text, byte));
     if words::both(easy, entry::is_index(indices, place, digits)) {
         return Turn::Took {

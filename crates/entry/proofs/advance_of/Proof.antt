@@ -4,8 +4,8 @@ use mathlib.Core.Path.{_≡_, refl}
 use borrow.Author.Needs.{needs}
 use Rattle.label.specs.declared.Advance.the-variants.{Own}
 use Rattle.entry.specs.Parts.{advanceChoice}
-use Rattle.entry.specs.declared.Thousandths.the-variants.{Of, Over}
-use Rattle.entry.specs.declared.Thousandths.{Thousandths}
+use Rattle.number.specs.declared.Thousandths.the-variants.{Of, Over}
+use Rattle.number.specs.declared.Thousandths.{Thousandths}
 use Rattle.entry.proofs.advance_of.Statement.{statement}
 use Rattle.entry.proofs.advance_of.Tie as tie
 

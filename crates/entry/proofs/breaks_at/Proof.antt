@@ -1,8 +1,8 @@
 -- `entry::breaks_at` meets its contract. Assumes nothing.
 use mathlib.Core.Path.{sym, _∙_}
 use borrow.Author.Needs.{needs}
-use Rattle.entry.specs.Digits.{isBreak}
-use Rattle.entry.proofs.DigitLaws.{ends-at, ends-end}
+use Rattle.number.specs.Digits.{isBreak}
+use Rattle.number.proofs.DigitLaws.{ends-at, ends-end}
 use Rattle.entry.proofs.breaks_at.Statement.{statement}
 use Rattle.entry.proofs.breaks_at.Tie as tie
 

@@ -2,7 +2,7 @@
 use mathlib.Core.Path.{sym}
 use borrow.Author.Needs.{needs}
 use Rattle.entry.specs.Items.{isSemi}
-use Rattle.entry.proofs.DigitLaws.{ends-at, ends-end}
+use Rattle.number.proofs.DigitLaws.{ends-at, ends-end}
 use Rattle.entry.proofs.ends_at.Statement.{statement}
 use Rattle.entry.proofs.ends_at.Tie as tie
 

@@ -4,8 +4,8 @@ use native.Mathlib.Omega.{arith}
 use lib.Dec.{lit<}
 use borrow.Author.Needs.{needs}
 use Rattle.entry.proofs.EntryLaws.{code-absent, code-empty, code-given}
-use Rattle.entry.proofs.NumberLaws.{signed-after}
-use Rattle.entry.proofs.DigitLaws.{head-in}
+use Rattle.number.proofs.NumberLaws.{signed-after}
+use Rattle.number.proofs.DigitLaws.{head-in}
 use Rattle.entry.proofs.field_at.Statement.{statement}
 use Rattle.entry.proofs.field_at.Tie as tie
 

@@ -6,7 +6,7 @@ use lib.Dec.{lit<}
 use borrow.Author.Needs.{needs}
 use Rattle.entry.specs.Parts.{cutMap}
 use Rattle.entry.proofs.EntryLaws.{map-none, code-one, code-two, code-odd, code-open}
-use Rattle.entry.proofs.DigitLaws.{head-in, next-in}
+use Rattle.number.proofs.DigitLaws.{head-in, next-in}
 use Rattle.entry.proofs.map_of.Statement.{statement}
 use Rattle.entry.proofs.map_of.Tie as tie
 

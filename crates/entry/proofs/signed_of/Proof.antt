@@ -1,12 +1,18 @@
 -- `entry::signed_of` meets its contract. Assumes nothing.
+use Prim.Native.Nat.{ℕ, suc, zero, _≤_}
 use native.Mathlib.Omega.{arith}
-use lib.IntN.{+ℤ-idl}
+use lib.IntN.{pos, negℤ, +ℤ-idl}
 use mir.Facts.{toZ-pos, toZ-ofZ}
 use mir.Syntax.{w32}
+use mir.Val.{SFits}
 use borrow.Author.Needs.{needs}
-use Rattle.entry.proofs.ValueLaws.{neg-fits}
+use Rattle.label.specs.Limits.{maxThousandths}
 use Rattle.entry.proofs.signed_of.Statement.{statement}
 use Rattle.entry.proofs.signed_of.Tie as tie
+
+neg-fits : (v : ℕ) → v ≤ maxThousandths → SFits w32 (negℤ (pos v))
+neg-fits zero h = record { sfits = omega arith }
+neg-fits (suc n) h = record { sfits = omega arith }
 
 cast-x : tie.Need-cast-x
 cast-x c = search needs

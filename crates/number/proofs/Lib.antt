@@ -1,0 +1,5 @@
+pub mod DigitLaws
+pub mod ValueLaws
+pub mod NumberLaws
+pub mod Scan
+pub mod NumberBridge

@@ -1,0 +1,56 @@
+-- `number::shrunk` meets its contract. Assumes nothing.
+use native.Mathlib.Nat.{mod-lt, div-le-self}
+use native.Mathlib.Omega.{arith}
+use borrow.Author.Needs.{needs}
+use Rattle.number.proofs.ValueLaws.{shrink-none, none-whole, round-up, round-down, ten-pos, ten-mono}
+use Rattle.number.proofs.shrunk.Statement.{statement}
+use Rattle.number.proofs.shrunk.Tie as tie
+
+zero-requires : tie.Need-zero-requires
+zero-requires c κs = search needs
+
+returns : tie.Need-returns
+returns c = rw (c .zero .ensures, shrink-none _ _ (c .before .before .pre) (c .before .if1 .taken), none-whole _ _ (c .before .before .pre) (c .before .if1 .taken))
+
+power-requires : tie.Need-power-requires
+power-requires c κs = search needs
+
+div-q : tie.Need-div-q
+div-q c = rw (c .power .ensures) (ten-pos _)
+
+rem-r : tie.Need-rem-r
+rem-r c = rw (c .power .ensures) (ten-pos _)
+
+mul-if2 : tie.Need-mul-if2
+mul-if2 c = rw (c .power .ensures) (omega (arith, mod-lt (c .before .before .args .m) (ten-pos (c .before .before .args .k)), ten-mono (c .before .before .args .k) 18 (omega arith)))
+
+add-limited : tie.Need-add-limited
+add-limited c = omega (arith, div-le-self (c .before .before .before .args .m) (c .before .power .result))
+
+limited-requires : tie.Need-limited-requires
+limited-requires c κs = search needs
+
+limited-requires-2 : tie.Need-limited-requires-2
+limited-requires-2 c κs = search needs
+
+returns-2 : tie.Need-returns-2
+returns-2 c = rw (← c .before .before .power .ensures, round-up _ _ (rw (c .before .before .power .ensures) (ten-pos _)) (c .before .if2 .taken)) (c .limited .ensures)
+
+returns-3 : tie.Need-returns-3
+returns-3 c = rw (← c .before .before .power .ensures, round-down _ _ (rw (c .before .before .power .ensures) (ten-pos _)) (c .before .if2 .left)) (c .limited2 .ensures)
+
+pub shrunk-spec : {M : Type 1} → statement M
+shrunk-spec =
+    tie.close
+    (tie.spec
+    zero-requires
+    returns
+    power-requires
+    div-q
+    rem-r
+    mul-if2
+    add-limited
+    limited-requires
+    limited-requires-2
+    returns-2
+    returns-3)

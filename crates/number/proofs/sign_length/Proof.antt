@@ -1,0 +1,18 @@
+-- `number::sign_length` meets its contract. Assumes nothing.
+use mathlib.Core.Path.{sym, _∙_}
+use native.Mathlib.Omega.{arith}
+use borrow.Author.Needs.{needs}
+use Rattle.number.proofs.sign_length.Statement.{statement}
+use Rattle.number.proofs.sign_length.Tie as tie
+
+either-requires : tie.Need-either-requires
+either-requires c κs = search needs
+
+returns : tie.Need-returns
+returns c = (rw (sym (c .before .either .ensures) ∙ c .if1 .taken), omega arith)
+
+returns-2 : tie.Need-returns-2
+returns-2 c = (rw (sym (c .before .either .ensures) ∙ c .if1 .left), omega arith)
+
+pub sign-length-spec : {M : Type 1} → statement M
+sign-length-spec = tie.close (tie.spec either-requires returns returns-2)
