@@ -1,4 +1,6 @@
 use borrow.Author.Needs.{needs}
+use Rattle.sheet.specs.Records.{labelIn}
+use Rattle.sheet.proofs.Answers.{accepted, number-small, place-small, told}
 use Rattle.sheet.proofs.answer_to.Statement.{statement}
 use Rattle.sheet.proofs.answer_to.Tie as tie
 use Rattle.sheet.proofs.answer_to.Reads as reads
@@ -43,19 +45,21 @@ enum-known-r c = search needs
 
 -- src/lib.rt:99:21
 cast-t19 : tie.Need-cast-t19
-cast-t19 c = ?
+cast-t19 c = record { sfits = number-small _ _ (c .before .before .before .before .survey .ensures .0) (c .before .before .r .given .1) }
 
 -- src/lib.rt:100:20
 cast-t20 : tie.Need-cast-t20
-cast-t20 c = ?
+cast-t20 c = record { sfits = place-small _ _ (c .before .before .before .before .before .survey .ensures .0) (c .before .before .before .r .given .1) }
 
 -- src/lib.rt:86:1
 returns : tie.Need-returns
-returns c = ?
+unfolding labelIn
+returns c = accepted _ _ (c .before .before .before .survey .ensures .0) (c .before .counts .given .1)
 
 -- src/lib.rt:86:1
 returns-2 : tie.Need-returns-2
-returns-2 c = ?
+unfolding labelIn
+returns-2 c = told _ _ (c .before .before .before .before .before .survey .ensures .0) (c .before .before .before .r .given .1)
 
 pub answer-to-spec : {M : Type 1} → statement M
 answer-to-spec =

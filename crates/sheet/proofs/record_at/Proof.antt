@@ -1,4 +1,6 @@
+use mathlib.Core.Path.{_∙_}
 use borrow.Author.Needs.{needs}
+use Rattle.sheet.proofs.Records.{record-short, record-cut, record-whole}
 use Rattle.sheet.proofs.record_at.Statement.{statement}
 use Rattle.sheet.proofs.record_at.Tie as tie
 use Rattle.sheet.proofs.record_at.Reads as reads
@@ -13,7 +15,7 @@ sub-if1 c = search needs
 
 -- src/lib.rt:33:9
 returns : tie.Need-returns
-returns c = ?
+returns c = record-short _ _ (c .before .before .pre) (c .if1 .taken)
 
 -- src/lib.rt:35:16
 add-text : tie.Need-add-text
@@ -49,11 +51,11 @@ add-end c = search needs
 
 -- src/lib.rt:39:9
 returns-2 : tie.Need-returns-2
-returns-2 c = ?
+returns-2 c = record-cut _ _ (c .before .before .before .get-u16 .ensures) (c .before .widened .ensures .0 ∙ c .before .before .get-u32 .ensures) (c .before .before .before .before .before .before .pre) (c .if2 .taken)
 
 -- src/lib.rt:28:1
 returns-3 : tie.Need-returns-3
-returns-3 c = ?
+returns-3 c = record-whole _ _ (c .before .before .before .get-u16 .ensures) (c .before .widened .ensures .0 ∙ c .before .before .get-u32 .ensures) (c .if2 .left)
 
 pub record-at-spec : {M : Type 1} → statement M
 record-at-spec =
