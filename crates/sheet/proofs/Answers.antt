@@ -1,27 +1,42 @@
--- The answer to a label, by what the survey of it says; and the loops that store the answers.
+-- The answer to a label, by what the survey of it says; the loops that store the answers; the calls.
 -- Assumes nothing.
-use Prim.Native.Nat.{ℕ, suc, _+_, _-_, _*_, _/_, _≤_, _<_}
+use Prim.Native.Nat.{ℕ, _+_, _-_, _*_, _/_, _≤_, _<_}
 use native.Mathlib.Omega.{arith}
+use mathlib.Core.Bool.{true, false}
 use mathlib.Core.Path.{_≡_, refl, sym, ap, subst, _∙_}
 use mathlib.Core.List.{List, [], _∷_, _++_}
-use borrow.Author.Tests.{lt-ltb}
-use lib.Dec.{ltb}
+use borrow.Author.Tests.{lt-ltb, le-leb, leb-true}
+use lib.Dec.{leb}
 use lib.IntN.{ℤ, pos}
-use lib.ListN.{length}
+use lib.Signed.{mag}
+use lib.ListN.{length, drop, set, drop-of-length-le}
 use mir.Syntax.{w32}
-use mir.Val.{toZ}
+use mir.Val.{ofZ, toZ}
 use Rattle.label.specs.Outcome.{Outcome, ok, no}
+use Rattle.label.specs.Bytes.{begins}
 use Rattle.label.specs.Run.{Run, read}
-use Rattle.label.specs.Calls.{readingOutcome, counts, counted}
-use Rattle.label.specs.Wire.{signed}
-use Rattle.label.specs.Sheet.{answerOf}
+use Rattle.label.specs.Write.{Label}
+use Rattle.label.specs.Calls.{readingOutcome, counts, counted, fillingOutcome, filledCount, filledAfter}
+use Rattle.label.specs.Wire.{bitsOf, fourBytes, fromWords, signed}
+use Rattle.label.specs.Sheet.{header, isRecord, recordLabel, labelsFrom, labelsOf, answerOf, answer, answers, sheetInto, sheetIntoBytes, numberBytesAfter}
 use Rattle.label.specs.declared.Counts.{Counts}
 use Rattle.label.specs.declared.Refusal.{Refusal}
+use Rattle.label.specs.declared.Filling.{Filling}
+use Rattle.label.specs.declared.Filling.the-variants as F
 use Rattle.label.specs.declared.Reading.{Reading}
 use Rattle.label.specs.declared.Reading.the-variants.{Read, Refused}
-use Rattle.label.proofs.Basics.{no-ok}
+use Rattle.label.proofs.Basics.{no-ok, need-ok, bind-ok}
+use Rattle.label.proofs.Walks.{ok-path}
+use Rattle.label.proofs.Wires.{length-words}
+use Rattle.label.proofs.Sheets.{labels-none, labels-cut, length-answers}
 use Rattle.label.proofs.Places.{Placed, refused, read-placed}
-use Rattle.words.proofs.Packs.{signed-is}
+use Rattle.words.specs.Words.{putInt}
+use Rattle.words.proofs.Signed.{back}
+use Rattle.words.proofs.Puts.{Left, left-start, left-next, left-as, left-end, put-room}
+use Rattle.words.proofs.Packs.{signed-is, put-int, Laid, laid-start, laid-next, laid-end}
+use Rattle.sheet.specs.Records.{labelIn, Accepted}
+use Rattle.sheet.specs.declared.Record.{Record}
+use Rattle.sheet.proofs.Records.{Stands, header-inside, some-left, labels-next}
 
 -- ── one answer ──
 
@@ -59,3 +74,174 @@ module _ (t i : List ℕ) {r : Reading} (e : readingOutcome r ≡ counted (read 
 
     pub told : (toZ w32 (x .number) ∷ toZ w32 (x .place) ∷ []) ≡ answerOf (read t i)
     told = rw (small (x .number) number-small, small (x .place) place-small, is-refused)
+
+-- an answer's numbers fit, so they are stored as they are
+of-two : {n p x y : ℤ} → (n ∷ p ∷ []) ≡ (x ∷ y ∷ []) → (x ≡ n) × (y ≡ p)
+of-two e = (cc, cc)
+
+answer-small : (l : Label) {n p : ℤ} → (n ∷ p ∷ []) ≡ answer l → (mag n < 2147483648) × (mag p < 2147483648)
+answer-small l {n} {p} = go (read (l .text) (l .indices)) (read-placed (l .text) (l .indices))
+  where
+    go : (o : Outcome Run) → Placed 15 262145 o → (n ∷ p ∷ []) ≡ answerOf o → (mag n < 2147483648) × (mag p < 2147483648)
+    go (ok r) f a = let (d, e) = of-two a in rw (← d, ← e) (omega arith, omega arith)
+    go (no i q) (refused b c f) a = let (d, e) = of-two a in rw (← d, ← e) (omega arith, omega arith)
+
+pub as-stored : (l : Label) {n p : ℤ} → (n ∷ p ∷ []) ≡ answer l → (toZ w32 (ofZ w32 n) ∷ toZ w32 (ofZ w32 p) ∷ []) ≡ answer l
+as-stored l {n} {p} a = let (d, e) = answer-small l a in rw (back n d, back p e) a
+
+-- ── the labels that are left ──
+
+-- the labels of the records from a place on
+pub record Rest (file : List ℕ) (at : ℕ) : Type 0 where
+  pub rest : List Label
+  pub number : ℕ
+  pub are : labelsFrom 0 number (drop at file) ≡ ok rest
+  pub inside : at ≤ length file
+
+module _ (file : List ℕ) where
+  module _ {room : ℕ} (g : Accepted file room) where
+    from-start : (begins header file ≡ true) × (labelsFrom 0 0 (drop 5 file) ≡ ok (g .labels))
+    unfolding labelsOf
+    from-start = need-ok (begins header file) 25 0 (labelsFrom 0 0 (drop 5 file)) (g .labels) (g .are)
+
+    rest-start : (f : Rest file 5) × (f .rest ≡ g .labels)
+    rest-start =
+        (record { rest = g .labels; number = 0; are = from-start .1; inside = header-inside file (from-start .0) }, refl)
+
+    into : sheetInto room file ≡ ok (answers (g .labels))
+    unfolding sheetInto
+    into = rw (g .are, le-leb (2 * length (g .labels)) room (g .room-for))
+
+  module _ {at : ℕ} (f : Rest file at) where
+    rest-end : length file ≤ at → f .rest ≡ []
+    rest-end h = ok-path (f .rest) [] (sym (f .are) ∙ rw (drop-of-length-le file h, labels-none (f .number)))
+
+    -- an accepted file ends inside no record
+    pub not-cut : at < length file → isRecord (drop at file) ≡ false → ⊥
+    not-cut h e = no-ok 26 (f .number) (f .rest) (sym (labels-cut (f .number) (drop at file) (some-left file at h) e) ∙ f .are)
+
+    rest-next : at < length file → {x : Record} → Stands file at x → (g : Rest file (x .end)) × (f .rest ≡ labelIn file x ∷ g .rest)
+    rest-next h {x} s =
+        let (ls, e, q) = bind-ok (labelsFrom 0 (f .number + 1) (drop (x .end) file)) _ (f .rest) (sym (labels-next file (f .number) at h s) ∙ f .are) in
+        (record { rest = ls; number = f .number + 1; are = e; inside = s .inside }, sym (ok-path (recordLabel (drop at file) ∷ ls) (f .rest) q) ∙ rw (s .label))
+
+answers-next : {rest ls : List Label} {l : Label} {n p : ℤ} → rest ≡ l ∷ ls → (n ∷ p ∷ []) ≡ answer l → answers rest ≡ n ∷ p ∷ answers ls
+unfolding answers
+answers-next {ls = ls} e a = rw e (ap (λ (z : List ℤ). z ++ answers ls) (sym a))
+
+-- the labels behind a record, and the answers to its label and to them
+module _ (file : List ℕ) {at : ℕ} (f : Rest file at) (h : at < length file) {x : Record} (w : Stands file at x) where
+  abbrev behind : Rest file (x .end)
+  behind = rest-next file f h w .0
+
+  two-more : {n p : ℤ} → (n ∷ p ∷ []) ≡ answer (labelIn file x) → answers (f .rest) ≡ n ∷ p ∷ answers (behind .rest)
+  two-more a = answers-next (rest-next file f h w .1) a
+
+-- ── stored as numbers ──
+
+-- the answers of the labels before a place are stored, k numbers
+pub record Stored (file : List ℕ) (old new : List ℤ) (k at : ℕ) : Type 0 where
+  pub whole : Accepted file (length old)
+  pub left : Rest file at
+  pub laid : Laid old (answers (whole .labels)) new k (answers (left .rest))
+
+module _ (file : List ℕ) {old : List ℤ} where
+  pub stored-start : Accepted file (length old) → Stored file old old 0 5
+  stored-start g =
+      let (f, e) = rest-start file g in
+      record { whole = g; left = f; laid = rw e laid-start }
+
+  module _ {new : List ℤ} {k at : ℕ} (s : Stored file old new k at) where
+    module _ (h : at < length file) {x : Record} (w : Stands file at x) {n p : ℤ} (a : (n ∷ p ∷ []) ≡ answer (labelIn file x)) where
+      more : answers (s .left .rest) ≡ n ∷ p ∷ answers (behind file (s .left) h w .rest)
+      more = two-more file (s .left) h w a
+
+      pub stored-next : Stored file old (set (set new k n) (k + 1) p) (k + 2) (x .end)
+      stored-next =
+          let e : k + 2 ≡ k + 1 + 1 = omega arith in
+          record {
+            whole = s .whole;
+            left = behind file (s .left) h w;
+            laid = rw e (laid-next p (answers (behind file (s .left) h w .rest)) (laid-next n (p ∷ answers (behind file (s .left) h w .rest)) (s .laid) more) refl);
+          }
+
+      pub two-places : k + 1 < length new
+      two-places = omega (arith, s .laid .count, s .laid .same, ap length more, length-answers (s .whole .labels), s .whole .room-for)
+
+    pub stored-end : length file ≤ at → new ≡ filledAfter (sheetInto (length old) file) old
+    stored-end h =
+        let e : answers (s .left .rest) ≡ [] = rw (rest-end file (s .left) h) (unfold answers in refl) in
+        rw (into file (s .whole)) (laid-end (s .laid) e (omega (arith, length-answers (s .whole .labels), s .whole .room-for)))
+
+-- ── stored as bytes ──
+
+-- the same as bytes, k of them
+pub record StoredBytes (file old new : List ℕ) (k at : ℕ) : Type 0 where
+  pub whole : Accepted file (length old / 4)
+  pub left : Rest file at
+  pub laid : Left old (fromWords (answers (whole .labels))) new 0 k (fromWords (answers (left .rest)))
+
+module _ (file : List ℕ) {old : List ℕ} where
+  pub bytes-start : Accepted file (length old / 4) → StoredBytes file old old 0 5
+  bytes-start g =
+      let (f, e) = rest-start file g in
+      record { whole = g; left = f; laid = rw e left-start }
+
+  module _ {new : List ℕ} {k at : ℕ} (s : StoredBytes file old new k at) where
+    few : length (fromWords (answers (s .whole .labels))) ≤ length old
+    few = omega (arith, length-words (answers (s .whole .labels)), length-answers (s .whole .labels), s .whole .room-for)
+
+    module _ (h : at < length file) {x : Record} (w : Stands file at x) {n p : ℤ} (a : (n ∷ p ∷ []) ≡ answer (labelIn file x)) where
+      eight-more : fromWords (answers (s .left .rest)) ≡ fourBytes (bitsOf n) ++ (fourBytes (bitsOf p) ++ fromWords (answers (behind file (s .left) h w .rest)))
+      unfolding fromWords
+      eight-more = rw (two-more file (s .left) h w a)
+
+      pub bytes-next : StoredBytes file old (putInt (putInt new k n) (k + 4) p) (k + 8) (x .end)
+      bytes-next =
+          let e : k + 8 ≡ k + 4 + 4 = omega arith in
+          let (d, f) = answer-small (labelIn file x) a in
+          record {
+            whole = s .whole;
+            left = behind file (s .left) h w;
+            laid = rw e (left-next (left-next (left-as eight-more (s .laid)) (put-int new k n d)) (put-int (putInt new k n) (k + 4) p f));
+          }
+
+      pub eight-places : k + 7 < length new
+      eight-places = omega (arith, few, s .laid .count, s .laid .same, ap length eight-more)
+
+    pub bytes-end : length file ≤ at → new ≡ numberBytesAfter (sheetIntoBytes (length old) file) old
+    unfolding sheetIntoBytes
+    bytes-end h =
+        let e : fromWords (answers (s .left .rest)) ≡ [] = rw (rest-end file (s .left) h) (unfold answers fromWords in refl) in
+        rw (into file (s .whole)) (put-room (left-end (left-as e (s .laid))) few)
+
+-- ── the calls ──
+
+was-filled : {A : Type 0} (o : Outcome (List A)) (n : ℕ) → ok n ≡ filledCount o → (vs : List A) × (o ≡ ok vs)
+was-filled (ok vs) n e = (vs, refl)
+was-filled (no i p) n e = no-ok i p n (sym e)
+
+was-refused : {A : Type 0} (o : Outcome (List A)) (n p : ℕ) → no n p ≡ filledCount o → o ≡ no n p
+was-refused (ok vs) n p e = no-ok n p (length vs) e
+was-refused (no i q) n p e = cc
+
+-- the judge's answer r
+module _ (room : ℕ) (file : List ℕ) {r : Filling} (j : fillingOutcome r ≡ filledCount (sheetInto room file)) where
+  module _ {n : ℕ} (e : r ≡ F.Filled n) where
+    pub tells : ok n ≡ filledCount (sheetInto room file)
+    tells = ap fillingOutcome (sym e) ∙ j
+
+    pub accepts : Accepted file room
+    unfolding sheetInto
+    accepts =
+        let (vs, p) = was-filled (sheetInto room file) n tells in
+        let (ls, q, t) = bind-ok (labelsOf file) _ vs p in
+        record { labels = ls; are = q; room-for = leb-true (2 * length ls) room (need-ok (leb (2 * length ls) room) 27 (length ls) _ vs t .0) }
+
+  -- a refusal leaves the list, and its bytes
+  module _ {x : Refusal} (e : r ≡ F.Refused x) where
+    pub tells-no : no (x .number) (x .place) ≡ filledCount (sheetInto room file)
+    tells-no = ap fillingOutcome (sym e) ∙ j
+
+    pub refuses : sheetInto room file ≡ no (x .number) (x .place)
+    refuses = was-refused (sheetInto room file) (x .number) (x .place) tells-no

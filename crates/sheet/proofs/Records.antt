@@ -1,15 +1,15 @@
 -- A record at a place of a sheet's file, and the count of the records.
 -- Assumes nothing.
-use Prim.Native.Nat.{ℕ, suc, _+_, _-_, _*_, _/_, _≤_, _<_}
+use Prim.Native.Nat.{ℕ, _+_, _-_, _*_, _/_, _≤_, _<_}
 use native.Mathlib.Omega.{arith}
 use native.Mathlib.Nat.{add-zero}
 use native.Mathlib.Numerals.{add-one}
 use mathlib.Core.Path.{_≡_, refl, sym, ap, subst, _∙_}
-use mathlib.Core.Bool.{true, false, cond}
+use mathlib.Core.Bool.{true, false}
 use mathlib.Core.List.{List, [], _∷_}
 use borrow.Author.Tests.{leb-true, le-leb, lt-leb}
 use lib.Dec.{leb, eqb}
-use lib.ListN.{length, getD, take, drop, length-drop, drop-of-length-le}
+use lib.ListN.{length, drop, length-drop, drop-of-length-le}
 use lib.Seq.{getD-drop, drop-drop}
 use Rattle.label.specs.Outcome.{Outcome, ok, no, need, _>>=_, _>>_}
 use Rattle.label.specs.Bytes.{ascii, begins}
@@ -18,7 +18,7 @@ use Rattle.label.specs.Calls.{refusal, fillingOutcome, filledCount}
 use Rattle.label.specs.Wire.{fromHalves}
 use Rattle.label.specs.Sheet.{header, textLength, indicesLength, recordLength, isRecord, recordLabel, labelsFrom, labelsOf, answers, sheetInto}
 use Rattle.label.specs.declared.Filling.{Filling}
-use Rattle.label.specs.declared.Filling.the-variants.{Filled, Refused}
+use Rattle.label.specs.declared.Filling.the-variants.{Refused}
 use Rattle.label.proofs.Basics.{and-r, cases, clash}
 use Rattle.label.proofs.Sheets.{labels-none, labels-cut, labels-whole, length-answers}
 use Rattle.words.specs.Words.{halfAt, wordAt}
@@ -134,6 +134,10 @@ begins-long [] s h = omega arith
 begins-long (b ∷ w) [] h = clash false h refl
 begins-long (b ∷ w) (c ∷ s) h = omega (arith, begins-long w s (and-r (eqb c b) (begins w s) h))
 
+pub header-inside : (file : List ℕ) → begins header file ≡ true → 5 ≤ length file
+unfolding header ascii fromHalves
+header-inside file h = begins-long header file h
+
 raised-0 : (o : Outcome ℕ) → o ≡ raised 0 o
 raised-0 (ok m) = ap ok (omega arith)
 raised-0 (no i p) = refl
@@ -141,7 +145,7 @@ raised-0 (no i p) = refl
 pub counted-start : (file : List ℕ) → begins header file ≡ true → Counted file 0 5
 counted-start file h =
     record {
-      inside = unfold header ascii fromHalves in (begins-long header file h);
+      inside = header-inside file h;
       few = omega arith;
       rest = raised-0 (filledCount (labelsFrom 0 0 (drop 5 file)));
     }
@@ -151,7 +155,7 @@ raised-next : (n : ℕ) (l : Label) (o : Outcome (List Label)) → raised n (fil
 raised-next n l (ok ls) = ap ok (omega arith)
 raised-next n l (no i p) = refl
 
-some-left : (file : List ℕ) (at : ℕ) → at < length file → 1 ≤ length (drop at file)
+pub some-left : (file : List ℕ) (at : ℕ) → at < length file → 1 ≤ length (drop at file)
 some-left file at h = omega (arith, length-drop at file)
 
 module _ (file : List ℕ) (n at : ℕ) where
@@ -168,7 +172,7 @@ module _ (file : List ℕ) (n at : ℕ) where
           inside = g .inside;
           few = let a = f .few in let b = g .further in omega arith;
           rest = f .rest ∙ ap (λ (o : Outcome (List Label)). raised n (filledCount o)) (labels-next h g)
-          ∙ raised-next n (recordLabel (drop at file)) (labelsFrom 0 (n + 1) (drop (x .end) file));
+              ∙ raised-next n (recordLabel (drop at file)) (labelsFrom 0 (n + 1) (drop (x .end) file));
         }
 
     counted-cut : at < length file → isRecord (drop at file) ≡ false → filledCount (labelsFrom 0 0 (drop 5 file)) ≡ no 26 n

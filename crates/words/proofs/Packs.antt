@@ -47,6 +47,9 @@ put-word l at n h =
     let m : n / 16777216 % 256 ≡ n / 16777216 = mod-eq-of-lt (omega arith) in
     record { behind = refl; is = rw (m, add-one at, add-two at, add-three at) }
 
+pub put-int : (l : List ℕ) (at : ℕ) (z : ℤ) → mag z < 2147483648 → Put l at (fourBytes (bitsOf z)) (at + 4) (putInt l at z)
+put-int l at z h = rw (bits-are z) (put-word l at (bitsOf z) (bits-below z h))
+
 packed : {old whole l rest : List ℕ} {at : ℕ} → Left old whole l 0 at rest → rest ≡ [] → length whole ≤ length old → l ≡ filled whole old
 packed f e h = put-room (left-end (left-as e f)) h
 
@@ -73,7 +76,7 @@ module _ (zs : List ℤ) (i : ℕ) {old l : List ℕ} (f : Left old (fromWords z
       unfold fromWords in (rw (drop-cons zs i (pos 0), add-one i))
       in
       let m : 4 * (i + 1) ≡ 4 * i + 4 = omega arith in
-      rw (m, q, bits-are v) (left-next (left-as e f) (put-word l (4 * i) (bitsOf v) (bits-below v b)))
+      rw (m, q) (left-next (left-as e f) (put-int l (4 * i) v b))
 
   pub numbers-all : length zs ≤ i → 4 * length zs ≤ length old → l ≡ filled (fromWords zs) old
   numbers-all h r =

@@ -1,62 +1,47 @@
+-- `sheet::answer_to` meets its contract. Assumes nothing.
 use borrow.Author.Needs.{needs}
 use Rattle.sheet.specs.Records.{labelIn}
 use Rattle.sheet.proofs.Answers.{accepted, number-small, place-small, told}
 use Rattle.sheet.proofs.answer_to.Statement.{statement}
 use Rattle.sheet.proofs.answer_to.Tie as tie
-use Rattle.sheet.proofs.answer_to.Reads as reads
-use Rattle.sheet.proofs.answer_to.Lts as lts
-use Rattle.survey.proofs.survey.Reads as survey-reads
 
--- src/lib.rt:93:26
 sub-survey : tie.Need-sub-survey
 sub-survey c = search needs
 
--- src/lib.rt:93:26
 part-survey-start : tie.Need-part-survey-start
 part-survey-start c = search needs
 
--- src/lib.rt:93:26
 part-survey-end : tie.Need-part-survey-end
 part-survey-end c = search needs
 
--- src/lib.rt:93:48
 sub-survey-2 : tie.Need-sub-survey-2
 sub-survey-2 c = search needs
 
--- src/lib.rt:93:48
 part-survey-start-2 : tie.Need-part-survey-start-2
 part-survey-start-2 c = search needs
 
--- src/lib.rt:93:48
 part-survey-end-2 : tie.Need-part-survey-end-2
 part-survey-end-2 c = search needs
 
--- src/lib.rt:93:11
 survey-requires : tie.Need-survey-requires
 survey-requires c κs = search needs
 
--- src/lib.rt:94:32
 enum-known-counts : tie.Need-enum-known-counts
 enum-known-counts c = search needs
 
--- src/lib.rt:98:33
 enum-known-r : tie.Need-enum-known-r
 enum-known-r c = search needs
 
--- src/lib.rt:99:21
 cast-t19 : tie.Need-cast-t19
 cast-t19 c = record { sfits = number-small _ _ (c .before .before .before .before .survey .ensures .0) (c .before .before .r .given .1) }
 
--- src/lib.rt:100:20
 cast-t20 : tie.Need-cast-t20
 cast-t20 c = record { sfits = place-small _ _ (c .before .before .before .before .before .survey .ensures .0) (c .before .before .before .r .given .1) }
 
--- src/lib.rt:86:1
 returns : tie.Need-returns
 unfolding labelIn
 returns c = accepted _ _ (c .before .before .before .survey .ensures .0) (c .before .counts .given .1)
 
--- src/lib.rt:86:1
 returns-2 : tie.Need-returns-2
 unfolding labelIn
 returns-2 c = told _ _ (c .before .before .before .before .before .survey .ensures .0) (c .before .before .before .r .given .1)
