@@ -6,7 +6,8 @@ use Prim.Native.Nat.{ℕ, zero, suc, _+_, _-_, _*_, _/_, _≤_}
 use native.Mathlib.Omega.{arith}
 use lib.Dec.{leb, ltb}
 use lib.IntN.{ℤ}
-use lib.ListN.{length}
+use lib.ListN.{length, drop}
+use Rattle.label.specs.Bytes.{begins}
 use Rattle.label.specs.Outcome.{Outcome, ok, no, need, _>>=_, _>>_}
 use Rattle.label.specs.Rounded.{rounded, beside}
 use Rattle.label.specs.Run.{Run, read}
@@ -16,6 +17,7 @@ use Rattle.label.specs.Pick.{holding, touched, turned, inside, pickUnits, pickG
 use Rattle.label.specs.Attribute.{isGood, further, resolveFrom, resolve}
 use Rattle.label.specs.Calls.{readingOutcome, readingRounded, counts, counted, readInto, lengths, askedFor, writeAsked, filledCount, resolveInto}
 use Rattle.label.specs.Wire.{halves, words, noLeftOver, readBytes, writeAskedBytes, pickUnitsBytes, pickGlyphsBytes}
+use Rattle.label.specs.Sheet.{header, recordLength, isRecord, labelsFrom, labelsOf, sheetInto, sheetIntoBytes}
 use Rattle.label.specs.Demands.{RoomyFor}
 use Rattle.label.specs.declared.Cluster.{Cluster}
 use Rattle.label.specs.declared.Reading.{Reading}
@@ -114,6 +116,33 @@ filled-fits room raw = of (resolveInto room raw) (resolve-placed room raw)
     of : (o : Outcome (List ℕ)) → Placed 24 (length raw) o → FilledFits (filledCount o)
     of (ok s) x = tt
     of (no n p) (refused a b d) = omega arith
+
+-- ── a sheet ──
+
+need-fits : {A : Type 0} (t : Bool) (n p : ℕ) (o : Outcome (List A)) → Small32 n → FilledFits (filledCount o) → FilledFits (filledCount (need t n p >> o))
+need-fits true n p o a f = f
+need-fits false n p o a f = a
+
+then-fits : {A B : Type 0} (o : Outcome (List A)) (f : List A → Outcome (List B)) → FilledFits (filledCount o) → ((ls : List A) → FilledFits (filledCount (f ls)))
+    → FilledFits (filledCount (o >>= f))
+then-fits (ok ls) f a b = b ls
+then-fits (no n p) f a b = a
+
+labels-fit : (s : List ℕ) (skip k : ℕ) → FilledFits (filledCount (labelsFrom skip k s))
+unfolding labelsFrom
+labels-fit [] zero k = tt
+labels-fit [] (suc skip) k = tt
+labels-fit (b ∷ s) (suc skip) k = labels-fit s skip k
+labels-fit (b ∷ s) zero k =
+    need-fits (isRecord (b ∷ s)) 26 k _ (omega arith)
+    (then-fits (labelsFrom (recordLength (b ∷ s) - 1) (suc k) s) _ (labels-fit s (recordLength (b ∷ s) - 1) (suc k)) (λ _. tt))
+
+pub sheet-fits : (n : ℕ) (file : List ℕ) → FilledFits (filledCount (sheetIntoBytes n file))
+unfolding sheetIntoBytes sheetInto labelsOf
+sheet-fits n file =
+    then-fits (need (begins header file) 25 0 >> labelsFrom 0 0 (drop 5 file)) _
+    (need-fits (begins header file) 25 0 _ (omega arith) (labels-fit (drop 5 file) 0 0))
+    (λ ls. need-fits (leb (2 * length ls) (n / 4)) 27 (length ls) _ (omega arith) tt)
 
 -- ── a pick ──
 

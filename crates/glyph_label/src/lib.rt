@@ -6,6 +6,7 @@ ghost use lib.ListN.{length};
 ghost use Rattle.label.specs.Rounded.{rounded as roundedIn};
 ghost use Rattle.label.specs.Calls.{readingOutcome, readingRounded, writingOutcome, pickOutcome, counted, lengths, textAfter, indicesAfter, fillingOutcome, filledCount, filledAfter, resolveInto};
 ghost use Rattle.label.specs.Wire.{readBytes, unitBytesAfter, clusterBytesAfter, glyphBytesAfter, writeBytes, writeAskedBytes, pickUnitsBytes, pickGlyphsBytes};
+ghost use Rattle.label.specs.Sheet.{sheetIntoBytes, numberBytesAfter};
 ghost use Rattle.label.specs.Fault.{faultPart};
 ghost use Rattle.glyph_label.specs.Answers.{readingAnswer, writingAnswer, filledAnswer, stretchAnswer, partAnswer};
 ghost use Rattle.glyph_label.specs.Fits.{Small32, ReadingFits, WritingFits, StretchFits, FilledFits};
@@ -33,7 +34,7 @@ pub struct GlyphLabelWriting {
     pub indices: u32,
 }
 
-// How many places of a lent buffer were filled.
+// How many places of a lent buffer were filled: bytes, or numbers of an answer list.
 #[repr(C)]
 pub struct GlyphLabelFilled {
     pub number: u32,
@@ -254,6 +255,15 @@ pub extern "C" fn glyph_label_resolve(raw: &[u8], out: &mut [u8]) -> GlyphLabelF
     ensures out { λ _. ⌜ now (out .exit) ≡ filledAfter (resolveInto (length (now (out .entry))) (now (raw .entry))) (now (out .entry)) ⌝ }
 {
     filled_answer(attribute::resolve(raw, out))
+}
+
+// The answers to the labels of a sheet's file, as bytes, two numbers a label, where none of 25 to 27 holds.
+#[no_mangle]
+pub extern "C" fn glyph_label_sheet(file: &[u8], answers: &mut [u8]) -> GlyphLabelFilled
+    ensures result { λ r. ⌜ r ≡ filledAnswer (filledCount (sheetIntoBytes (length (now (answers .entry))) (now (file .entry)))) ⌝ }
+    ensures answers { λ _. ⌜ now (answers .exit) ≡ numberBytesAfter (sheetIntoBytes (length (now (answers .entry))) (now (file .entry))) (now (answers .entry)) ⌝ }
+{
+    filled_answer(sheet::read_sheet_bytes(file, answers))
 }
 
 // The offending part of a refused label, as offsets into the text or the indices.

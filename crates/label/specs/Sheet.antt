@@ -6,7 +6,7 @@ use mathlib.Core.List.{List, [], _∷_, _++_}
 use lib.Dec.{leb, ltb}
 use lib.IntN.{ℤ, pos}
 use lib.ListN.{length, getD, take, drop}
-use Rattle.label.specs.Outcome.{Outcome, ok, no, need}
+use Rattle.label.specs.Outcome.{Outcome, ok, no, need, _>>=_, _>>_}
 use Rattle.label.specs.Bytes.{ascii, begins}
 use Rattle.label.specs.Run.{read}
 use Rattle.label.specs.Write.{Label}
