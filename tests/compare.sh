@@ -1,5 +1,5 @@
 #!/usr/bin/env bash
-# Compares the programs and the archive with the independent reader on generated labels, runs, picks, faults and raw values.
+# Compares the programs and the archive with the independent reader on generated labels, runs, picks, faults, raw values and sheets.
 #   compare.sh --short          what the gate runs
 #   compare.sh [--seed N]       some minutes
 set -euo pipefail

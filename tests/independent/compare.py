@@ -1,13 +1,14 @@
-"""Compares another implementation with labels.py and attributes.py on generated cases; exits non-zero on a difference.
+"""Compares another implementation with labels.py, attributes.py and sheets.py on generated cases; exits non-zero on a
+difference.
 
     compare.py relabel PROGRAM    a program that reads one label on two lines and prints what came of it
     compare.py trials PROGRAM     a program that reads many labels, each on two lines, and prints the same for each
     compare.py archive LIB.so     a shared library with the C functions of include/glyph_label.h
 
     --seed N --count N            which random cases, and how many
-    --kinds edges,valid,..        only these kinds; `edges`, `raw-edges` (those of resolving and escaping) and `lines` are
-                                  fixed cases, all tried before the random ones (relabel: of the edges the papers' slips,
-                                  then some of the others)
+    --kinds edges,valid,..        only these kinds; `edges`, `raw-edges` (those of resolving and escaping), `sheet-edges` and
+                                  `lines` are fixed cases, all tried before the random ones (relabel: of the edges the
+                                  papers' slips, then some of the others)
     --trace                       prints each case before it is tried, to find one that ends the process
 """
 
@@ -24,8 +25,9 @@ import attributes
 import edges
 import generate
 import labels
+import sheets
 
-FIXED_KINDS = 'edges', 'raw-edges', 'lines'
+FIXED_KINDS = 'edges', 'raw-edges', 'sheet-edges', 'lines'
 
 class Report:
     """Outcomes by call, and the differences found."""
@@ -154,8 +156,10 @@ Filled = result_type('Filled', number=U32, place=U32, filled=SIZE)
 FUNCTIONS = {
     'read': (Reading, *SLICE * 5), 'write': (Writing, *SLICE * 5), 'units_of': (Stretch, *SLICE * 3, SIZE, SIZE),
     'glyphs_of': (Stretch, *SLICE * 3, SIZE, SIZE), 'fault': (Part, *SLICE * 2, U32, SIZE),
-    'resolve': (Filled, *SLICE * 2), 'write_escaped': (Writing, *SLICE * 5)}
+    'resolve': (Filled, *SLICE * 2), 'write_escaped': (Writing, *SLICE * 5), 'sheet': (Filled, *SLICE * 2)}
 STEPS = 2, 8, 16                # bytes of a unit, of a cluster, of a glyph
+LARGE = 8_192, 32_768, 65_536   # bytes for 4,096 of each
+LABEL_STEP = 8                  # bytes of a label's two answers
 RUN = 'units', 'clusters', 'glyphs'
 LABEL = 'text', 'indices'
 
@@ -171,13 +175,13 @@ def as_numbers(run):
 
 class Buffer:
     """Memory for one buffer, with guard bytes around it that must stay."""
-    GUARD, MEMORY = 24, 400_000
+    GUARD, POOL = 24, 400_000
 
-    def __init__(self, rng, alphabet):
+    def __init__(self, rng, alphabet, memory=POOL):
         self.rng, self.whole, self.start = rng, b'', 0
-        self.memory = ctypes.create_string_buffer(self.MEMORY)
+        self.memory = ctypes.create_string_buffer(memory)
         self.base = ctypes.addressof(self.memory)
-        self.pool = bytes(rng.choices(alphabet, k=self.MEMORY))
+        self.pool = bytes(rng.choices(alphabet, k=self.POOL))
 
     def slice(self, data=None, length=None, behind=b''):
         """The data, or else room of that length, as a slice in C: at any alignment, and NULL now and then where it has no
@@ -209,13 +213,16 @@ class Archive:
         self.buffers = {name: Buffer(rng, b'0123456789;,.:()+-eE5{}A\x80\xbf') for name in LABEL}
         self.buffers |= {name: Buffer(rng, range(256)) for name in RUN}
         self.buffers |= {'raw': Buffer(rng, generate.RAW_BYTES), 'out': Buffer(rng, range(256))}
+        self.buffers |= {'file': Buffer(rng, b'SLB\1\0\0\0\0\0A5;', 2_000_000), 'answers': Buffer(rng, range(256), 1_000_000)}
+        self.large = [ctypes.create_string_buffer(size) for size in LARGE]
 
     def call(self, name, answer, expected, inputs, outputs=(), extra=(), behind=b''):
-        """One call. `inputs` are (buffer, bytes), `outputs` (buffer, size, bytes it must begin with afterwards). Returns what
-        the outputs now begin with where it was accepted and nothing differs."""
+        """One call. `inputs` are (buffer, bytes), `outputs` (buffer, size or the bytes it holds, bytes it must begin with
+        afterwards). Returns what the outputs now begin with where it was accepted and nothing differs."""
         slices = [self.buffers[buffer].slice(data, behind=behind) for buffer, data in inputs]
-        slices += [self.buffers[buffer].slice(length=size) for buffer, size, _ in outputs]
-        sizes = {buffer: size for buffer, size, _ in outputs}
+        for buffer, size, _ in outputs:
+            slices.append(self.buffers[buffer].slice(**{'length' if isinstance(size, int) else 'data': size}))
+        sizes = {buffer: size if isinstance(size, int) else len(size) for buffer, size, _ in outputs}
         self.report.announce(call=name, inputs=inputs, behind=behind, sizes=sizes, extra=extra)
         result = self.functions[name](*chain(*slices), *extra)
         fields = [field for field, _ in result._fields_]
@@ -307,6 +314,90 @@ class Archive:
         self.report.count('raw labels', ('accepted',) if answer[0] == 'ok' else answer)
         self.read_around(*resolved, answer)
 
+    def held_before(self, size):
+        """What a list holds before the call: random bytes, or one byte throughout."""
+        r = self.rng.random()
+        return self.rng.randbytes(size) if r < .7 else bytes((self.rng.choice((0x00, 0x01, 0xA5, 0xFF)),)) * size
+
+    def sheet(self, file, size=None, behind=b'', answer=None):
+        """A file's answers, in a list of that size in bytes, or exact, long and short ones by chance, with these bytes behind
+        the file; `answer` is that of a long list, where it is known. Returns the bytes filled where it was accepted."""
+        answer = answer or sheets.answer_file(file)
+        if size is None:
+            needed = 4 * len(answer[1]) if answer[0] == 'ok' else LABEL_STEP * self.rng.randrange(9)
+            size = generate.around(self.rng, needed, LABEL_STEP) if self.rng.random() < .95 else needed + self.rng.randint(0, 6000)
+        before = self.held_before(size)
+        expected, after = sheets.fill(answer, before)
+        outcome = ('no', *expected[:2]) if expected[0] else ('ok',)
+        given = self.call('sheet', outcome, expected, [('file', file)], [('answers', before, after)], behind=behind)
+        return None if given is None else given[0][:4 * expected[2]]
+
+    def alone(self, text, indices):
+        """Number and place of the label's single reading, with large buffers."""
+        self.report.announce(call='read', text=text, indices=indices)
+        result = self.functions['read'](text, len(text), indices, len(indices), *chain(*zip(self.large, LARGE)))
+        return result.number, result.place
+
+    def each_alone(self, sheet, given):
+        """Every answer in a sheet is that of the single reading."""
+        for label, answer in dict.fromkeys(zip(sheet, labels.grouped(sheets.as_numbers(given), 2))):
+            single = self.alone(*label)
+            self.report.count('sheet, alone', ('no', *single) if single[0] else ('accepted',))
+            if single != answer:
+                self.report.differ(call='sheet, then read', **dict(zip(LABEL, label)), in_sheet=answer, alone=single)
+
+    def whole_sheet(self, sheet):
+        """A sheet's answers in a list by chance, then in an exact one, and each label alone. Returns the latter's bytes."""
+        file = sheets.write_sheet(sheet)
+        self.sheet(file)
+        given = self.sheet(file, LABEL_STEP * len(sheet), answer=('ok', sheets.answers(sheet)))
+        if given is not None:
+            self.each_alone(sheet, given)
+        return given
+
+    def other_labels(self, sheet, given):
+        """One label replaced, then two swapped: every other answer stays, and those swapped go with their labels."""
+        given = labels.grouped(sheets.as_numbers(given), 2)
+        at, other = self.rng.randrange(len(sheet)), self.rng.randrange(len(sheet))
+        replaced = sheet[:at] + [generate.sheet_label(self.rng)] + sheet[at + 1:]
+        swapped, moved = list(sheet), list(given)
+        swapped[at], swapped[other] = sheet[other], sheet[at]
+        moved[at], moved[other] = given[other], given[at]
+        for name, changed, expected in (('replaced', replaced, given), ('swapped', swapped, moved)):
+            after = self.sheet(sheets.write_sheet(changed), LABEL_STEP * len(sheet))
+            if after is None:
+                continue                                            # reported there
+            after = labels.grouped(sheets.as_numbers(after), 2)
+            self.report.count(f'sheet, {name}', ('accepted',))
+            if any(a != b for k, (a, b) in enumerate(zip(expected, after)) if name == 'swapped' or k != at):
+                self.report.differ(call=f'sheet, a label {name}', file=sheets.write_sheet(sheet), at=at, other=other, before=given,
+                                   after=after)
+
+    def sheet_edge(self, file):
+        """Lists that are exact, empty, too short and longer by bytes, numbers and labels, and much longer; where the file is
+        refused, an empty one and another. Each label alone."""
+        read = sheets.read_sheet(file)
+        answer = ('ok', sheets.answers(read[1])) if read[0] == 'ok' else read
+        if read[0] == 'no':
+            sizes = {0, LABEL_STEP * (read[2] + self.rng.randrange(3))}
+        else:
+            needed = 4 * len(answer[1])
+            around = -needed, -8, -1, 0, self.rng.randint(1, 7), 2000
+            if len(file) < 5000:
+                around += -4, 4, *self.rng.choices(range(-17, 18), k=3)
+            sizes = {max(0, needed + more) for more in around}
+        for size in sorted(sizes):
+            given = self.sheet(file, size, answer=answer)
+            if read[0] == 'ok' and size == needed and given is not None:
+                self.each_alone(read[1], given)
+
+    def sheet_cut_edge(self, sheet):
+        """Every beginning of a file, while the rest lies behind, with lists for all labels, for those it has, and empty."""
+        file = sheets.write_sheet(sheet)
+        for at in range(len(file) + 1):
+            for size in {0, LABEL_STEP * len(sheet), LABEL_STEP * self.rng.randrange(len(sheet) + 1)}:
+                self.sheet(file[:at], size, behind=file[at:])
+
     def picks(self, run, first, end):
         numbers = as_numbers(run)
         for name, pick in (('units_of', labels.units_of), ('glyphs_of', labels.glyphs_of)):
@@ -381,7 +472,7 @@ class Archive:
             self.there_and_back(run)
 
     def case(self, kind, case):
-        if kind in ('label_edge', 'run_edge', 'fault', 'raw_edge', 'cut_edge', 'escape_edge'):
+        if kind in ('label_edge', 'run_edge', 'fault', 'raw_edge', 'cut_edge', 'escape_edge', 'sheet_edge', 'sheet_cut_edge'):
             getattr(self, kind)(*case)
         elif kind in generate.LABEL_KINDS:
             answer = labels.read(*case)
@@ -402,6 +493,14 @@ class Archive:
             self.write(self.cut(case), escaped=True)
             if self.rng.random() < .2 and labels.sound(*case):
                 self.there_and_back(case)
+        elif kind in generate.SHEET_KINDS:
+            given = self.whole_sheet(case)
+            if given and self.rng.random() < .3:
+                self.other_labels(case, given)
+        elif kind in generate.FILE_KINDS:
+            given = self.sheet(case)
+            if given:
+                self.each_alone(sheets.read_sheet(case)[1], given)
         else:
             self.fault(*case)
 
@@ -413,6 +512,8 @@ def archive_mode(path, rng, count, kinds, report):
     if 'raw-edges' in kinds:
         fixed += [('raw_edge', zip(edges.raw_edges())), ('cut_edge', zip(edges.CUT)), ('escape_edge', edges.escape_edges()),
                   ('escaped', edges.run_edges())]
+    if 'sheet-edges' in kinds:
+        fixed += [('sheet_edge', zip(edges.sheet_edges())), ('sheet_cut_edge', zip(edges.SMALL_SHEETS))]
     fixed_cases = ((kind, case) for kind, cases in fixed for case in cases)
     for kind, case in chain(fixed_cases, random_cases(rng, count, kinds)):
         archive.case(kind, case)
@@ -423,8 +524,9 @@ def archive_mode(path, rng, count, kinds, report):
 
 def kinds_of(mode):
     if mode == 'archive':
-        return {'edges': None, 'raw-edges': None, **generate.LABEL_KINDS, **generate.RUN_KINDS, **generate.PICK_KINDS,
-                **generate.FAULT_KINDS, **generate.RAW_KINDS, **generate.RAW_LABEL_KINDS, **generate.ESCAPED_KINDS}
+        return {'edges': None, 'raw-edges': None, 'sheet-edges': None, **generate.LABEL_KINDS, **generate.RUN_KINDS,
+                **generate.PICK_KINDS, **generate.FAULT_KINDS, **generate.RAW_KINDS, **generate.RAW_LABEL_KINDS,
+                **generate.ESCAPED_KINDS, **generate.SHEET_KINDS, **generate.FILE_KINDS}
     labels_of = {'edges': list(edges.label_edges()), 'lines': list(edges.line_edges())}
     return {'edges': (40, lambda rng: rng.choice(labels_of['edges'])), 'lines': (1, lambda rng: rng.choice(labels_of['lines'])),
             **generate.LABEL_KINDS, 'large': (.5, generate.large_label)}

@@ -3,6 +3,7 @@
 from itertools import product
 
 import labels
+import sheets
 from labels import FONT
 
 GRIN, THAI = '\U0001F600', '\u0e33'
@@ -453,3 +454,137 @@ def escape_edges():
         for text in [*ESCAPED, '{', 'A', THAI, ESCAPED + 'A' + THAI]:
             yield ([ord(c) for c in text] * count)[:count], [1, 1] * count, font * count
     yield [0x22] * 4096, *longest_writing()[1:]
+
+# ---- Sheets ------------------------------------------------------------------------------------------
+
+# The labels that document 02 speaks of; what would be a reference, were it not resolved already.
+LATER_PAPER = [(b'A', b'5,' + number) for number in b'.0005 .0015 .0025 1000000.0005 1000000.0006 150000 15e4'.split()] + [
+    (GRIN.encode(), b'5'), (b'A' + GRIN.encode(), b';'), (GRIN.encode() * 2, b'(2)9'), (b'&lt;', b';;;'), (b'&lt;', b'(4)5;'),
+    (b'&amp;', b'(1)5;;;;6'), (b'<', b'5'), (b'&', b''), (b'&#65;', b';;;;5'), (b'A\tB\r\nC', b';;;;;5'), (b'A', b'&#53;')]
+
+# Labels by the number of their answer, 0 for those accepted, with places of one and of two bytes.
+ANSWERED = {
+    0: [(b'A', b'5'), (b'fl', b'(2:1)192'), (b'', b'5;6'), (b'{}flow', b'(2:1)192;07,+55.50,,0'), (THAI.encode(), b''),
+        (b'A' * 4096, b'')],
+    1: [(b'A' * 16385, b''), (b'\xff' * 16385, b'x'), (b'A', b'0' * 262144 + b'5')],
+    2: [(b'A\xff', b'5'), (b'\x80', b''), (b'A' * 300 + b'\xc2', b'x')],
+    3: [(b'\1', b'5'), (b'AB\0', b''), (b'A' * 255 + b'\xef\xbf\xbf', b'')],
+    4: [(b'{', b''), (b'{a', b'5')],
+    5: [(b'A' * 4097, b''), (b'{}' + b'A' * 4097, b'x')],
+    6: [(b'', b''), (b'{}', b'')],
+    7: [(b'A', b'x'), (b'ABC', b'5;;x'), (b'', b'5;' * 256 + b'x')],
+    8: [(b'A', b'65536'), (b'ABC', b'5;;70000')],
+    9: [(b'A', b'5,1e7'), (b'AB', b';5,1e001')],
+    10: [(b'A', b'(0)5'), (b'AB', b'5;(1:0)5')],
+    11: [(b'', b';'), (b'AB', b'(2:2)5;')],
+    12: [(b'A', b';'), (b'A', b'(2)5'), (b'A' * 257, b';' * 257)],
+    13: [(GRIN.encode(), b''), (b'AB' + GRIN.encode(), b'5')],
+    14: [(b'AB', b'(2:2)5'), (b'AB', b'5;(1:2)5')],
+    15: [(b'A' * 4096, b'(1:2)5;6'), (b'', b'5' + b';5' * 4096)],
+}
+
+# Sheets whose files are cut at every byte.
+SMALL_SHEETS = (
+    [], [(b'', b'')], [(b'A', b'5')], [(b'', b''), (b'', b'')], [(b'AB', b''), (b'', b'5;6')],
+    [(b'A', b';'), (b'A', b'5'), (b'{', b'')], [(b'', b''), (b'fl', b'(2:1)192'), (b'', b'')],
+    [ANSWERED[number][0] for number in (2, 3, 4, 6, 7, 8, 9, 10, 11, 12, 13, 14)], [(sheets.HEADER, sheets.HEADER)],
+    [(b'A' * 255, b''), (b'A', b'0' * 256)])
+
+def header_edges():
+    """25: each byte of mark and version changed, other marks, versions and beginnings, before good records and cut ones."""
+    for at, byte in product(range(5), range(256)):
+        yield sheets.HEADER[:at] + bytes((byte,)) + sheets.HEADER[at + 1:] + sheets.write_record(b'A', b'5')
+    for rest in (b'', sheets.write_record(b'A', b'5'), b'\1', bytes(6)):
+        for at, byte in product(range(5), (0x00, 0x01, 0x20, 0xFF)):
+            yield sheets.HEADER[:at] + bytes((sheets.HEADER[at] ^ byte,)) + sheets.HEADER[at + 1:] + rest
+        for version in (0, 1, 2, 255, 256, 257, 258, 511, 513, 65279, 65280, 65281, 65535):
+            yield sheets.MARK + version.to_bytes(2, 'little') + rest
+        for mark in b'slb Slb sLB SLb SL SB LB S SLB. .SLB SSLB SLBB SLLB BLS LSB SLBSLB S.L.B. GLB SLC'.split() + [
+                b'', b' SLB', b'SLB ', b'\0SLB', b'SLB\0', b'\xef\xbb\xbfSLB', '\uff33\uff2c\uff22'.encode()]:
+            for version in (b'\1\0', b'\0\1', b'\1', b'\1\0\0\0', b'1', b'1.0', b''):
+                yield mark + version + rest
+        yield from (rest, rest + sheets.HEADER, sheets.HEADER * 2 + rest)
+
+def cut_sheets():
+    """25 and 26: files cut at every byte, and records that begin too late."""
+    for sheet in SMALL_SHEETS:
+        file = sheets.write_sheet(sheet)
+        for at in range(len(file) + 1):
+            yield file[:at]
+            yield sheets.HEADER + file[at:]
+
+def behind_edges():
+    """26, or further records: bytes behind the last record, and left out before its end."""
+    for sheet in SMALL_SHEETS[:7]:
+        file = sheets.write_sheet(sheet)
+        for byte in (0x00, 0x01, 0x41, 0xFF):
+            for count in (*range(1, 14), 18, 19, 60, 100, 300, 1000):
+                yield file + bytes((byte,)) * count
+        for count in range(1, 7):
+            yield file[:-count]
+            yield file + b'\1\0\0\0\0\0'[:count]
+            yield file + b'\0\0\1\0\0\0'[:count]
+
+def length_edges():
+    """Lengths around each border of their bytes and of the limits, first, in the middle and last; a place of three bytes."""
+    few, other = (b'A', b';'), (b'fl', b'(2:1)192')
+    above = [(filler * size, b'5') for filler in (b'A', b'\xff') for size in (16383, 16384, 16385, 32767, 32768, 65534, 65535)]
+    long = [(b'A' * size, b'5') for size in (0, 1, 127, 128, 255, 256, 257, 511, 513, 4095, 4096, 4097)] + above
+    long += [(b'A', b'0' * size + b'5') for size in (
+        0, 126, 127, 254, 255, 256, 257, 65534, 65535, 65536, 65537, 262142, 262143, 262144, 262145, 299999)]
+    long += [(b'A' * text, b'x' * size) for text in (16384, 16385, 65535) for size in (262144, 262145)]
+    long += [(b'', b'5;' * 65537 + b'x'), *ANSWERED[1], *ANSWERED[5], *ANSWERED[15]]
+    for one in long:
+        yield from map(sheets.write_sheet, ([one], [one, few], [few, one], [other, one, few]))
+    yield sheets.write_sheet([few, *above, other])
+
+def too_long_edges():
+    """26: lengths that pass the end by one byte, or by so much that a sum of 32 or 16 bits wraps; and lengths that just don't."""
+    for before in ([], [(b'A', b';')], [(b'A', b'5')] * 3):
+        file = sheets.write_sheet(before)
+        for text, indices in ((0, 0), (1, 0), (0, 1), (3, 4), (255, 1), (256, 256), (0, 65536), (65535, 65536)):
+            whole = file + sheets.write_lengths(text, indices) + b'5' * (text + indices)
+            yield from (whole, whole[:-1], whole + b'5', whole[:len(file) + 6], whole[:len(file) + 6 + text])
+        for text in (0, 1, 6, 300, 65535):
+            past = {2 ** 32 - less for less in (1, 2, 4, 5, 6, 7, 8, 10, 11, 12, 16, 256, 65535, 65536, 65541, 65542, 2 ** 24)}
+            past |= {2 ** 32 - text - less for less in range(-8, 20)} | {2 ** 32 - len(file) - text - less for less in range(-2, 8)}
+            past |= {2 ** 31 + more for more in (-1, 0, 1)} | {2 ** 16 - text, 2 ** 16, 2 ** 24, 2 ** 24 - 1, 2 ** 16 - text - 6}
+            for indices in sorted(size for size in past if 0 < size < 2 ** 32):
+                for there in (0, text, text + 9) if text < 1000 else (text,):
+                    yield file + sheets.write_lengths(text, indices) + b'5' * there
+
+def position_edges():
+    """Labels of every answer, first, in the middle and last, next to each other, and in long sheets."""
+    few, other = (b'A', b''), (b'AB', b'5;x')
+    for one in (label for group in ANSWERED.values() for label in group):
+        for sheet in ([one], [one, other, few], [few, one, other], [other, few, one], [one, one, few, one]):
+            yield sheets.write_sheet(sheet)
+    firsts = [group[0] for group in ANSWERED.values()]
+    yield from (sheets.write_sheet(pair) for pair in product(firsts, repeat=2))
+    for at in range(len(firsts)):
+        yield sheets.write_sheet(firsts[at:] + firsts[:at])
+        long = [firsts[0]] * 300
+        long[at] = long[150] = long[-1 - at] = [label for label in ANSWERED[at] if sum(map(len, label)) < 20_000][-1]
+        yield sheets.write_sheet(long)
+
+def many_edges():
+    """Sheets of many short labels: counts of labels and of answers around the borders of a byte and of two."""
+    for count in (127, 128, 129, 255, 256, 257, 300, 999):
+        yield sheets.write_sheet(([(b'A', b'5'), (b'', b''), (b'A', b'5;x')] * count)[:count])
+    for count in (8192, 32768, 65537):
+        yield sheets.HEADER + bytes(6 * count)
+        yield sheets.HEADER + bytes(6 * count + 5)
+
+def order_edges():
+    """25 before 26, at every record: a wrong header before whole and cut records."""
+    for sheet in SMALL_SHEETS[1:6]:
+        file = sheets.write_sheet(sheet)
+        for header in (b'SLB\2\0', b'SLB\0\1', b'slb\1\0', b'SL', b''):
+            yield from (header + rest for rest in (file[5:], file[5:-1], file[5:] + b'\0', file[5:] + b'\xff' * 6))
+
+SHEET_EDGES = {'headers': header_edges, 'cut': cut_sheets, 'behind': behind_edges, 'lengths': length_edges,
+               'too long': too_long_edges, 'positions': position_edges, 'many': many_edges, 'order': order_edges}
+
+def sheet_edges():
+    for part in SHEET_EDGES.values():
+        yield from part()

@@ -1,7 +1,13 @@
-"""Random cases, deterministic for a random.Random: labels, runs, picks, faults, raw attribute values and buffer sizes."""
+"""Random cases, deterministic for a random.Random: labels, runs, picks, faults, raw attribute values, sheets and buffer
+sizes."""
+
+from functools import cache
+from random import Random
 
 import attributes
+import edges
 import labels
+import sheets
 from edges import (BAD_ENTRIES, BAD_REFERENCES, CHARACTER_NUMBERS, EDGE_CHARACTERS, ESCAPED, GOOD_ENTRIES, GOOD_REFERENCES,
                    GRIN, ILL_FORMED, LONG_NUMBERS, MAX, MIN, NOT_XML, ODD_NUMBERS, ODD_UNITS, SIZE_MAX, THAI, WRAPPED_NUMBERS)
 from labels import FONT, Limits
@@ -432,6 +438,113 @@ def escaped_run(rng):
     units = [ord(rng.choice(ESCAPED + ">'{A")) if rng.random() < often and not 0xD800 <= unit <= 0xDFFF else unit for unit in units]
     return units, clusters, glyphs
 
+# ---- Sheets: lists of labels, and files ---------------------------------------------------------------
+
+@cache
+def label_pool():
+    """Labels by the number of their answer, up to 100 of each: those of the edges, then generated ones, below 200 bytes but
+    where the number takes more. The same for every rng."""
+    rng = Random(0)
+    pool = {number: [label for label in group if sum(map(len, label)) < 20_000] for number, group in edges.ANSWERED.items()}
+    fixed = [label for part in (edges.slips, edges.text_edges, edges.entry_edges, edges.rounding_edges) for label in part()]
+    draw = chooser(rng, {kind: made for kind, made in LABEL_KINDS.items() if kind != 'large'})
+    for label in dict.fromkeys(rng.sample(fixed, 1500) + [draw()[1] for _ in range(1500)]):
+        group = pool[sheets.answer_to(*label)[0]]
+        if len(group) < 100 and sum(map(len, label)) < 200 and label not in group:
+            group.append(label)
+    return pool
+
+def sheet_label(rng):
+    """A label of the pool, about half of them accepted, now and then another."""
+    r = rng.random()
+    if r < .03:
+        return rng.choice((valid_label, damaged_label, mixed_label, utf8_label, rounded_label))(rng)
+    number = 0 if r < .5 else rng.choice((1, 5, 15)) if r < .52 else rng.choice((2, 3, 4, 6, 7, 8, 9, 10, 11, 12, 13, 14))
+    return rng.choice(label_pool()[number])
+
+def sheet(rng, count=None):
+    """A list of labels, a few in most cases."""
+    if count is None:
+        count = int(rng.expovariate(.2))
+    return [sheet_label(rng) for _ in range(count)]
+
+def long_sheet(rng):
+    """Some hundreds of labels; now and then all equal but for a few."""
+    count, one = rng.randint(100, 600), sheet_label(rng)
+    if rng.random() < .8 or sum(map(len, one)) > 300:
+        return sheet(rng, count)
+    listed = [one] * count
+    for at in (0, rng.randrange(count), count - 1):
+        listed[at] = sheet_label(rng)
+    return listed
+
+def sized_label(rng):
+    """A label that costs little to read, with sizes around a border of the fields or of the limits."""
+    text, indices = rng.choice((0, 1, 255, 256, 4096, 16384, 65534)), rng.choice((1, 255, 256, 65535, 65536, 262143))
+    return (rng.choice((b'A', b'{', b'\xff')) * (text + rng.randrange(2)),
+            rng.choice((b'0', b'5', b'x')) * (indices + rng.randrange(3)))
+
+def large_sheet(rng):
+    """Short labels with one or two large ones among them."""
+    listed = sheet(rng)
+    for _ in range(rng.randint(1, 2)):
+        listed.insert(rng.randrange(len(listed) + 1), sized_label(rng))
+    return listed
+
+# Lengths that are likely where one is read wrong, or past the end.
+ODD_LENGTHS = (0, 1, 2, 5, 6, 7, 255, 256, 257, 65535, 65536, 2 ** 24, 2 ** 31, 2 ** 32 - 7, 2 ** 32 - 6, 2 ** 32 - 1)
+
+def damaged_record(rng, text, indices):
+    """A record whose lengths are not those of its text and indices; now and then their sum is."""
+    lengths, which, r = [len(text), len(indices)], rng.randrange(2), rng.random()
+    if r < .3:
+        border = rng.randint(0, len(text + indices)) % 2 ** 16
+        lengths = [border, len(text + indices) - border]
+    elif r < .6:
+        lengths[which] = max(0, lengths[which] + rng.choice((-6, -2, -1, 1, 2, 6, 7)))
+    elif r < .8:
+        lengths[which] = rng.choice(ODD_LENGTHS)
+    elif r < .9:
+        lengths.reverse()
+    else:
+        lengths[1] = 2 ** 32 - lengths[0] - rng.randint(1, 20)
+    return sheets.write_lengths(lengths[0] % 2 ** 16, lengths[1]) + text + indices
+
+def damaged_sheet(rng):
+    """A file that is cut off, has bytes behind, a wrong header or a wrong length, or a byte or two changed."""
+    listed = sheet(rng)
+    records, header = [sheets.write_record(*label) for label in listed], sheets.HEADER
+    for _ in range(1 if rng.random() < .7 else 2):
+        r = rng.random()
+        if r < .2:
+            at = rng.randrange(len(header) + 1)
+            header = header[:at] + rng.choice((b'', rng.randbytes(1), header[at:at + 1].lower(), header[::-1])) + header[at + 1:]
+        elif r < .55 and listed:
+            at = rng.randrange(len(listed))
+            records[at:at + 1] = [damaged_record(rng, *listed[at])]
+        elif r < .75:
+            records.append(rng.choice((bytes, rng.randbytes))(rng.randint(1, 14)))
+        elif r < .9 and records:
+            records[-1] = records[-1][:rng.randrange(len(records[-1]) + 1)]
+        else:
+            records = [damaged(rng, b''.join(records), ANY_BYTE)]
+    return header + b''.join(records)
+
+def random_sheet(rng):
+    """Random bytes behind the header, so many of them zeros that they make records; now and then any bytes."""
+    alphabet = rng.choice((bytes(20) + b'\1\2A', bytes(50) + b'\1\2\3\6\7A5;x,', bytes(200) + b'\1\6\xff', ANY_BYTE))
+    body = bytes(rng.choices(alphabet, k=int(rng.expovariate(.03))))
+    return (sheets.HEADER if rng.random() < .95 else rng.choice((b'SLB', b'SLB\0\1', b'slb\1\0', b'', b'SL'))) + body
+
+def cut_sheet(rng):
+    """A file's beginning, cut anywhere, often at a record's border."""
+    file, borders = sheets.HEADER, [rng.randrange(6)]
+    for label in sheet(rng):
+        file += sheets.write_record(*label)
+        borders.append(len(file))
+    near_border = rng.choice(borders) + rng.choice((-1, 0, 0, 1, 5, 6, 7))
+    return file[:max(0, near_border) if rng.random() < .7 else rng.randrange(len(file) + 1)]
+
 # ---- Picks, faults, buffer sizes ---------------------------------------------------------------------
 
 def pick_case(rng):
@@ -488,6 +601,8 @@ RAW_KINDS = {'raw': (8, valid_raw), 'raw-damaged': (8, damaged_raw), 'raw-mixed'
              'raw-bytes': (5, random_raw), 'raw-large': (.05, large_raw)}
 RAW_LABEL_KINDS = {'raw-labels': (4, raw_label)}
 ESCAPED_KINDS = {'escaped': (8, escaped_run)}
+SHEET_KINDS = {'sheets': (6, sheet), 'sheets-long': (.25, long_sheet), 'sheets-large': (.1, large_sheet)}
+FILE_KINDS = {'sheets-damaged': (6, damaged_sheet), 'sheets-cut': (3, cut_sheet), 'sheets-bytes': (3, random_sheet)}
 
 def chooser(rng, kinds):
     """A function that draws (name of the kind, case) by weight."""

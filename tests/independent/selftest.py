@@ -1,5 +1,5 @@
-"""Checks labels.py and attributes.py against the papers' own examples, other witnesses and themselves. Exits non-zero on
-any failure.
+"""Checks labels.py, attributes.py and sheets.py against the papers' own examples, other witnesses and themselves. Exits
+non-zero on any failure.
 
     selftest.py [--seed N] [--count N]
 """
@@ -7,6 +7,7 @@ any failure.
 import argparse
 import itertools
 import re
+import struct
 import sys
 from collections import Counter
 from decimal import ROUND_HALF_UP, Context, Decimal
@@ -17,6 +18,7 @@ import attributes
 import edges
 import generate
 import labels
+import sheets
 from edges import GRIN
 
 checks, failures = Counter(), Counter()
@@ -326,6 +328,87 @@ def choices_of_escaping():
             (([0x3E, 0x27], [1, 1] * 2, font * 2), (2, 0), ('ok', b">'", b''))):
         check(g, attributes.write_escaped_into(*run, *sizes) == answer, run, sizes, attributes.write_escaped_into(*run, *sizes))
 
+SLB, EMPTY = '53 4C 42 01 00 ', '00 00 00 00 00 00 '       # the header; a record of no bytes
+
+def choices_of_files():
+    """Files in hexadecimal with their labels, or the refusal instead."""
+    g = 'choices: sheets, files'
+    for file, sheet in (
+            (SLB, []), (SLB + EMPTY, [(b'', b'')]), (SLB + EMPTY * 3, [(b'', b'')] * 3),
+            (SLB + '01 00  00 00 00 00  41', [(b'A', b'')]), (SLB + '00 00  01 00 00 00  35', [(b'', b'5')]),
+            (SLB + '01 00  01 00 00 00  41 35', [(b'A', b'5')]),
+            (SLB + '02 00  08 00 00 00  66 6C  28 32 3A 31 29 31 39 32', [(b'fl', b'(2:1)192')]),
+            (SLB + '03 00  0C 00 00 00  E0 B8 B3  28 31 3A 32 29 31 32 34 3B 31 38 31' + EMPTY + '01 00  00 00 00 00  FF',
+             [('\u0e33'.encode(), b'(1:2)124;181'), (b'', b''), (b'\xff', b'')]),
+            (SLB + '05 00  05 00 00 00' + SLB * 2, [(b'SLB\1\0', b'SLB\1\0')]),
+            (SLB + '02 01  03 00 00 00' + '41' * 258 + '36 3B 37', [(b'A' * 258, b'6;7')]),
+            (SLB + '01 00  03 02 00 00  41' + '30' * 515, [(b'A', b'0' * 515)]),
+            (SLB + '01 00  04 00 01 00  41' + '30' * 65540 + '01 00  00 00 00 00  42', [(b'A', b'0' * 65540), (b'B', b'')]),
+            (SLB + 'FF FF  01 00 04 00' + '41' * 65535 + '35' * 262145, [(b'A' * 65535, b'5' * 262145)])):
+        file = bytes.fromhex(file)
+        check(g, sheets.read_sheet(file) == ('ok', sheet), file[:40], sheets.read_sheet(file))
+        check(g, sheets.write_sheet(sheet) == file, file[:40], sheets.write_sheet(sheet)[:40])
+    for file in ('', '53', '53 4C', '53 4C 42', '53 4C 42 01', '4C 42 01 00', '53 4C 42 00 01', '53 4C 42 00 00', '53 4C 42 02 00',
+                 '53 4C 42 01 01', '53 4C 42 02 01', '53 4C 42 FF FF', '53 4C 42 00 00 01 00', '73 6C 62 01 00',
+                 '53 4C 62 01 00', '42 4C 53 01 00', '52 4C 42 01 00', '53 4D 42 01 00', '53 4C 43 01 00', '00 53 4C 42 01 00',
+                 '53 00 4C 00 42 00 01 00'):
+        for more in ('', '02', EMPTY, '00', '01 00 00 00 00 00', 'FF FF FF FF FF FF'):
+            data = bytes.fromhex(file + more)
+            if data[:5] != bytes.fromhex(SLB):                              # else it is whole with what follows
+                check(g, sheets.read_sheet(data) == ('no', 25, 0), data)
+    for place, before in ((0, ''), (1, EMPTY), (2, '01 00 01 00 00 00 41 3B' + EMPTY)):
+        for rest in ('00', '00 00', '00 00 00', '00 00 00 00', '00 00 00 00 00', 'FF', '41 42 43 44 45', '01 00  00 00 00 00',
+                     '00 00  01 00 00 00', '01 00  01 00 00 00  41', '02 00  01 00 00 00  41 42', '00 01  00 00 00 00  41',
+                     '00 00  00 01 00 00  35', '00 00  00 00 01 00  35', '00 00  00 00 00 01  35', '01 00  00 00 00 01  41 35',
+                     '00 00  FF FF FF FF', '00 00  FA FF FF FF', '00 00  F5 FF FF FF', '01 00  FF FF FF FF  41',
+                     '01 00  F9 FF FF FF  41', '00 00  00 00 00 80', '00 00  FF FF FF 7F', 'FF FF  FF FF FF FF',
+                     'FF FF  01 00 FF FF' + '41' * 65535):
+            check(g, sheets.read_sheet(bytes.fromhex(SLB + before + rest)) == ('no', 26, place), before, rest)
+
+def choices_of_answers():
+    """Files with their list of answers, both in hexadecimal; lent lists before and after."""
+    g = 'choices: sheets, answers'
+    for records, numbers, given in (
+            ('', [], ''), (EMPTY, [6, 0], '06 00 00 00  00 00 00 00'), ('01 00 01 00 00 00 41 35', [0, 0], '00' * 8),
+            ('01 00 01 00 00 00 41 3B', [12, 1], '0C 00 00 00  01 00 00 00'),
+            (EMPTY + '01 00 00 00 00 00 41' + '02 00 00 00 00 00 41 FF', [6, 0, 0, 0, 2, 1],
+             '06 00 00 00  00 00 00 00   00 00 00 00  00 00 00 00   02 00 00 00  01 00 00 00'),
+            ('2D 01 00 00 00 00' + '41' * 300 + '80', [2, 300], '02 00 00 00  2C 01 00 00'),
+            ('00 00 05 02 02 00' + '35 3B' * 65794 + '78', [7, 65794], '07 00 00 00  02 01 01 00'),
+            ('04 00 00 00 00 00 F0 9F 98 80', [13, 1], '0D 00 00 00  01 00 00 00'),
+            ('FF FF 00 00 00 00' + '41' * 65535 + '01 00 00 00 00 00 7B', [1, 0, 4, 0],
+             '01 00 00 00  00 00 00 00   04 00 00 00  00 00 00 00')):
+        file, given = bytes.fromhex(SLB + records), bytes.fromhex(given)
+        check(g, sheets.answer_file(file) == ('ok', numbers), file[:40], sheets.answer_file(file))
+        check(g, sheets.as_bytes(numbers) == given and sheets.as_numbers(given) == numbers, numbers, given)
+        check(g, sheets.fill(('ok', numbers), bytes(len(given))) == ((0, 0, len(numbers)), given), numbers)
+    check(g, sheets.as_bytes([-2, 1, -2 ** 31]) == bytes.fromhex('FE FF FF FF  01 00 00 00  00 00 00 80'))
+    check(g, sheets.as_numbers(bytes.fromhex('FE FF FF FF  01 00 00 00  00 00 00 80  07 00 00')) == [-2, 1, -2 ** 31])
+    g, one = 'choices: sheets, lists', '01 00 01 00 00 00 41 3B'
+    for file, before, result, after in (
+            (SLB + one, 'A0 A1 A2 A3 A4 A5 A6 A7', (0, 0, 2), '0C 00 00 00 01 00 00 00'),
+            (SLB + one, 'A0 A1 A2 A3 A4 A5 A6 A7 A8', (0, 0, 2), '0C 00 00 00 01 00 00 00 A8'),
+            (SLB + one, 'A0 A1 A2 A3 A4 A5 A6 A7 A8 A9 AA', (0, 0, 2), '0C 00 00 00 01 00 00 00 A8 A9 AA'),
+            (SLB + one, 'A0 A1 A2 A3 A4 A5 A6 A7 A8 A9 AA AB', (0, 0, 2), '0C 00 00 00 01 00 00 00 A8 A9 AA AB'),
+            (SLB + one, 'A0 A1 A2 A3 A4 A5 A6 A7 A8 A9 AA AB AC AD AE', (0, 0, 2),
+             '0C 00 00 00 01 00 00 00 A8 A9 AA AB AC AD AE'),
+            (SLB + one + EMPTY, 'FF' * 19, (0, 0, 4), '0C 00 00 00 01 00 00 00 06 00 00 00 00 00 00 00 FF FF FF'),
+            (SLB + one + EMPTY, 'FF' * 16, (0, 0, 4), '0C 00 00 00 01 00 00 00 06 00 00 00 00 00 00 00'),
+            (SLB, '', (0, 0, 0), ''), (SLB, 'FF', (0, 0, 0), 'FF'), (SLB, 'FF' * 9, (0, 0, 0), 'FF' * 9),
+            *((SLB + one, 'FF' * size, (27, 1, 0), 'FF' * size) for size in range(8)),
+            *((SLB + one + EMPTY, 'A5' * size, (27, 2, 0), 'A5' * size) for size in range(16)),
+            # 25 before 26 and 27, 26 before 27, whatever the list
+            *(('53 4C 42 02 00' + rest, 'FF' * size, (25, 0, 0), 'FF' * size)
+              for rest in ('', one, '00') for size in (0, 7, 8, 99)),
+            *((SLB + '00', 'FF' * size, (26, 0, 0), 'FF' * size) for size in (0, 7, 8, 99)),
+            *((SLB + one + '00', 'FF' * size, (26, 1, 0), 'FF' * size) for size in (0, 7, 8, 15, 16, 99)),
+            *((SLB + one * 2 + '01 00 00 00 00 00', 'FF' * size, (26, 2, 0), 'FF' * size) for size in (0, 8, 16, 24, 99))):
+        file, before, after = map(bytes.fromhex, (file, before, after))
+        answer = sheets.answer_into(file, len(before) // 4)
+        check(g, sheets.fill(sheets.answer_file(file), before) == (result, after), file, before, result)
+        expected = ('no', *result[:2]) if result[0] else ('ok', sheets.as_numbers(after)[:result[2]])
+        check(g, answer == expected, file, before, answer)
+
 # ---- Other ways to the same answers ------------------------------------------------------------------
 
 def utf8():
@@ -516,16 +599,98 @@ def escaping(rng, count):
         check('escaped into its room', text == 0 or labels.fit_writing(escaped, text - 1, 0) == ('no', 20, text), run)
         check('escaped into its room', indices == 0 or labels.fit_writing(escaped, text, indices - 1) == ('no', 21, indices), run)
 
+def labels_by_struct(file):
+    """The labels up to the end of the file or up to a record that passes it, and the bytes from there on."""
+    found, rest = [], file[5:]
+    while len(rest) >= 6:
+        text, indices = struct.unpack('<HI', rest[:6])
+        if 6 + text + indices > len(rest):
+            break
+        found.append((rest[6:6 + text], rest[6 + text:6 + text + indices]))
+        rest = rest[6 + text + indices:]
+    return found, rest
+
+def files(rng, count):
+    """Files against struct: which are accepted, with which labels, and the record that the file ends in."""
+    draw = generate.chooser(rng, generate.FILE_KINDS)
+    for file in itertools.chain(edges.sheet_edges(), (draw()[1] for _ in range(count))):
+        answer = sheets.read_sheet(file)
+        checks['files accepted' if answer[0] == 'ok' else f'files refused with {answer[1]}'] += 1
+        if answer[0] == 'ok':
+            check('a file is the bytes of its labels', sheets.write_sheet(answer[1]) == file, file[:200], answer)
+        if len(file) < 50_000:
+            found, rest = labels_by_struct(file)
+            expected = ('no', 25, 0) if file[:5] != b'SLB\x01\x00' else ('no', 26, len(found)) if rest else ('ok', found)
+            check('files against struct', answer == expected, file, answer, expected)
+
+def whole_sheets(rng, count):
+    """Sheets out and back, and cut at every byte; answers against single readings, moved with their labels; lists of all sizes."""
+    for number, group in edges.ANSWERED.items():
+        for label in group:
+            check('labels by the number of their answer', sheets.answer_to(*label)[0] == number, number, label)
+    drawn = [generate.sheet(rng) for _ in range(count // 10)] + [generate.long_sheet(rng) for _ in range(count // 500)]
+    for sheet in (*edges.SMALL_SHEETS, *drawn):
+        file, numbers = sheets.write_sheet(sheet), sheets.answers(sheet)
+        check('sheets out and back', sheets.read_sheet(file) == ('ok', sheet), sheet)
+        check('answers of the file', sheets.answer_file(file) == ('ok', numbers), sheet, numbers)
+        if len(file) < 300:
+            borders = [len(sheets.write_sheet(sheet[:k])) for k in range(len(sheet) + 1)]
+            for at in range(len(file) + 1):
+                whole = sum(border <= at for border in borders) - 1
+                expected = ('no', 25, 0) if at < 5 else ('ok', sheet[:whole]) if at in borders else ('no', 26, whole)
+                check('sheets cut at every byte', sheets.read_sheet(file[:at]) == expected, file, at, expected)
+        if len(sheet) < 30:
+            for at, label in enumerate(sheet):
+                alone, given = labels.read_into(*label, 4096, 8192, 16384), tuple(numbers[2 * at:2 * at + 2])
+                check('answers against single readings', given == ((0, 0) if alone[0] == 'ok' else alone[1:]), label, given, alone)
+            lists(sheet, file, numbers)
+        if sheet:
+            other_labels(rng, sheet, numbers)
+
+def lists(sheet, file, numbers):
+    """Lists of every size around the one needed, against struct."""
+    packed = struct.pack(f'<{len(numbers)}i', *numbers)
+    for size in range(max(0, len(packed) - 9), len(packed) + 10):
+        before = bytes(range(0x80, 0x100))[:size] * (size // 0x80 + 1)
+        before, after = before[:size], bytearray(before[:size])
+        if size // 4 < len(numbers):
+            expected = (27, len(sheet), 0)
+        else:
+            struct.pack_into(f'<{len(numbers)}i', after, 0, *numbers)
+            expected = (0, 0, len(numbers))
+        check('lists of answers against struct', sheets.fill(('ok', numbers), before) == (expected, bytes(after)), file, size)
+
+def other_labels(rng, sheet, numbers):
+    """One label replaced or left out, all in another order: every other label keeps its answer."""
+    pairs, at = labels.grouped(numbers, 2), rng.randrange(len(sheet))
+    others = pairs[:at] + pairs[at + 1:]
+    replaced = labels.grouped(sheets.answers(sheet[:at] + [generate.sheet_label(rng)] + sheet[at + 1:]), 2)
+    check('answers beside a label replaced', replaced[:at] + replaced[at + 1:] == others, sheet, at)
+    left = labels.grouped(sheets.answers(sheet[:at] + sheet[at + 1:]), 2)
+    check('answers beside a label left out', left == others, sheet, at)
+    order = rng.sample(range(len(sheet)), len(sheet))
+    moved = labels.grouped(sheets.answers([sheet[k] for k in order]), 2)
+    check('answers in another order', moved == [pairs[k] for k in order], sheet, order)
+
+def fixed_sheet():
+    g, sheet = 'the fixed sheet', sheets.fixed_sheet()
+    file, numbers = sheets.write_sheet(sheet), sheets.answers(sheet)
+    check(g, len(sheet) == 400 and len(file) < 60_000, len(sheet), len(file))
+    check(g, set(numbers[::2]) == set(range(16)), set(numbers[::2]))
+    check(g, numbers[0] and numbers[-2] and sheet[1] == (b'', b''), numbers[:4], numbers[-2:])
+    check(g, sheets.fixed_sheet() == sheet)
+
 def main():
     parser = argparse.ArgumentParser()
     parser.add_argument('--seed', type=int, default=1)
     parser.add_argument('--count', type=int, default=5000)
     options = parser.parse_args()
     rng = Random(options.seed)
-    for part in (paper_labels, standard_examples, choices_of_text, choices_of_entries, choices_of_rounding, choices_of_runs, choices_of_writing,
-                 choices_of_calls, choices_of_resolving, choices_of_raw_labels, choices_of_escaping, utf8, grammar):
+    for part in (paper_labels, standard_examples, choices_of_text, choices_of_entries, choices_of_rounding, choices_of_runs,
+                 choices_of_writing, choices_of_calls, choices_of_resolving, choices_of_raw_labels, choices_of_escaping,
+                 choices_of_files, choices_of_answers, utf8, grammar, fixed_sheet):
         part()
-    for part in (rounding, round_trips, picks, faults, resolving, escaping):
+    for part in (rounding, round_trips, picks, faults, resolving, escaping, files, whole_sheets):
         part(rng, options.count)
     for group in sorted(checks):
         print(f'{checks[group]:8} {group}' + (f'   {failures[group]} FAILED' if failures[group] else ''))

@@ -66,4 +66,5 @@ def main():
     print(f'{len(found)} labels, {sum(s.startswith(b"ok") for s in shown)} accepted, refusals {sorted(numbers)}')
 
 
-main()
+if __name__ == '__main__':
+    main()
