@@ -1,10 +1,10 @@
 -- What document 02 asks of a sheet's answers, proved: a sheet's file is read back as its labels, and the answer to each stands at its place.
 -- Assumes nothing.
-use Prim.Native.Nat.{ℕ, suc, _+_, _*_, _-_, _/_, _≤_, _<_}
+use Prim.Native.Nat.{ℕ, suc, _+_, _*_, _-_, _/_, _%_, _≤_, _<_}
 use native.Mathlib.Omega.{arith}
 use mathlib.Core.Path.{_≡_, refl, sym, _∙_, ap}
 use mathlib.Core.Logic.{_↔_, _⊎_, inl, inr}
-use mathlib.Core.Bool.{true}
+use mathlib.Core.Bool.{Bool, true, _&&_}
 use mathlib.Core.List.{List, [], _∷_, _++_, append-assoc}
 use borrow.Author.Tests.{ltb-true, ltb-false, lt-ltb, leb-true, le-leb}
 use lib.Dec.{ltb, leb}
@@ -12,21 +12,65 @@ use lib.IntN.{ℤ, pos}
 use lib.ListN.{length, take, drop, length-append, length-drop}
 use lib.Seq.{take-append-le, drop-append-le, drop-append-add, take-at, drop-at}
 use Rattle.label.specs.Outcome.{Outcome, ok, no}
+use Rattle.label.specs.Bytes.{ascii}
 use Rattle.label.specs.Run.{Run, read}
 use Rattle.label.specs.Write.{Label}
 use Rattle.label.specs.Calls.{filled, after, readInto}
-use Rattle.label.specs.Wire.{fromWords, words, readBytes}
-use Rattle.label.specs.Sheet.{sheetFile, labelsOf, answerOf, answer, answers, sheetInto, sheetIntoBytes}
+use Rattle.label.specs.Wire.{fromHalves, fourBytes, fromWords, words, readBytes}
+use Rattle.label.specs.Sheet.{header, recordBytes, recordsBytes, sheetFile, fitsFile, labelsOf, answerOf, answer, answers, sheetInto, sheetIntoBytes}
 use Rattle.label.specs.Checks.{GivenBy, saidLabels, sheetChecks}
 use Rattle.label.specs.Demands.{bytes}
-use Rattle.label.specs.Answering.{OneList, answered, answeredBytes, answerAt, answerInBytes, Large, Answers, AnswersBytes, Answering}
-use Rattle.label.proofs.Basics.{cases, bind-ok, need-ok}
+use Rattle.label.specs.Answering.{ofBytes, OneList, answered, answeredBytes, answerAt, answerInBytes, Large, Answers, AnswersBytes, Answering}
+use Rattle.label.proofs.Basics.{and-l, and-r, cases, bind-ok, need-ok}
 use Rattle.label.proofs.Walks.{ok-path}
 use Rattle.label.proofs.Wires.{length-words, words-append, words-back, all32}
 use Rattle.label.proofs.Checks.{sheet-by-checks, given-is}
 use Rattle.label.proofs.Demands.{read-into}
 use Rattle.label.proofs.Places.{Placed, refused, read-placed}
 use Rattle.label.proofs.Sheets.{back, forth, length-answer, length-answers, answers-append}
+
+-- ── the file is bytes ──
+
+bytes-append : (s t : List ℕ) → bytes s ≡ true → bytes t ≡ true → bytes (s ++ t) ≡ true
+unfolding bytes
+bytes-append [] t h k = k
+bytes-append (b ∷ s) t h k = rw (and-l (ltb b 256) (bytes s) h) (bytes-append s t (and-r (ltb b 256) (bytes s) h) k)
+
+-- the two lengths
+length-bytes : (n m : ℕ) → n < 65536 → m < 4294967296 → bytes (fromHalves (n ∷ []) ++ fourBytes m) ≡ true
+unfolding bytes fromHalves
+length-bytes n m h k =
+    rw (
+      lt-ltb (n % 256) 256 (omega arith),
+      lt-ltb (n / 256) 256 (omega arith),
+      lt-ltb (m % 256) 256 (omega arith),
+      lt-ltb (m / 256 % 256) 256 (omega arith),
+      lt-ltb (m / 65536 % 256) 256 (omega arith),
+      lt-ltb (m / 16777216) 256 (omega arith),
+    )
+
+record-bytes : (l : Label) → length (l .text) < 65536 → length (l .indices) < 4294967296 → bytes (l .text) ≡ true → bytes (l .indices) ≡ true → bytes (recordBytes l) ≡ true
+unfolding recordBytes fromHalves
+record-bytes l h k t i =
+    bytes-append (fromHalves (length (l .text) ∷ []) ++ fourBytes (length (l .indices))) (l .text ++ l .indices)
+    (length-bytes (length (l .text)) (length (l .indices)) h k) (bytes-append (l .text) (l .indices) t i)
+
+records-bytes : (ls : List Label) → fitsFile ls ≡ true → ofBytes ls ≡ true → bytes (recordsBytes ls) ≡ true
+unfolding fitsFile ofBytes recordsBytes bytes
+records-bytes [] h k = refl
+records-bytes (l ∷ ls) h k =
+    let a : Bool = ltb (length (l .text)) 65536 in
+    let b : Bool = ltb (length (l .indices)) 4294967296 in
+    let h1 = and-l (a && b) (fitsFile ls) h in
+    let k1 = and-l (bytes (l .text) && bytes (l .indices)) (ofBytes ls) k in
+    bytes-append (recordBytes l) (recordsBytes ls)
+    (record-bytes l (ltb-true (length (l .text)) 65536 (and-l a b h1)) (ltb-true (length (l .indices)) 4294967296 (and-r a b h1))
+    (and-l (bytes (l .text)) (bytes (l .indices)) k1) (and-r (bytes (l .text)) (bytes (l .indices)) k1))
+    (records-bytes ls (and-r (a && b) (fitsFile ls) h) (and-r (bytes (l .text) && bytes (l .indices)) (ofBytes ls) k))
+
+made : (ls : List Label) → fitsFile ls ≡ true → ofBytes ls ≡ true → bytes (sheetFile ls) ≡ true
+unfolding sheetFile
+made ls h k = bytes-append header (recordsBytes ls) (unfold header ascii fromHalves bytes in refl) (records-bytes ls h k)
 
 -- ── the call ──
 
@@ -195,27 +239,32 @@ byte-replaced xs ys l m old k h n =
     ap words (others-stay fromWords 4 words-append length-words old (length old / 4) xs ys l m (8 * k) 8 h (beside k (length xs) n (λ z. omega arith) (λ z. omega arith)))
 
 -- two labels change places: each takes the other's, one after the other
-swapped : (xs ys zs : List Label) (l m : Label) (old : List ℤ) (k : ℕ) → 2 * length (xs ++ (l ∷ (ys ++ (m ∷ zs)))) ≤ length old
-    → (k ≡ length xs → ⊥) → (k ≡ length xs + suc (length ys) → ⊥)
-    → answerAt k (answered (xs ++ (l ∷ (ys ++ (m ∷ zs)))) old) ≡ answerAt k (answered (xs ++ (m ∷ (ys ++ (l ∷ zs)))) old)
-swapped xs ys zs l m old k h a b =
+swap : {B : Type 0} (at : List Label → B) (room : ℕ) (k : ℕ)
+    → ((xs ys : List Label) (l m : Label) → 2 * length (xs ++ (l ∷ ys)) ≤ room → (k ≡ length xs → ⊥) → at (xs ++ (l ∷ ys)) ≡ at (xs ++ (m ∷ ys)))
+    → (xs ys zs : List Label) (l m : Label) → 2 * length (xs ++ (l ∷ (ys ++ (m ∷ zs)))) ≤ room → (k ≡ length xs → ⊥) → (k ≡ length xs + suc (length ys) → ⊥)
+    → at (xs ++ (l ∷ (ys ++ (m ∷ zs)))) ≡ at (xs ++ (m ∷ (ys ++ (l ∷ zs))))
+swap at room k one xs ys zs l m h a b =
     let e : length (xs ++ (m ∷ ys)) ≡ length xs + suc (length ys) = length-append xs (m ∷ ys) in
-    let r : 2 * length ((xs ++ (m ∷ ys)) ++ (m ∷ zs)) ≤ length old =
+    let r : 2 * length ((xs ++ (m ∷ ys)) ++ (m ∷ zs)) ≤ room =
     omega (arith, h, length-append (xs ++ (m ∷ ys)) (m ∷ zs), e, length-append xs (l ∷ (ys ++ (m ∷ zs))), length-append ys (m ∷ zs)) in
-    replaced xs (ys ++ (m ∷ zs)) l m old k h a
-    ∙ (rw (append-assoc xs (m ∷ ys) (m ∷ zs), append-assoc xs (m ∷ ys) (l ∷ zs)) at (replaced (xs ++ (m ∷ ys)) zs m l old k r (λ q. b (q ∙ e))))
+    one xs (ys ++ (m ∷ zs)) l m h a
+    ∙ (rw (append-assoc xs (m ∷ ys) (m ∷ zs), append-assoc xs (m ∷ ys) (l ∷ zs)) at (one (xs ++ (m ∷ ys)) zs m l r (λ q. b (q ∙ e))))
 
 pub answering : Answering
 answering =
     record {
       back = λ ls _. back ls;
+      made = made;
       one-list = one-list;
       accepts = accepts;
       single = λ xs ys l old u c g h m. single xs ys l old u c g (h .1) m;
       byte-single = λ xs ys l old u c g h m. byte-single xs ys l old u c g (h .1) m;
       replaced = λ xs ys l m old k h _ n. replaced xs ys l m old k (h .1) n;
-      swapped = λ xs ys zs l m old k h a b. swapped xs ys zs l m old k (h .1) a b;
+      swapped = λ xs ys zs l m old k h a b.
+          swap (λ ls. answerAt k (answered ls old)) (length old) k (λ v w x y r n. replaced v w x y old k r n) xs ys zs l m (h .1) a b;
       byte-replaced = λ xs ys l m old k h _ n. byte-replaced xs ys l m old k (h .1) n;
+      byte-swapped = λ xs ys zs l m old k h a b.
+          swap (λ ls. answerInBytes k (answeredBytes ls old)) (length old / 4) k (λ v w x y r n. byte-replaced v w x y old k r n) xs ys zs l m (h .1) a b;
       accepted = λ l. (accepted-only l (read (l .text) (l .indices)) (read-placed (l .text) (l .indices)) refl, λ r. ap answerOf (r .1));
       fixed = fixed;
       bytes-fixed = λ room file n p. unfold sheetIntoBytes in fixed (room / 4) file n p;

@@ -4,7 +4,7 @@
 use Prim.Native.Nat.{ℕ, suc, _+_, _*_, _/_, _≤_}
 use mathlib.Core.Path.{_≡_}
 use mathlib.Core.Logic.{_↔_, _⊎_}
-use mathlib.Core.Bool.{true}
+use mathlib.Core.Bool.{Bool, true, _&&_}
 use mathlib.Core.List.{List, [], _∷_, _++_}
 use lib.IntN.{ℤ, pos}
 use lib.ListN.{length, take, drop}
@@ -16,6 +16,11 @@ use Rattle.label.specs.Wire.{fromWords, words, readBytes}
 use Rattle.label.specs.Sheet.{sheetFile, fitsFile, labelsOf, answerOf, answer, answers, sheetInto, sheetIntoBytes, numberBytesAfter}
 use Rattle.label.specs.Checks.{GivenBy, sheetChecks}
 use Rattle.label.specs.Demands.{Roomy, bytes}
+
+-- texts and indices are bytes, as those of C are
+unfoldable pub ofBytes : List Label → Bool
+ofBytes [] = true
+ofBytes (l ∷ ls) = bytes (l .text) && bytes (l .indices) && ofBytes ls
 
 -- a file can hold these labels, and a list of `room` numbers their answers
 abbrev pub Holds : List Label → ℕ → Type 0
@@ -60,6 +65,8 @@ AnswersBytes o room file old =
 pub record Answering : Type 0 where
   -- the file of every list of labels that fits the format is read as that list
   pub back : (ls : List Label) → fitsFile ls ≡ true → labelsOf (sheetFile ls) ≡ ok ls
+  -- it is bytes: each length has the bytes that the format gives it
+  pub made : (ls : List Label) → fitsFile ls ≡ true → ofBytes ls ≡ true → bytes (sheetFile ls) ≡ true
   -- every file that is read as a list of labels is the file of that list, and of no other; so is every file that the call accepts
   pub one-list : (file : List ℕ) (ls : List Label) → bytes file ≡ true → labelsOf file ≡ ok ls → OneList file ls
   pub accepts : (room : ℕ) (file : List ℕ) (list : List ℤ) → bytes file ≡ true
@@ -77,6 +84,9 @@ pub record Answering : Type 0 where
       → answerAt k (answered (xs ++ (l ∷ (ys ++ (m ∷ zs)))) old) ≡ answerAt k (answered (xs ++ (m ∷ (ys ++ (l ∷ zs)))) old)
   pub byte-replaced : (xs ys : List Label) (l m : Label) (old : List ℕ) (k : ℕ) → Holds (xs ++ (l ∷ ys)) (length old / 4) → Holds (xs ++ (m ∷ ys)) (length old / 4)
       → (k ≡ length xs → ⊥) → answerInBytes k (answeredBytes (xs ++ (l ∷ ys)) old) ≡ answerInBytes k (answeredBytes (xs ++ (m ∷ ys)) old)
+  pub byte-swapped : (xs ys zs : List Label) (l m : Label) (old : List ℕ) (k : ℕ) → Holds (xs ++ (l ∷ (ys ++ (m ∷ zs)))) (length old / 4)
+      → (k ≡ length xs → ⊥) → (k ≡ length xs + suc (length ys) → ⊥)
+      → answerInBytes k (answeredBytes (xs ++ (l ∷ (ys ++ (m ∷ zs)))) old) ≡ answerInBytes k (answeredBytes (xs ++ (m ∷ (ys ++ (l ∷ zs)))) old)
   -- "0 and 0 when accepted", and only then
   pub accepted : (l : Label) → (answer l ≡ (pos 0 ∷ pos 0 ∷ [])) ↔ ((r : Run) × (read (l .text) (l .indices) ≡ ok r))
   -- "25: mark or version wrong or cut off; 26: file ends inside a record, place the record; 27: answer list too short, place the labels in the file; in this

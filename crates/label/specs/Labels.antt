@@ -1,12 +1,13 @@
 -- "Labels to prove and to run": labels 1 to 11 of document 01 in a single theorem over a list of rows, the worked examples of ECMA-388 likewise, the counts
--- of rounded fields, raw attribute values, escaped bytes, and the example of `relabel`. Each is computed from the definitions.
+-- of rounded fields, raw attribute values, escaped bytes, sheets, and the example of `relabel`. Each is computed from the definitions.
 -- Assumes nothing.
 use Prim.Native.Nat.{ℕ}
 use mathlib.Core.Path.{_≡_, refl}
 use mathlib.Core.List.{List, [], _∷_, _++_, map}
-use lib.IntN.{pos}
+use lib.IntN.{ℤ, pos}
+use lib.ListN.{take, replicate}
 use Rattle.label.specs.Outcome.{Outcome, ok, no}
-use Rattle.label.specs.Bytes.{ascii, split, cut, allDigits, valueFrom, joinRest, join, trim, decimalFrom, decimal}
+use Rattle.label.specs.Bytes.{ascii, begins, split, cut, allDigits, valueFrom, joinRest, join, trim, decimalFrom, decimal}
 use Rattle.label.specs.Text.{lead, trail, starts, scalar, xmlChar, unitsOf, decode, textUnits}
 use Rattle.label.specs.Entry.{unsigned, isDecimals, isNumber, mantissaDigits, fractionDigits, exponentDigits, nearest, scaled, thousandths, numberFits, isIndexPart, indexDigits, mapUnits, mapGlyphs, isAdvance, isOffset, wellFormed, fieldFits, indexOf, advanceOf, offsetOf, entryOf, entry, entries}
 use Rattle.label.specs.Rounded.{isWhole, isExact, roundedField, roundedEntry, roundedEntries, rounded, beside}
@@ -14,6 +15,8 @@ use Rattle.label.specs.Run.{Run, cluster, fontGlyph, tail, placed, step,
 use Rattle.label.specs.Write.{utf8, unitBytes, unitsBytes, textOf, fraction, valueBytes, advanceBytes, offsetBytes, mapBytes, indexBytes, entryBytes, written, indicesOf, Label, normal}
 use Rattle.label.specs.Attribute.{same, predefined, digitValue, allOf, valueBehind, numbered, referred, body, isClosed, isReference, isGood, spaced, gives, further, resolveFrom, resolve, escapeByte, escape}
 use Rattle.label.specs.Calls.{resolveInto, readRaw}
+use Rattle.label.specs.Wire.{fromHalves}
+use Rattle.label.specs.Sheet.{header, recordBytes, recordsBytes, sheetFile, textLength, indicesLength, recordLength, isRecord, recordLabel, labelsFrom, labelsOf, answers, sheetInto}
 use Rattle.label.specs.Relabel.{relabel, relabelRead}
 use Rattle.label.specs.declared.Index.the-variants.{Named, Font}
 use Rattle.label.specs.declared.Advance.the-variants.{Given, Own}
@@ -244,6 +247,77 @@ escapeRows =
     escapeRow (ascii "{}a>'; " ++ (0xc3 ∷ 0xa9 ∷ [])) (ascii "{}a>'; " ++ (0xc3 ∷ 0xa9 ∷ [])) ∷
     []
 
+-- ── document 02, CR 3: sheets ──
+
+-- a file, how many numbers the answer list has room for, and the answers
+pub record SheetRow : Type 0 where
+  pub file : List ℕ
+  pub room : ℕ
+  pub answer : Outcome (List ℤ)
+
+-- the row of a file, a room and an outcome
+abbrev sheetRow : List ℕ → ℕ → Outcome (List ℤ) → SheetRow
+sheetRow f n a = record { file = f; room = n; answer = a }
+
+-- `SLB` and the version 1 before these records
+abbrev sheetOf : List ℕ → List ℕ
+sheetOf s = 83 ∷ 76 ∷ 66 ∷ 1 ∷ 0 ∷ s
+
+-- `A` with `5`, which is accepted; `A` with `70000`, "index above 65,535" in entry 0; `AB` and a byte that starts no character, at place 2; no bytes at all
+abbrev goodRecord : List ℕ → List ℕ
+goodRecord s = 1 ∷ 0 ∷ 1 ∷ 0 ∷ 0 ∷ 0 ∷ 65 ∷ 53 ∷ s
+
+abbrev aboveRecord : List ℕ → List ℕ
+aboveRecord s = 1 ∷ 0 ∷ 5 ∷ 0 ∷ 0 ∷ 0 ∷ 65 ∷ 55 ∷ 48 ∷ 48 ∷ 48 ∷ 48 ∷ s
+
+abbrev brokenRecord : List ℕ → List ℕ
+brokenRecord s = 3 ∷ 0 ∷ 0 ∷ 0 ∷ 0 ∷ 0 ∷ 65 ∷ 66 ∷ 255 ∷ s
+
+abbrev emptyRecord : List ℕ → List ℕ
+emptyRecord s = 0 ∷ 0 ∷ 0 ∷ 0 ∷ 0 ∷ 0 ∷ s
+
+-- a row for each way to answer a file
+unfoldable pub sheetRows : List SheetRow
+sheetRows =
+    -- a header alone is a file of no labels
+    sheetRow (sheetOf []) 0 (ok []) ∷
+    -- "number and place, 0 and 0 when accepted"; a record may end at the very end
+    sheetRow (sheetOf (goodRecord [])) 2 (ok (pos 0 ∷ pos 0 ∷ [])) ∷
+    sheetRow (sheetOf (aboveRecord [])) 2 (ok (pos 8 ∷ pos 0 ∷ [])) ∷
+    sheetRow (sheetOf (brokenRecord [])) 3 (ok (pos 2 ∷ pos 2 ∷ [])) ∷
+    sheetRow (sheetOf (emptyRecord [])) 9 (ok (pos 6 ∷ pos 0 ∷ [])) ∷
+    -- "A refused label changes no other's answer", at every position
+    sheetRow (sheetOf (aboveRecord (goodRecord (brokenRecord [])))) 6 (ok (pos 8 ∷ pos 0 ∷ pos 0 ∷ pos 0 ∷ pos 2 ∷ pos 2 ∷ [])) ∷
+    sheetRow (sheetOf (goodRecord (emptyRecord (aboveRecord (goodRecord []))))) 8 (ok (pos 0 ∷ pos 0 ∷ pos 6 ∷ pos 0 ∷ pos 8 ∷ pos 0 ∷ pos 0 ∷ pos 0 ∷ [])) ∷
+    -- "low byte first": a text of 256 bytes, indices of 256
+    sheetRow (sheetOf (0 ∷ 1 ∷ 0 ∷ 0 ∷ 0 ∷ 0 ∷ replicate 256 65)) 2 (ok (pos 0 ∷ pos 0 ∷ [])) ∷
+    sheetRow (sheetOf (1 ∷ 0 ∷ 0 ∷ 1 ∷ 0 ∷ 0 ∷ 65 ∷ replicate 256 48)) 2 (ok (pos 0 ∷ pos 0 ∷ [])) ∷
+    -- "size above a limit" (1) of a text of 16,385 bytes that is in the file
+    sheetRow (sheetOf (1 ∷ 64 ∷ 0 ∷ 0 ∷ 0 ∷ 0 ∷ replicate 16_385 65)) 2 (ok (pos 1 ∷ pos 0 ∷ [])) ∷
+    -- "25: mark or version wrong or cut off": a file of fewer than 5 bytes, another mark or case, versions 0, 2, 257 and 1 with its high byte first
+    sheetRow [] 9 (no 25 0) ∷
+    sheetRow (83 ∷ 76 ∷ 66 ∷ 1 ∷ []) 9 (no 25 0) ∷
+    sheetRow (83 ∷ 76 ∷ 67 ∷ 1 ∷ 0 ∷ []) 9 (no 25 0) ∷
+    sheetRow (115 ∷ 108 ∷ 98 ∷ 1 ∷ 0 ∷ []) 9 (no 25 0) ∷
+    sheetRow (83 ∷ 76 ∷ 66 ∷ 0 ∷ 0 ∷ []) 9 (no 25 0) ∷
+    sheetRow (83 ∷ 76 ∷ 66 ∷ 2 ∷ 0 ∷ []) 9 (no 25 0) ∷
+    sheetRow (83 ∷ 76 ∷ 66 ∷ 1 ∷ 1 ∷ []) 9 (no 25 0) ∷
+    sheetRow (83 ∷ 76 ∷ 66 ∷ 0 ∷ 1 ∷ []) 9 (no 25 0) ∷
+    -- "26: file ends inside a record, place the record": in the lengths, in the text, in the indices; lengths of 65,535 and 4,294,967,295
+    sheetRow (sheetOf (0 ∷ [])) 9 (no 26 0) ∷
+    sheetRow (sheetOf (0 ∷ 0 ∷ 0 ∷ 0 ∷ 0 ∷ [])) 9 (no 26 0) ∷
+    sheetRow (sheetOf (1 ∷ 0 ∷ 0 ∷ 0 ∷ 0 ∷ 0 ∷ [])) 9 (no 26 0) ∷
+    sheetRow (sheetOf (1 ∷ 0 ∷ 2 ∷ 0 ∷ 0 ∷ 0 ∷ 65 ∷ 53 ∷ [])) 9 (no 26 0) ∷
+    sheetRow (sheetOf (goodRecord (emptyRecord (0 ∷ 1 ∷ 0 ∷ 0 ∷ 0 ∷ 0 ∷ 65 ∷ [])))) 9 (no 26 2) ∷
+    sheetRow (sheetOf (goodRecord (255 ∷ 255 ∷ 255 ∷ 255 ∷ 255 ∷ 255 ∷ []))) 9 (no 26 1) ∷
+    -- "27: answer list too short, place the labels in the file"
+    sheetRow (sheetOf (goodRecord [])) 1 (no 27 1) ∷
+    sheetRow (sheetOf (aboveRecord (goodRecord (brokenRecord [])))) 5 (no 27 3) ∷
+    -- "in this order"
+    sheetRow (83 ∷ 76 ∷ 66 ∷ 2 ∷ 0 ∷ 0 ∷ []) 0 (no 25 0) ∷
+    sheetRow (sheetOf (goodRecord (0 ∷ []))) 0 (no 26 1) ∷
+    []
+
 -- each row's label is answered as the row says
 pub labels : map (λ (r : LabelRow). said (read (r .text) (r .indices))) (documentRows ++ standardRows) ≡ map (λ (r : LabelRow). r .answer) (documentRows ++ standardRows)
 unfolding documentRows standardRows ascii split cut allDigits valueFrom joinRest join trim decimalFrom decimal lead trail starts scalar xmlChar unitsOf decode textUnits unsigned isDecimals isNumber mantissaDigits fractionDigits exponentDigits nearest scaled thousandths numberFits isIndexPart indexDigits mapUnits mapGlyphs isAdvance isOffset wellFormed fieldFits indexOf advanceOf offsetOf entryOf entry entries tail placed step walk runFrom read utf8 unitBytes unitsBytes textOf fraction valueBytes advanceBytes offsetBytes mapBytes indexBytes entryBytes written indicesOf
@@ -263,6 +337,17 @@ raw-values = refl
 pub escaped-values : map (λ (r : EscapeRow). escape (r .bytes)) escapeRows ≡ map (λ (r : EscapeRow). r .escaped) escapeRows
 unfolding escapeRows ascii escapeByte escape
 escaped-values = refl
+
+-- each row's file is answered as the row says
+pub sheets : map (λ (r : SheetRow). sheetInto (r .room) (r .file)) sheetRows ≡ map (λ (r : SheetRow). r .answer) sheetRows
+unfolding sheetRows header fromHalves textLength indicesLength recordLength isRecord recordLabel labelsFrom labelsOf answers sheetInto begins ascii split cut allDigits valueFrom lead trail starts scalar xmlChar unitsOf decode textUnits unsigned isDecimals isNumber mantissaDigits fractionDigits exponentDigits nearest scaled thousandths numberFits isIndexPart indexDigits mapUnits mapGlyphs isAdvance isOffset wellFormed fieldFits indexOf advanceOf offsetOf entryOf entry entries tail placed step walk runFrom read
+sheets = refl
+
+-- a list of labels to bytes, "low byte first": `A` with `5` and a label without bytes; the lengths 258 and 66,051
+pub sheet-files : (sheetFile (record { text = ascii "A"; indices = ascii "5" } ∷ record { text = []; indices = [] } ∷ []) ≡ sheetOf (goodRecord (emptyRecord [])))
+    × (take 6 (recordBytes (record { text = replicate 258 65; indices = replicate 66_051 53 })) ≡ 2 ∷ 1 ∷ 3 ∷ 2 ∷ 1 ∷ 0 ∷ [])
+unfolding header recordBytes recordsBytes sheetFile fromHalves ascii
+sheet-files = (refl, refl)
 
 -- "the reading is of what comes out": `{` and `}` may be referenced, and a space stays; "text before indices": its 23 and its 24 come first; "both before 1"
 pub raw-readings : (readRaw 9 9 (ascii "&#123;a") [] ≡ no 4 0) × (readRaw 9 9 (ascii "&#123;&#125;a") (ascii "&#53;") ≡ read (ascii "a") (ascii "5"))
