@@ -1,6 +1,6 @@
 #!/usr/bin/env python3
-"""Compares the definitions of crates/label/specs with the independent reader: labels, raw attribute values and bytes to escape, with that reader's answers,
-become rows of theorems, which the prover computes.
+"""Compares the definitions of crates/label/specs with the independent reader: labels, raw attribute values, bytes to escape and sheets, with that reader's
+answers, become rows of theorems, which the prover computes.
 
   compare.py [--seed N] [--count N]
 
@@ -58,18 +58,24 @@ def escaped(value):
     return f"    escapeRow {bytes_of(value['bytes'])} {bytes_of(value['escaped'])} ∷"
 
 
+def answered(sheet):
+    answer = sheet['answer']
+    said = f"no {answer['no'][0]} {answer['no'][1]}" if 'no' in answer else f"ok {numbers([signed(z) for z in answer['ok']])}"
+    return f"    sheetRow {bytes_of(sheet['file'])} {sheet['room']} ({said}) ∷"
+
+
 def rows_of(name, kind, rows):
     return f'unfoldable pub {name} : List {kind}\n{name} =\n' + '\n'.join(rows + ['    []']) + '\n\n'
 
 
-def theorem(labels, values, specs):
-    """specs/Labels.antt with these labels, the counts of their rounded fields, and these raw values and bytes, in place of its own rows."""
+def theorem(labels, values, sheets, specs):
+    """specs/Labels.antt with these labels, the counts of their rounded fields, these raw values and bytes and these sheets in place of its own rows."""
     text = open(os.path.join(specs, 'Labels.antt'), encoding='utf-8').read()
 
     def part(start, end):
         return text[text.index(start):text.index(end)]
 
-    head = text[:text.index('-- ── document 01, labels 1 to 11 ──')].replace('use lib.IntN.{pos}', 'use lib.IntN.{pos, negsuc}')
+    head = text[:text.index('-- ── document 01, labels 1 to 11 ──')].replace('use lib.IntN.{ℤ, pos}', 'use lib.IntN.{ℤ, pos, negsuc}')
     return ''.join([
         head,
         rows_of('documentRows', 'LabelRow', [row(l) for l in labels]),
@@ -80,6 +86,8 @@ def theorem(labels, values, specs):
         rows_of('rawRows', 'RawRow', [resolved(v) for v in values if 'raw' in v]),
         part('-- bytes, and what escaping makes of them', '-- a row for each byte that is escaped'),
         rows_of('escapeRows', 'EscapeRow', [escaped(v) for v in values if 'bytes' in v]),
+        part('-- a file, how many numbers the answer list has room for, and the answers', '-- a row for each way to answer a file'),
+        rows_of('sheetRows', 'SheetRow', [answered(s) for s in sheets]),
         part('-- each row\'s label is answered as the row says', '-- "From `{}flow`'),
     ])
 
@@ -98,25 +106,27 @@ def main():
     args = parser.parse_args()
     labels = answers('--seed', args.seed, '--count', args.count)
     values = answers('--raw', '--seed', args.seed, '--count', args.count)
+    sheets = answers('--sheets', '--seed', args.seed, '--count', args.count)
     with tempfile.TemporaryDirectory() as folder:
         subprocess.run(['git', 'init', '-q', folder], check=True)
         label = os.path.join(folder, 'crates', 'label')
         shutil.copytree(os.path.join(ROOT, 'crates', 'label'), label, ignore=shutil.ignore_patterns('must-fail'))
         open(os.path.join(folder, 'crates.txt'), 'w').write('label:\n')
         specs = os.path.join(label, 'specs')
-        rows = theorem(labels, values, specs)
+        rows = theorem(labels, values, sheets, specs)
         open(os.path.join(specs, 'Labels.antt'), 'w', encoding='utf-8').write(rows)
         done = subprocess.run(['rt', 'check', 'label'], cwd=folder, capture_output=True, text=True)
     accepted = sum('no' not in l['answer'] for l in labels)
     numbers_seen = sorted({l['answer']['no'][0] for l in labels if 'no' in l['answer']})
     if done.returncode != 0:
         print((done.stdout + done.stderr)[-4000:])
-        sys.exit(f'definitions: the theorems of {len(labels)} labels and {len(values)} raw values and bytes to escape were refused')
+        sys.exit(f'definitions: the theorems of {len(labels)} labels, {len(values)} raw values and bytes to escape and {len(sheets)} sheets were refused')
     rounded = sum(l['rounded'] for l in labels)
     bad = sum('no' in v.get('answer', ()) for v in values)
     print(f'definitions: {len(labels)} labels computed by the prover agree with the independent reader'
           f' ({accepted} accepted, {rounded} fields rounded; refusals {" ".join(map(str, numbers_seen))});'
-          f' so do {sum("raw" in v for v in values)} raw values ({bad} refused) and {sum("bytes" in v for v in values)} escapings')
+          f' so do {sum("raw" in v for v in values)} raw values ({bad} refused), {sum("bytes" in v for v in values)} escapings'
+          f' and {len(sheets)} sheets ({sum("no" in s["answer"] for s in sheets)} refused)')
 
 
 main()

@@ -2,10 +2,12 @@
 
     rows.py [--seed N] [--count N]
     rows.py --raw [--seed N] [--count N]    raw attribute values with what they resolve to, and bytes with what they are escaped to
+    rows.py --sheets [--seed N] [--count N] files of sheets, the room of an answer list, and the answers
 
 About a third of the labels are accepted, as many with no rounded field as with one and with more; the others share the
 refusals that labels below 60 bytes can reach. Of the raw values, those that each show one thing come first; then each group
-of edges and each random kind has its share of those accepted and of those refused. Every fifth row is one of escaping.
+of edges and each random kind has its share of those accepted and of those refused. Every fifth row is one of escaping. Of the
+files, about half are accepted; the others share 25, 26 and 27.
 """
 
 import argparse
@@ -17,10 +19,12 @@ import attributes
 import edges
 import generate
 import labels
+import sheets
 
 REACHED = (2, 3, 4, 6, 7, 8, 9, 10, 11, 12, 13, 14)        # 1, 5 and 15 take longer labels
 BYTES = 60
 RAW_SIZE = 40
+SHEET_SIZE = 80
 
 def row(text, indices, answer):
     if answer[0] == 'no':
@@ -84,11 +88,43 @@ def raw_rows(seed, count):
     rng.shuffle(shown)
     return shown
 
+def sheet_row(file, room):
+    answer = sheets.answer_into(file, room)
+    said = {'ok': answer[1]} if answer[0] == 'ok' else {'no': answer[1:]}
+    return json.dumps({'file': file.hex(), 'room': room, 'answer': said})
+
+def rooms(rng, file):
+    """A room for the answers that is exact, a number or a label too short, or too large."""
+    answer = sheets.answer_file(file)
+    exact = len(answer[1]) if answer[0] == 'ok' else 4
+    return max(0, exact + rng.choice((0, 0, 0, 1, 5, -1, -2)))
+
+def sheet_rows(seed, count):
+    """Distinct rows, as many of each outcome as its share."""
+    rng = Random(seed)
+    share = {'ok': count - 3 * (count // 6), 25: count // 6, 26: count // 6, 27: count // 6}
+    files = [list(part()) for name, part in edges.SHEET_EDGES.items() if name != 'many']
+    files += [[sheets.write_sheet(generate.sheet(rng)) for _ in range(count)] for _ in range(3)]
+    files = [[file for file in group if len(file) <= SHEET_SIZE] for group in files]
+    for group in files:
+        rng.shuffle(group)
+    seen = set()
+    for file in in_turn(files):
+        room = rooms(rng, file)
+        answer = sheets.answer_into(file, room)
+        outcome = answer[1] if answer[0] == 'no' else 'ok'
+        if file not in seen and share[outcome]:
+            seen.add(file)
+            share[outcome] -= 1
+            yield sheet_row(file, room)
+
 if __name__ == '__main__':
     parser = argparse.ArgumentParser()
     parser.add_argument('--seed', type=int, default=1)
     parser.add_argument('--count', type=int, default=300)
     parser.add_argument('--raw', action='store_true')
+    parser.add_argument('--sheets', action='store_true')
     options = parser.parse_args()
-    for line in (raw_rows if options.raw else rows)(options.seed, options.count):
+    chosen = raw_rows if options.raw else sheet_rows if options.sheets else rows
+    for line in chosen(options.seed, options.count):
         print(line)

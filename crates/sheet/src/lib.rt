@@ -11,6 +11,9 @@ use label::Refusal;
 
 // ── records ──
 
+// Where the first record starts: behind the mark `SLB` and the version.
+const FIRST: usize = 5;
+
 // Where a record's text and indices start, and where it ends.
 struct Record {
     text: usize,
@@ -57,7 +60,7 @@ fn judge(file: &[u8], room: usize) -> Filling
         return refused(25, 0);
     }
     let mut n = 0;
-    let mut at = 5;
+    let mut at = FIRST;
     while at < file.len() {
         match record_at(file, at) {
             Found::Whole(x) => {
@@ -83,6 +86,7 @@ struct Answer {
     place: i32,
 }
 
+// The label is a part of the file: nothing of it is copied, and no run is stored.
 fn answer_to(file: &[u8], x: Record) -> Answer
     requires { ⌜ (x .text ≤ x .indices) × (x .indices ≤ x .end) × (x .end ≤ length (now file)) ⌝ }
     ensures { λ r. ⌜ (r .number ∷ r .place ∷ []) ≡ answerTo (labelIn (now (file .entry)) x) ⌝ }
@@ -91,7 +95,7 @@ fn answer_to(file: &[u8], x: Record) -> Answer
     let indices = x.indices;
     let end = x.end;
     match survey::survey(&file[text..indices], &file[indices..end]) {
-        label::Reading::Read { counts, rounded } => Answer {
+        label::Reading::Read { .. } => Answer {
             number: 0,
             place: 0,
         },
@@ -102,12 +106,13 @@ fn answer_to(file: &[u8], x: Record) -> Answer
     }
 }
 
+// Stores the answers to all labels, from the start of the list on.
 fn put_answers(file: &[u8], answers: &mut [i32])
     requires { ⌜ Accepted (now file) (length (now answers)) ⌝ }
     ensures { λ _. ⌜ now (answers .exit) ≡ filledAfter (sheetInto (length (now (answers .entry))) (now (file .entry))) (now (answers .entry)) ⌝ }
 {
     let mut k = 0;
-    let mut at = 5;
+    let mut at = FIRST;
     while at < file.len() {
         match record_at(file, at) {
             Found::Whole(x) => {
@@ -127,13 +132,13 @@ fn put_answers(file: &[u8], answers: &mut [i32])
     }
 }
 
-// The same as bytes, 4 a number.
+// The same as bytes: a number is 4.
 fn put_answer_bytes(file: &[u8], answers: &mut [u8])
     requires { ⌜ Accepted (now file) (length (now answers) / 4) ⌝ }
     ensures { λ _. ⌜ now (answers .exit) ≡ numberBytesAfter (sheetIntoBytes (length (now (answers .entry))) (now (file .entry))) (now (answers .entry)) ⌝ }
 {
     let mut k = 0;
-    let mut at = 5;
+    let mut at = FIRST;
     while at < file.len() {
         match record_at(file, at) {
             Found::Whole(x) => {

@@ -26,21 +26,21 @@ part-survey-end-2 c = search needs
 survey-requires : tie.Need-survey-requires
 survey-requires c κs = search needs
 
-enum-known-counts : tie.Need-enum-known-counts
-enum-known-counts c = search needs
+enum-told : tie.Need-enum-told
+enum-told c = search needs
 
 enum-known-r : tie.Need-enum-known-r
 enum-known-r c = search needs
 
-cast-t19 : tie.Need-cast-t19
-cast-t19 c = record { sfits = number-small _ _ (c .before .before .before .before .survey .ensures .0) (c .before .before .r .given .1) }
+cast-t17 : tie.Need-cast-t17
+cast-t17 c = record { sfits = number-small _ _ (c .before .before .before .before .survey .ensures .0) (c .before .before .r .given .1) }
 
-cast-t20 : tie.Need-cast-t20
-cast-t20 c = record { sfits = place-small _ _ (c .before .before .before .before .before .survey .ensures .0) (c .before .before .before .r .given .1) }
+cast-t18 : tie.Need-cast-t18
+cast-t18 c = record { sfits = place-small _ _ (c .before .before .before .before .before .survey .ensures .0) (c .before .before .before .r .given .1) }
 
 returns : tie.Need-returns
 unfolding labelIn
-returns c = accepted _ _ (c .before .before .before .survey .ensures .0) (c .before .counts .given .1)
+returns c = accepted _ _ (c .before .before .survey .ensures .0) (c .enum-told .given .1)
 
 returns-2 : tie.Need-returns-2
 unfolding labelIn
@@ -57,9 +57,9 @@ answer-to-spec =
     part-survey-start-2
     part-survey-end-2
     survey-requires
-    enum-known-counts
+    enum-told
     enum-known-r
-    cast-t19
-    cast-t20
+    cast-t17
+    cast-t18
     returns
     returns-2)
