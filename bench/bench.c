@@ -1,6 +1,6 @@
 /* Reading and writing through the C calls beside a plain loop of the kind that viewers use: digits by hand, strtof for the rest, no checks, no clusters
    tied to the text. Both in one run, best of several rounds; the ratio is what counts. Then the growth with the label, and the stack that the calls take;
-   and resolving beside a plain loop, escaped writing beside the normal one. */
+   resolving beside a plain loop, escaped writing beside the normal one; and all labels of a sheet in one call beside one reading each and the plain loop. */
 #include <alloca.h>
 #include <pthread.h>
 #include <stdio.h>
@@ -302,6 +302,134 @@ static void measure_raw(void)
     measure_escaping("1,000 in the tail, every fifth");
 }
 
+/* ── a sheet in one call ── */
+
+#define LABELS 4000
+#define LONGEST 512 /* bytes of a label of 12 glyphs, and more */
+
+struct label { size_t text, text_len, indices, indices_len; };
+
+/* The sheet's call judges each label and stores two numbers; one reading each, and the plain loop, store the runs as well.
+
+   A sheet twice: its labels with a zero byte behind each text and indices, as the plain loop needs it, and its file. */
+static struct label labels[LABELS];
+static int label_count;
+static size_t strings_len, file_len;
+static char strings[LABELS * LONGEST], strings_at[sizeof strings + ROUNDS * STEP];
+static uint8_t file[5 + LABELS * LONGEST], file_at[sizeof file + ROUNDS * STEP], answers[8 * LABELS];
+
+static const char *strings_now;
+static const uint8_t *file_now;
+
+static size_t put_string(const char *s, size_t n)
+{
+    size_t at = strings_len;
+    memcpy(strings + at, s, n + 1);
+    strings_len += n + 1;
+    return at;
+}
+
+static void put_record(size_t text_len, size_t indices_len)
+{
+    uint8_t *p = file + file_len;
+    for (int k = 0; k < 2; k++) p[k] = (uint8_t)(text_len >> 8 * k);
+    for (int k = 0; k < 4; k++) p[2 + k] = (uint8_t)(indices_len >> 8 * k);
+    memcpy(p + 6, text, text_len);
+    memcpy(p + 6 + text_len, indices, indices_len);
+    file_len += 6 + text_len + indices_len;
+}
+
+/* n labels of 4 to 12 glyphs. */
+static void make_sheet(int n, const char *entry)
+{
+    label_count = n;
+    strings_len = 0;
+    file_len = 5;
+    memcpy(file, "SLB\1\0", 5);
+    for (int k = 0; k < n; k++) {
+        make(4 + k * 5 % 9, entry, "A");
+        size_t t = strlen(text), i = strlen(indices);
+        labels[k] = (struct label){put_string(text, t), t, put_string(indices, i), i};
+        put_record(t, i);
+    }
+}
+
+/* The three ways through a sheet. */
+static void sheet_plain(void)
+{
+    for (struct label *x = labels; x < labels + label_count; x++) sink += plain_read(strings_now + x->text, x->text_len, strings_now + x->indices);
+}
+
+static glyph_label_reading read_one(const struct label *x)
+{
+    const uint8_t *s = (const uint8_t *)strings_now;
+    return glyph_label_read(s + x->text, x->text_len, s + x->indices, x->indices_len, units, sizeof units, clusters, sizeof clusters, glyphs, sizeof glyphs);
+}
+
+static void sheet_singly(void)
+{
+    for (struct label *x = labels; x < labels + label_count; x++) sink += (int)read_one(x).number;
+}
+
+static void sheet_at_once(void) { sink += (int)glyph_label_sheet(file_now, file_len, answers, sizeof answers).filled; }
+
+/* ns a label of the sheet. */
+static double timed(void (*call)(void), int rounds)
+{
+    double start = now();
+    for (int r = 0; r < rounds; r++) call();
+    return (now() - start) / rounds / label_count;
+}
+
+/* As best, of the three ways in turn, so that a busy moment of the machine is in no column alone. */
+static void best_sheet(double least[3])
+{
+    static void (*const ways[3])(void) = {sheet_plain, sheet_singly, sheet_at_once};
+    least[0] = least[1] = least[2] = 1e30;
+    for (int k = 0; k < 4 * ROUNDS; k++) {
+        strings_now = memcpy(strings_at + k % ROUNDS * STEP, strings, strings_len);
+        file_now = memcpy(file_at + (ROUNDS - k % ROUNDS) * STEP, file, file_len);
+        volatile char *deeper = alloca(STEP);
+        deeper[0] = 0;
+        for (int w = 0; w < 3; w++) {
+            double t = timed(ways[w], 10000 / label_count);
+            if (t < least[w]) least[w] = t;
+        }
+    }
+}
+
+/* Every label is accepted, in the sheet and alone. */
+static void check_sheet(const char *name)
+{
+    strings_now = strings;
+    glyph_label_filled f = glyph_label_sheet(file, file_len, answers, sizeof answers);
+    int bad = f.number != 0 || f.filled != 2 * (size_t)label_count;
+    for (int k = 0; k < label_count; k++) bad |= read_one(&labels[k]).number != 0;
+    for (int k = 0; k < 8 * label_count; k++) bad |= answers[k] != 0;
+    if (bad) { printf("%s: a label is refused\n", name); exit(1); }
+}
+
+static void measure_sheet(const char *name)
+{
+    double t[3];
+    check_sheet(name);
+    best_sheet(t);
+    printf("%-34s %7.0f %7.0f %7.0f %7.2f %7.2f   %9.0f %9.0f %9.0f\n", name, t[0], t[1], t[2], t[2] / t[0], t[2] / t[1], 1e9 / t[0], 1e9 / t[1], 1e9 / t[2]);
+}
+
+static void measure_sheets(void)
+{
+    printf("%-34s %7s %7s %7s %7s %7s   %9s %9s %9s\n", "sheet (ns a label; labels a s)", "plain", "read", "sheet", "/plain", "/read", "plain", "read", "sheet");
+    make_sheet(400, "%d,55.5");
+    measure_sheet("400 of 4 to 12 glyphs, advances");
+    make_sheet(400, "%d,55.5,-1.25,.5");
+    measure_sheet("400 of 4 to 12 glyphs, all fields");
+    make_sheet(400, "%d");
+    measure_sheet("400 of 4 to 12 glyphs, bare");
+    make_sheet(4000, "%d,55.5");
+    measure_sheet("4,000 of 4 to 12 glyphs, advances");
+}
+
 /* ── the stack of a call ── */
 
 #define STACK (1 << 20)
@@ -322,6 +450,13 @@ static void *raw_calls(void *unused)
     both_calls(unused);
     call_write_escaped(NULL, 0);
     call_resolve(text, strlen(text));
+    return unused;
+}
+
+static void *sheet_call(void *unused)
+{
+    file_now = file;
+    sheet_at_once();
     return unused;
 }
 
@@ -373,5 +508,7 @@ int main(void)
     printf("stack of a reading and a writing, bytes: %ld for 32 glyphs, %ld for 4,096\n", stack_of_calls(both_calls, 32), stack_of_calls(both_calls, 4096));
     measure_raw();
     printf("stack with an escaped writing and a resolving, bytes: %ld for 32 glyphs, %ld for 4,096\n", stack_of_calls(raw_calls, 32), stack_of_calls(raw_calls, 4096));
+    measure_sheets();
+    printf("stack of a sheet's call, bytes: %ld for 4,000 labels\n", touched(sheet_call) - touched(no_call));
     return 0;
 }

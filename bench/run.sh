@@ -1,5 +1,5 @@
 #!/usr/bin/env bash
-# Builds the archive and the benchmark and runs it: times and ratios of one run, the growth with the label, the stack of the calls, resolving and escaped writing.
+# Builds the archive and the benchmark and runs it: times and ratios of one run, the growth with the label, the stack of the calls, resolving, escaped writing, and sheets.
 set -euo pipefail
 cd "$(dirname "$0")/.."
 rt staticlib glyph_label > /dev/null

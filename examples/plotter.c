@@ -1,10 +1,11 @@
 /* Reads the label given on the command line, prints its run cluster by cluster, picks a stretch of glyphs, and writes
- * the label back in its normal writing.
+ * the label back in its normal writing. Or reads all labels of a sheet, and prints what came of each.
  *
  *     cc -I include examples/plotter.c target/staticlib/libglyph_label.a -o plotter
  *     ./plotter 'flow' '(2:1)192;7,55.5'            picks all glyphs
  *     ./plotter 'flow' '(2:1)192;7,55.5' 1 2        picks glyph 1
  *     ./plotter --raw 'A&amp;B' '5;6;7'             resolves text and indices first, and escapes what it writes back
+ *     ./plotter --sheet soundings.slb               reads the labels of a sheet's file
  */
 #include <stdio.h>
 #include <stdlib.h>
@@ -19,7 +20,7 @@ static uint8_t units[UNITS], clusters[CLUSTERS], glyphs[GLYPHS], text_out[TEXT],
 
 static unsigned unit(size_t i) { return units[2 * i] | (unsigned)units[2 * i + 1] << 8; }
 
-/* Number i of clusters or glyphs. */
+/* Number i of clusters, glyphs or answers. */
 static long number(const uint8_t *numbers, size_t i) {
     const uint8_t *p = numbers + 4 * i;
     uint32_t bits = p[0] | (uint32_t)p[1] << 8 | (uint32_t)p[2] << 16 | (uint32_t)p[3] << 24;
@@ -137,12 +138,55 @@ static int plot(value text, value indices, char **pick, int raw) {
     return 0;
 }
 
+static value read_file(const char *path) {
+    FILE *f = fopen(path, "rb");
+    uint8_t *bytes = NULL;
+    size_t len = 0;
+    for (size_t more = 1; f != NULL && more > 0; len += more) {
+        bytes = realloc(bytes, len + 65536);
+        if (bytes == NULL)
+            exit(2);
+        more = fread(bytes + len, 1, 65536, f);
+    }
+    if (f == NULL || ferror(f)) {
+        perror(path);
+        exit(2);
+    }
+    fclose(f);
+    return (value){bytes, len};
+}
+
+/* One line a label of a sheet. A label takes at least 6 bytes of the file, and 8 of the answers. */
+static int plot_sheet(value file) {
+    size_t room = file.len / 6 * 8, accepted = 0;
+    uint8_t *answers = malloc(room + 1);
+    if (answers == NULL)
+        exit(2);
+    glyph_label_filled f = glyph_label_sheet(file.bytes, file.len, answers, room);
+    if (f.number != 0) {
+        printf("refused: number %u, place %u\n", f.number, f.place);
+        return 1;
+    }
+    for (size_t k = 0; k < f.filled / 2; k++) {
+        long refusal = number(answers, 2 * k), place = number(answers, 2 * k + 1);
+        if (refusal == 0)
+            printf("label %zu: accepted\n", k);
+        else
+            printf("label %zu: refused %ld at %ld\n", k, refusal, place);
+        accepted += refusal == 0;
+    }
+    printf("%zu of %zu labels accepted\n", accepted, f.filled / 2);
+    return 0;
+}
+
 int main(int argc, char **argv) {
+    if (argc == 3 && strcmp(argv[1], "--sheet") == 0)
+        return plot_sheet(read_file(argv[2]));
     int raw = argc > 1 && strcmp(argv[1], "--raw") == 0;
     argc -= raw;
     argv += raw;
     if (argc != 2 && argc != 3 && argc != 5) {
-        fprintf(stderr, "usage: plotter [--raw] TEXT [INDICES [FIRST END]]\n");
+        fprintf(stderr, "usage: plotter [--raw] TEXT [INDICES [FIRST END]], or plotter --sheet FILE\n");
         return 2;
     }
     value text = {(const uint8_t *)argv[1], strlen(argv[1])}, indices = {NULL, 0};

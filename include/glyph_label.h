@@ -9,6 +9,8 @@
  * An attribute value as it stands on the page is raw: its references are not resolved. Whoever holds raw values
  * resolves the text, then the indices, and reads what comes out. A run can also be written escaped, ready for a page.
  *
+ * A sheet is a file of labels. One call says of each of them whether it is accepted, as reading it would.
+ *
  * Link target/staticlib/libglyph_label.a (made by `rt staticlib glyph_label`). Nothing is allocated, nothing is kept
  * between calls, and there is no state: any number of threads may call at once. A call takes at most 110 KiB of stack,
  * and some 2 KiB where the run has up to 32 code units, clusters and glyphs.
@@ -62,12 +64,16 @@
  *         22  the stretch is empty, reversed or passes the end        0
  *         23  bad reference or raw `<`                                byte of the raw value where the first begins
  *         24  out has too little room                                 bytes needed
+ *         25  the file does not begin with `SLB` and the version 1    0
+ *         26  the file ends inside a record                           number of the record
+ *         27  answers has too little room                             labels in the file
  *
- * Bytes, entries, code units, clusters and glyphs are numbered from 0. The checks are made in this order, but for
- * 14, which comes before the tail's 13; entries are checked one by one, each from 7 to 13. The first that fails gives
- * the answer. 23 and 24, in this order, come before 1: resolving is a call of its own, made before a reading, for the
- * text and then for the indices. A place above 4,294,967,295, which only a raw value of 4 GiB or more can have, is
- * given as 4,294,967,295. */
+ * Bytes, entries, code units, clusters, glyphs and records are numbered from 0. The checks are made in this order, but
+ * for 14, which comes before the tail's 13; entries are checked one by one, each from 7 to 13. The first that fails
+ * gives the answer. 23 and 24, in this order, come before 1: resolving is a call of its own, made before a reading,
+ * for the text and then for the indices. 25 to 27 are of a sheet's file and are checked before any of its labels. A
+ * place above 4,294,967,295, which only a raw value of 4 GiB or a file of 24 GiB can have, is given as
+ * 4,294,967,295. */
 #ifndef GLYPH_LABEL_H
 #define GLYPH_LABEL_H
 
@@ -90,7 +96,7 @@ typedef struct {
     uint32_t number, place, text, indices;
 } glyph_label_writing;
 
-/* Bytes that were filled. */
+/* What was filled: bytes by glyph_label_resolve, numbers of 4 bytes each by glyph_label_sheet. */
 typedef struct {
     uint32_t number, place;
     size_t filled;
@@ -121,6 +127,27 @@ glyph_label_filled glyph_label_resolve(const uint8_t *raw, size_t raw_len, uint8
 glyph_label_reading glyph_label_read(const uint8_t *text, size_t text_len, const uint8_t *indices, size_t indices_len,
                                      uint8_t *units, size_t units_len, uint8_t *clusters, size_t clusters_len,
                                      uint8_t *glyphs, size_t glyphs_len);
+
+/* Reads all labels of a sheet and stores an answer for each. The file, of any size, has its numbers low byte first:
+ *
+ *     the mark `SLB`           3 bytes
+ *     the version, 1           2
+ *     and for each label a record, one behind the other up to the end of the file:
+ *     the size of its text     2
+ *     the size of its indices  4
+ *     the text, the indices    as many as the sizes say, the references of both resolved
+ *
+ * A file of mark and version alone has no labels and is accepted. In answers each label gets two numbers of 4 bytes,
+ * low byte first, in the order of the records: the number of its refusal and the place, 0 and 0 where it is accepted.
+ * They are the number and place of glyph_label_read with buffers large enough for every label, so a number is 0 to 15,
+ * and they depend on this label alone: where it stands and what the others are changes nothing. Sizes above the limits
+ * of a label get 1 and 0, a record with both sizes 0 gets 6 and 0.
+ *
+ * Refusals 25 to 27, in this order, are of the file as a whole; a label that is refused is no refusal of the call.
+ * `filled` is 2 for each label. Each label needs 8 bytes of answers, and a file of n bytes has at most n / 6 labels; to
+ * learn how many it has, call with empty answers and look at 27. The labels are judged where they stand: none is
+ * copied, and no run is stored. */
+glyph_label_filled glyph_label_sheet(const uint8_t *file, size_t file_len, uint8_t *answers, size_t answers_len);
 
 /* Writes a run's normal writing into text and indices. The three sizes of the run are exactly those of its numbers,
  * so a left-over byte makes it unsound. Refusals 19 to 21. Buffers of 16,384 and 262,144 bytes are large enough for

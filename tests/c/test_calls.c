@@ -1,9 +1,10 @@
 /* Tests of the calls of glyph_label.h: labels with their runs and normal writings, refusals that must change nothing,
- * sizes one byte short, left-over bytes, picks, faults, raw values, escaped writings, and runs, labels and raw values
- * from random bytes.
+ * sizes one byte short, left-over bytes, picks, faults, raw values, escaped writings, sheets, and runs, labels, raw
+ * values and files from random bytes. Every label that a test reads is also put into a sheet.
  *
- *     test_calls [ROUNDS]     how many random cases of each kind; with fewer than 200,000 the exhaustive ones are thinned out
- *     test_calls large        only raw values above 4 GiB, which takes half a minute
+ *     test_calls SHEET ANSWERS [ROUNDS]     a sheet's file and the answers that it must get; how many random cases of
+ *                                           each kind: with fewer than 200,000 the exhaustive ones are thinned out
+ *     test_calls large                      only raw values and files above 4 GiB, which takes about a minute
  *
  * Inputs are allocated at their exact sizes and outputs stand between guard bytes, so that valgrind or a compare sees
  * any byte read or written outside. */
@@ -157,6 +158,160 @@ static int is_part(glyph_label_part p, uint32_t in_indices, size_t start, size_t
     return p.in_indices == in_indices && p.start == start && p.length == length;
 }
 
+/* ---- Files of sheets ---- */
+
+/* A sheet: its file, the 8 bytes of answer that each label must get, and where each record starts, and the last one ends. */
+typedef struct {
+    uint8_t *bytes, *answers;
+    size_t *starts;
+    size_t size, room, labels;
+} sheet;
+
+static void *grown(void *p, size_t size) {
+    p = realloc(p, size);
+    if (!p)
+        abort();
+    return p;
+}
+
+static sheet new_sheet(void) {
+    sheet s = {NULL, NULL, grown(NULL, sizeof(size_t)), 5, 64, 0};
+    s.bytes = grown(NULL, s.room);
+    memcpy(s.bytes, "SLB\1\0", 5);
+    s.starts[0] = 5;
+    return s;
+}
+
+static void free_sheet(sheet *s) {
+    free(s->bytes);
+    free(s->answers);
+    free(s->starts);
+}
+
+static void add_record(sheet *s, const uint8_t *record, size_t n, const uint8_t *answer) {
+    if (s->size + n > s->room)
+        s->bytes = grown(s->bytes, s->room = 2 * (s->size + n));
+    if (s->labels % 64 == 0) {
+        s->answers = grown(s->answers, 8 * (s->labels + 64));
+        s->starts = grown(s->starts, (s->labels + 65) * sizeof(size_t));
+    }
+    memcpy(s->bytes + s->size, record, n);
+    memcpy(s->answers + 8 * s->labels, answer, 8);
+    s->starts[++s->labels] = s->size += n;
+}
+
+static void put_sizes(uint8_t *p, size_t text_len, size_t indices_len) {
+    p[0] = (uint8_t)text_len, p[1] = (uint8_t)(text_len >> 8);
+    put_number(p + 2, (int32_t)indices_len);
+}
+
+static void put_answer(uint8_t *p, uint32_t number, uint32_t place) {
+    put_number(p, (int32_t)number);
+    put_number(p + 4, (int32_t)place);
+}
+
+/* A label that must get this answer. */
+static void add_label(sheet *s, const void *text, size_t text_len, const void *indices, size_t indices_len, uint32_t number, uint32_t place) {
+    size_t n = 6 + text_len + indices_len;
+    uint8_t *record = new_bytes(n), answer[8];
+    put_sizes(record, text_len, indices_len);
+    if (text_len != 0)
+        memcpy(record + 6, text, text_len);
+    if (indices_len != 0)
+        memcpy(record + 6 + text_len, indices, indices_len);
+    put_answer(answer, number, place);
+    add_record(s, record, n, answer);
+    free(record);
+}
+
+/* A reading with buffers that are large enough for every label. */
+static glyph_label_reading large_reading(const uint8_t *text, size_t text_len, const uint8_t *indices, size_t indices_len) {
+    static uint8_t units[8192], clusters[32768], glyphs[65536];
+    return glyph_label_read(text, text_len, indices, indices_len, units, sizeof units, clusters, sizeof clusters, glyphs, sizeof glyphs);
+}
+
+/* Calls with `room` bytes of answers: the answer must be this one, with these bytes where it is no refusal, and the rest must stay. */
+static void sheet_into(const char *what, const uint8_t *file, size_t n, size_t room, uint32_t number, uint32_t place, const uint8_t *answers,
+                       size_t labels) {
+    output o = new_output(room);
+    glyph_label_filled f = glyph_label_sheet(file, n, o.bytes, room);
+    check(is_filled(f, number, place, number == 0 ? 2 * labels : 0), "%s: a file of %zu bytes into %zu: %u %u, %zu filled", what, n, room, f.number,
+          f.place, f.filled);
+    check(f.filled <= room / 4 && stays_behind(&o, 4 * f.filled), "%s: a file of %zu bytes into %zu changed other bytes", what, n, room);
+    for (size_t k = 0; number == 0 && k < labels && k < f.filled / 2; k++)
+        check(memcmp(o.bytes + 8 * k, answers + 8 * k, 8) == 0, "%s: label %zu of %zu gets %ld %ld", what, k, labels, (long)get_number(o.bytes + 8 * k),
+              (long)get_number(o.bytes + 8 * k + 4));
+    free_output(&o);
+}
+
+/* A sheet with exact room, with left-over bytes, and with one byte too few. */
+static void test_sheet(const char *what, const sheet *s) {
+    uint8_t *file = new_input(s->bytes, s->size);
+    size_t room = 8 * s->labels;
+    sheet_into(what, file, s->size, room, 0, 0, s->answers, s->labels);
+    sheet_into(what, file, s->size, room + 1 + random_below(7), 0, 0, s->answers, s->labels);
+    if (s->labels > 0)
+        sheet_into(what, file, s->size, room - 1, 27, (uint32_t)s->labels, NULL, 0);
+    check(same_bytes(file, s->bytes, s->size), "%s: the file has changed", what);
+    free(file);
+}
+
+/* The first n bytes of a sheet's file: 25 inside mark and version, 26 inside a record, else the labels up to there. */
+static void test_start(const char *what, const sheet *s, size_t n) {
+    uint8_t *file = new_input(s->bytes, n);
+    size_t k = 0;
+    while (k < s->labels && s->starts[k + 1] <= n)
+        k++;
+    uint32_t number = n < 5 ? 25 : s->starts[k] < n ? 26 : 0, place = number == 26 ? (uint32_t)k : 0;
+    sheet_into(what, file, n, 8 * k, number, place, s->answers, k);
+    if (number != 0)
+        sheet_into(what, file, n, 8 * s->labels + 3, number, place, NULL, 0);
+    free(file);
+}
+
+/* The sheet of these labels of another, in this order: each gets the answer that it got there. */
+static void test_chosen(const char *what, const sheet *from, const size_t *which, size_t count) {
+    sheet s = new_sheet();
+    for (size_t k = 0; k < count; k++) {
+        size_t at = from->starts[which[k]];
+        add_record(&s, from->bytes + at, from->starts[which[k] + 1] - at, from->answers + 8 * which[k]);
+    }
+    sheet_into(what, s.bytes, s.size, 8 * count, 0, 0, s.answers, count);
+    free_sheet(&s);
+}
+
+/* The sheet with two labels exchanged. */
+static void test_swapped(const char *what, const sheet *s, size_t a, size_t b) {
+    size_t *which = grown(NULL, s->labels * sizeof *which);
+    for (size_t k = 0; k < s->labels; k++)
+        which[k] = k == a ? b : k == b ? a : k;
+    test_chosen(what, s, which, s->labels);
+    free(which);
+}
+
+/* Labels that any test has read. */
+static sheet gathered;
+
+/* As they come, two of them exchanged, and cut somewhere. */
+static void test_gathered(void) {
+    if (gathered.labels > 0) {
+        test_sheet("gathered", &gathered);
+        test_swapped("gathered, swapped", &gathered, random_below((uint32_t)gathered.labels), random_below((uint32_t)gathered.labels));
+        test_start("gathered, cut", &gathered, random_below((uint32_t)gathered.size));
+    }
+    free_sheet(&gathered);
+    gathered = new_sheet();
+}
+
+static void gather(const uint8_t *text, size_t text_len, const uint8_t *indices, size_t indices_len) {
+    glyph_label_reading r = large_reading(text, text_len, indices, indices_len);
+    if (gathered.starts == NULL)
+        gathered = new_sheet();
+    add_label(&gathered, text, text_len, indices, indices_len, r.number, r.place);
+    if (gathered.labels == 300 || gathered.size > 1000000)
+        test_gathered();
+}
+
 /* Reads into buffers of these sizes; what was filled must be reported and the rest must stay. A refusal fills nothing. */
 static glyph_label_reading read_into(const char *what, const uint8_t *text, size_t text_len, const uint8_t *indices,
                                      size_t indices_len, size_t u, size_t c, size_t g, run *out) {
@@ -166,6 +321,7 @@ static glyph_label_reading read_into(const char *what, const uint8_t *text, size
     int stays = stays_behind(&us, got.units_len) && stays_behind(&cs, got.clusters_len) && stays_behind(&gs, got.glyphs_len);
     check(stays, "%s: a reading into %zu %zu %zu changed other bytes", what, u, c, g);
     check(r.number == 0 || (r.units == 0 && r.clusters == 0 && r.glyphs == 0 && r.rounded == 0), "%s: counts of a refusal", what);
+    gather(text, text_len, indices, indices_len);
     if (out) {
         if (stays) {
             got.units = new_input(us.bytes, got.units_len);
@@ -435,6 +591,10 @@ static void test_null(void) {
     check(is_filled(glyph_label_resolve(NULL, 0, NULL, 0), 0, 0, 0), "an empty raw value");
     check(is_filled(glyph_label_resolve((const uint8_t *)"&#65;", 5, NULL, 0), 24, 1, 0), "a raw value into no buffer");
     check(is_filled(glyph_label_resolve((const uint8_t *)"aaa<", 4, NULL, 0), 23, 3, 0), "a raw `<` into no buffer");
+    check(is_filled(glyph_label_sheet(NULL, 0, NULL, 0), 25, 0, 0), "an empty file");
+    check(is_filled(glyph_label_sheet((const uint8_t *)"SLB\1\0", 5, NULL, 0), 0, 0, 0), "a file of no labels into no buffer");
+    check(is_filled(glyph_label_sheet((const uint8_t *)"SLB\1\0\0\0\0\0\0\0", 11, NULL, 0), 27, 1, 0), "a file into no buffer");
+    check(is_filled(glyph_label_sheet((const uint8_t *)"SLB\1\0\0\0\0\0\0\0\0", 12, NULL, 0), 26, 1, 0), "a cut file into no buffer");
     check(is_stretch(glyph_label_units_of(NULL, 0, NULL, 0, NULL, 0, 0, 1), 19, 0, 0), "units of an empty run");
     check(is_stretch(glyph_label_glyphs_of(NULL, 0, NULL, 0, NULL, 0, 0, 1), 19, 0, 0), "glyphs of an empty run");
     check(is_part(glyph_label_fault(NULL, 0, NULL, 0, 7, 0), 0, 0, 0), "a part of nothing");
@@ -841,12 +1001,18 @@ static void test_long_raw(void) {
     check(is_filled(test_long("&amp;", '\r', 70000, "\n"), 0, 0, 70001), "many carriage returns");
 }
 
-/* Raw values above 4 GiB: a place that 32 bits cannot hold is the largest that they can. Pages of zeros that are only read take no memory. */
-static void test_large(void) {
+/* Zeros, of which only those that are changed take memory. */
+static uint8_t *new_zeros(size_t n) {
+    uint8_t *p = mmap(NULL, n, PROT_READ | PROT_WRITE, MAP_PRIVATE | MAP_ANONYMOUS | MAP_NORESERVE, -1, 0);
+    check(p != MAP_FAILED, "no address space for %zu bytes", n);
+    return p == MAP_FAILED ? NULL : p;
+}
+
+/* Raw values above 4 GiB: a place that 32 bits cannot hold is the largest that they can. */
+static void test_large_raw(void) {
     const size_t four = (size_t)1 << 32, n = four + 16;
-    uint8_t *raw = mmap(NULL, n, PROT_READ | PROT_WRITE, MAP_PRIVATE | MAP_ANONYMOUS | MAP_NORESERVE, -1, 0);
-    check(raw != MAP_FAILED, "no address space for a large raw value");
-    if (raw == MAP_FAILED)
+    uint8_t *raw = new_zeros(n);
+    if (raw == NULL)
         return;
     check(is_filled(glyph_label_resolve(raw, n, NULL, 0), 24, 4294967295u, 0), "24 of a large raw value");
     check(is_filled(glyph_label_resolve(raw, four - 2, NULL, 0), 24, 4294967294u, 0), "24 of 2 bytes below 4 GiB");
@@ -991,6 +1157,399 @@ static void test_escapes(int full) {
         test_all_escapes(n);
 }
 
+/* ---- Sheets ---- */
+
+typedef struct {
+    const char *file;
+    size_t n;
+    uint32_t number, place; /* of the refusal, or 0 and: */
+    const char *answers;
+    size_t size;
+} sheet_row;
+
+#define HEAD "SLB\1\0"
+#define ANSWERED(file, answers) {file, sizeof file - 1, 0, 0, answers, sizeof answers - 1}
+#define REFUSED(file, number, place) {file, sizeof file - 1, number, place, "", 0}
+
+static const sheet_row sheet_rows[] = {
+    /* Mark and version. */
+    REFUSED("", 25, 0), REFUSED("S", 25, 0), REFUSED("SL", 25, 0), REFUSED("SLB", 25, 0), REFUSED("SLB\1", 25, 0), ANSWERED(HEAD, ""),
+    REFUSED("SLB\0\1", 25, 0), REFUSED("SLB\2\0", 25, 0), REFUSED("SLB\0\0", 25, 0), REFUSED("SLB\1\1", 25, 0), REFUSED("BLS\1\0", 25, 0),
+    REFUSED("slb\1\0", 25, 0), REFUSED(" SLB\1\0", 25, 0), REFUSED("SLB1\0", 25, 0), REFUSED("\xEF\xBB\xBFSLB\1\0", 25, 0),
+    /* One label. */
+    ANSWERED(HEAD "\0\0\0\0\0\0", "\6\0\0\0\0\0\0\0"),
+    ANSWERED(HEAD "\1\0\0\0\0\0" "A", "\0\0\0\0\0\0\0\0"),
+    ANSWERED(HEAD "\0\0\1\0\0\0" "5", "\0\0\0\0\0\0\0\0"),
+    ANSWERED(HEAD "\1\0\1\0\0\0" "A5", "\0\0\0\0\0\0\0\0"),
+    ANSWERED(HEAD "\1\0\3\0\0\0" "A5;6", "\14\0\0\0\1\0\0\0"),
+    ANSWERED(HEAD "\2\0\0\0\0\0" "{}", "\6\0\0\0\0\0\0\0"),
+    ANSWERED(HEAD "\2\0\0\0\0\0" "{a", "\4\0\0\0\0\0\0\0"),
+    ANSWERED(HEAD "\2\0\7\0\0\0" "AB(2:2)5;", "\13\0\0\0\1\0\0\0"),
+    ANSWERED(HEAD "\2\0\6\0\0\0" "AB(2:2)5", "\16\0\0\0\0\0\0\0"),
+    ANSWERED(HEAD "\4\0\0\0\0\0" "\xF0\x9F\x98\x80", "\15\0\0\0\1\0\0\0"),
+    /* References are resolved already: here `&` is itself. */
+    ANSWERED(HEAD "\7\0\0\0\0\0" "A&#66;C", "\0\0\0\0\0\0\0\0"),
+    ANSWERED(HEAD "\1\0\5\0\0\0" "A&#53;", "\7\0\0\0\0\0\0\0"),
+    /* Where the text ends and the indices begin, the sizes alone say. */
+    ANSWERED(HEAD "\2\0\1\0\0\0" "A55", "\0\0\0\0\0\0\0\0"),
+    ANSWERED(HEAD "\1\0\2\0\0\0" "A5x", "\7\0\0\0\0\0\0\0"),
+    ANSWERED(HEAD "\3\0\0\0\0\0" "A5x", "\0\0\0\0\0\0\0\0"),
+    /* A label that looks like a file or like a record. */
+    ANSWERED(HEAD "\5\0\0\0\0\0" "SLB\1\0", "\3\0\0\0\3\0\0\0"),
+    ANSWERED(HEAD "\0\0\6\0\0\0" "\0\0\0\0\0\0", "\7\0\0\0\0\0\0\0"),
+    /* Several labels. */
+    ANSWERED(HEAD "\0\0\0\0\0\0" "\0\0\0\0\0\0", "\6\0\0\0\0\0\0\0" "\6\0\0\0\0\0\0\0"),
+    ANSWERED(HEAD "\1\0\4\0\0\0" "A5,-1" "\1\0\1\0\0\0" "A5", "\7\0\0\0\0\0\0\0" "\0\0\0\0\0\0\0\0"),
+    ANSWERED(HEAD "\1\0\1\0\0\0" "A5" "\1\0\4\0\0\0" "A5,-1", "\0\0\0\0\0\0\0\0" "\7\0\0\0\0\0\0\0"),
+    ANSWERED(HEAD "\1\0\1\0\0\0" "A;" "\0\0\0\0\0\0" "\3\0\0\0\0\0" "ab\1", "\14\0\0\0\1\0\0\0" "\6\0\0\0\0\0\0\0" "\3\0\0\0\2\0\0\0"),
+    ANSWERED(HEAD "\1\0\5\0\0\0" "A65536" "\2\0\0\0\0\0" "AB" "\0\0\3\0\0\0" "5;6", "\10\0\0\0\0\0\0\0" "\0\0\0\0\0\0\0\0" "\0\0\0\0\0\0\0\0"),
+    ANSWERED(HEAD "\4\0\0\0\0\0" "a\xE1\x80" "A" "\0\0\0\0\0\0" "\1\0\6\0\0\0" "A5,1e7;", "\2\0\0\0\1\0\0\0" "\6\0\0\0\0\0\0\0" "\11\0\0\0\0\0\0\0"),
+    /* The file ends inside a record. */
+    REFUSED(HEAD "\0", 26, 0), REFUSED(HEAD "\0\0\0\0\0", 26, 0), REFUSED(HEAD "\1\0\0\0\0\0", 26, 0), REFUSED(HEAD "\0\0\1\0\0\0", 26, 0),
+    REFUSED(HEAD "\0\1\0\0\0\0" "A", 26, 0), REFUSED(HEAD "\0\0\0\1\0\0" "5", 26, 0), REFUSED(HEAD "\0\0\0\0\1\0" "5", 26, 0),
+    REFUSED(HEAD "\0\0\0\0\0\1" "5", 26, 0), REFUSED(HEAD "\1\0\2\0\0\0" "A5", 26, 0), REFUSED(HEAD "\1\0\1\0\0\0" "A5" "\0", 26, 1),
+    REFUSED(HEAD "\1\0\1\0\0\0" "A5" "\1\0\1\0\0\0" "A", 26, 1), REFUSED(HEAD "\0\0\0\0\0\0" "\0\0\0\0\0\0" "\0\0\0\0\0", 26, 2),
+    REFUSED(HEAD "\0\0\0\0\0\0" "\xFF\xFF\xFF\xFF\xFF\xFF" "A5", 26, 1), REFUSED(HEAD HEAD, 26, 0),
+    /* 25 comes before 26. */
+    REFUSED("SLB\2\0" "\1\0\1\0\0\0" "A", 25, 0), REFUSED("SLC\1\0" "\0", 25, 0),
+};
+
+/* A file in every kind of room: 25 and 26 hold in all of them, 27 where there is no room for all answers. */
+static void test_file(const char *what, const void *bytes, size_t n, uint32_t number, uint32_t place, const void *answers, size_t labels) {
+    uint8_t *file = new_input(bytes, n);
+    size_t needed = 8 * labels;
+    for (size_t room = 0; room < needed + 18; room += room + 18 < needed ? 5 : 1)
+        if (number == 0 && room < needed)
+            sheet_into(what, file, n, room, 27, (uint32_t)labels, NULL, 0);
+        else
+            sheet_into(what, file, n, room, number, place, answers, labels);
+    check(same_bytes(file, bytes, n), "%s: the file has changed", what);
+    free(file);
+}
+
+static void test_sheet_rows(void) {
+    for (size_t k = 0; k < sizeof sheet_rows / sizeof sheet_rows[0]; k++) {
+        const sheet_row *w = &sheet_rows[k];
+        test_file(shown((const uint8_t *)w->file, w->n), w->file, w->n, w->number, w->place, w->answers, w->size / 8);
+    }
+}
+
+/* Every other value of every byte of mark and version, or every step-th: 25, whatever follows and whatever the room. */
+static void test_marks(int step) {
+    static const char follows[] = "\1\0\1\0\0\0" "A5" "\1\0\1\0\0\0" "A";
+    static const size_t sizes[] = {0, 8, 15};
+    uint8_t file[5 + sizeof follows];
+    for (int at = 0; at < 5; at++)
+        for (int value = 0; value < 256; value += step)
+            for (int k = 0; k < 3; k++) {
+                memcpy(file, HEAD, 5);
+                memcpy(file + 5, follows, sizeof follows);
+                if (file[at] == value)
+                    continue;
+                file[at] = (uint8_t)value;
+                sheet_into("mark", file, 5 + sizes[k], 0, 25, 0, NULL, 0);
+                sheet_into("mark", file, 5 + sizes[k], 16, 25, 0, NULL, 0);
+            }
+}
+
+/* What comes of a file: 25, 26, or the answers that its labels get one by one, 8 bytes for each 6 of the file at most. */
+static glyph_label_filled model_sheet(const uint8_t *file, size_t n, uint8_t *answers) {
+    uint32_t labels = 0;
+    if (n < 5 || memcmp(file, HEAD, 5) != 0)
+        return (glyph_label_filled){25, 0, 0};
+    for (size_t at = 5; at < n; labels++) {
+        if (n - at < 6)
+            return (glyph_label_filled){26, labels, 0};
+        size_t text_len = file[at] + 256u * file[at + 1], indices_len = (uint32_t)get_number(file + at + 2);
+        if (n - at - 6 < text_len || n - at - 6 - text_len < indices_len)
+            return (glyph_label_filled){26, labels, 0};
+        const uint8_t *text = file + at + 6, *indices = text + text_len;
+        glyph_label_reading r = large_reading(text, text_len, indices, indices_len);
+        put_answer(answers + 8 * labels, r.number, r.place);
+        at += 6 + text_len + indices_len;
+    }
+    return (glyph_label_filled){0, 0, 2 * (size_t)labels};
+}
+
+static glyph_label_filled test_modelled(const char *what, const uint8_t *file, size_t n) {
+    uint8_t *answers = new_bytes(n / 6 * 8 + 8);
+    glyph_label_filled f = model_sheet(file, n, answers);
+    test_file(what, file, n, f.number, f.place, answers, f.filled / 2);
+    free(answers);
+    return f;
+}
+
+/* All files of n of these bytes behind a start. */
+static void test_all_files(const char *start, size_t start_len, const char *bytes, size_t count, size_t n) {
+    uint8_t file[32];
+    size_t total = 1;
+    for (size_t k = 0; k < n; k++)
+        total *= count;
+    memcpy(file, start, start_len);
+    for (size_t number = 0; number < total; number++) {
+        size_t rest = number;
+        for (size_t k = 0; k < n; k++, rest /= count)
+            file[start_len + k] = (uint8_t)bytes[rest % count];
+        test_modelled("all files", file, start_len + n);
+    }
+}
+
+static void test_small_files(int full) {
+    for (size_t n = 0; n <= (full ? 5 : 3); n++)
+        test_all_files("", 0, "SLB\1\0", 5, n);
+    for (size_t n = 0; n <= (full ? 9 : 5); n++)
+        test_all_files(HEAD, 5, "\0\1" "5", 3, n);
+    for (size_t n = 6; n <= (full ? 14 : 8); n++)
+        test_all_files(HEAD, 5, "\0\1", 2, n);
+}
+
+/* ---- Sheets of labels with known answers ---- */
+
+static sheet rows_sheet(void) {
+    sheet s = new_sheet();
+    for (size_t k = 0; k < sizeof rows / sizeof rows[0]; k++)
+        add_label(&s, rows[k].text, strlen(rows[k].text), rows[k].indices, strlen(rows[k].indices), rows[k].number, rows[k].place);
+    return s;
+}
+
+/* The rows' labels: cut at every byte, each replaced by each other, all exchanged, each alone. */
+static void test_rows_sheet(int full) {
+    sheet s = rows_sheet();
+    size_t n = s.labels, step = full ? 1 : 5, *which = grown(NULL, n * sizeof *which);
+    test_sheet("rows", &s);
+    for (size_t k = 0; k <= s.size; k++)
+        test_start("rows, cut", &s, k);
+    for (size_t k = 0; k < n; k++)
+        which[k] = k;
+    for (size_t k = 0; k < n; k++) {
+        for (size_t by = k % step; by < n; by += step) {
+            which[k] = by;
+            test_chosen("rows, one replaced", &s, which, n);
+            test_swapped("rows, swapped", &s, k, by);
+        }
+        which[k] = k;
+        test_chosen("one row", &s, which + k, 1);
+    }
+    free(which);
+    free_sheet(&s);
+}
+
+/* A piece many times, and an end. */
+static uint8_t *repeated(const char *piece, size_t times, const char *end, size_t *size) {
+    size_t n = strlen(piece), m = strlen(end);
+    uint8_t *bytes = new_bytes(n * times + m + 1);
+    *size = n * times + m;
+    if (n == 1)
+        memset(bytes, *piece, times);
+    for (size_t k = 0; n > 1 && k < times; k++)
+        memcpy(bytes + n * k, piece, n);
+    memcpy(bytes + n * times, end, m);
+    return bytes;
+}
+
+static void add_long(sheet *s, const char *text, size_t texts, const char *text_end, const char *indices, size_t entries, const char *indices_end,
+                     uint32_t number, uint32_t place) {
+    size_t tn, in;
+    uint8_t *t = repeated(text, texts, text_end, &tn), *i = repeated(indices, entries, indices_end, &in);
+    glyph_label_reading r = large_reading(t, tn, i, in);
+    check(r.number == number && r.place == place, "a long label is read as %u %u, not %u %u", r.number, r.place, number, place);
+    add_label(s, t, tn, i, in, number, place);
+    free(t);
+    free(i);
+}
+
+/* 1, 5 and 15, limits that are just kept, and places of two and three bytes. */
+static sheet long_sheet(void) {
+    sheet s = new_sheet();
+    add_long(&s, "A", 16384, "", "", 0, "", 5, 0);
+    add_long(&s, "A", 16385, "", "", 0, "", 1, 0);
+    add_long(&s, "\xFF", 16385, "", "x", 1, "", 1, 0);
+    add_long(&s, "A", 65535, "", "5", 1, "", 1, 0);
+    add_long(&s, "A", 4096, "", "", 0, "", 0, 0);
+    add_long(&s, "A", 4097, "", "", 0, "", 5, 0);
+    add_long(&s, "\xE0\xB8\xB3", 4096, "", "5;", 4095, "5", 0, 0);
+    add_long(&s, "A", 16383, "\xFF", "", 0, "", 2, 16383);
+    add_long(&s, "A", 255, "\x01", "", 0, "", 3, 255);
+    add_long(&s, "A", 256, "\x01", "", 0, "", 3, 256);
+    add_long(&s, "", 0, "", "5;", 4095, "5", 0, 0);
+    add_long(&s, "", 0, "", "5;", 4096, "5", 15, 0);
+    add_long(&s, "", 0, "", "5;", 5000, "x", 7, 5000);
+    add_long(&s, "", 0, "", "5;", 131071, "x", 7, 131071);
+    add_long(&s, "", 0, "", "5;", 131072, "", 11, 131072);
+    add_long(&s, "A", 1, "", "0", 262143, "5", 0, 0);
+    add_long(&s, "A", 1, "", "0", 262144, "5", 1, 0);
+    add_long(&s, "{", 1, "", "x", 262145, "", 1, 0);
+    return s;
+}
+
+/* Long labels, cut inside and behind the sizes; and one whose size of indices has four bytes, between short ones. */
+static void test_long_sheet(void) {
+    sheet s = long_sheet(), few = new_sheet();
+    test_sheet("long", &s);
+    test_swapped("long, swapped", &s, 0, s.labels - 1);
+    for (size_t k = 0; k < s.labels; k++) {
+        test_start("long, cut", &s, s.starts[k] + 5);
+        test_start("long, cut", &s, s.starts[k] + 6);
+        test_start("long, cut", &s, s.starts[k + 1] - 1);
+    }
+    add_label(&few, "A", 1, "5", 1, 0, 0);
+    add_long(&few, "A", 1, "", "0", 1 << 24, "", 1, 0);
+    add_label(&few, "A", 1, "5;6", 3, 12, 1);
+    test_sheet("16 MiB", &few);
+    test_start("16 MiB, cut", &few, few.starts[2] - 1);
+    free_sheet(&s);
+    free_sheet(&few);
+}
+
+/* A refused label first, in the middle and last among as many accepted ones. */
+static void test_position(const sheet *from, size_t good, size_t bad, size_t n) {
+    size_t *which = grown(NULL, n * sizeof *which);
+    for (size_t at = 0; at < n; at += n / 2) {
+        for (size_t k = 0; k < n; k++)
+            which[k] = k == at ? bad : good;
+        test_chosen("position", from, which, n);
+    }
+    free(which);
+}
+
+static void test_positions(void) {
+    sheet s = rows_sheet();
+    for (size_t k = 0; k < s.labels; k++) {
+        test_position(&s, 0, k, 3);
+        test_position(&s, 0, k, 129);
+        test_position(&s, k, 0, 3);
+    }
+    free_sheet(&s);
+}
+
+/* Sizes near 2 to the power 32 in the last record: the file ends first, whatever a sum of sizes comes to in 32 bits. */
+static void test_far_ends(uint32_t step) {
+    static const uint8_t head[] = HEAD "\1\0\1\0\0\0" "A5";
+    for (uint32_t records = 0; records < 3; records++)
+        for (uint32_t back = 0; back < 80; back += step)
+            for (int k = 0; k < 6; k++) {
+                uint8_t file[5 + 2 * 8 + 6 + 8];
+                uint32_t from = k % 3 == 0 ? 0xffffffffu : k % 3 == 1 ? 0x80000010u : 0xffff0010u;
+                size_t at = 5 + 8 * records;
+                for (size_t j = 0; j < sizeof file; j++)
+                    file[j] = head[j < 13 ? j : 5 + (j - 5) % 8];
+                put_sizes(file + at, k < 3 ? 1 : 65535, 0);
+                put_number(file + at + 2, (int32_t)(from - back));
+                test_file("far end", file, at + 6 + 8, 26, records, NULL, 0);
+                test_file("far end", file, at + 6, 26, records, NULL, 0);
+            }
+}
+
+/* Neither file nor answers need any alignment. */
+static void test_alignment(void) {
+    sheet s = rows_sheet();
+    uint8_t *file = new_bytes(s.size + 8);
+    for (size_t a = 0; a < 8; a++)
+        for (size_t b = 0; b < 8; b++) {
+            output o = new_output(8 * s.labels + b);
+            memcpy(file + a, s.bytes, s.size);
+            memcpy(o.before + GUARD + b, s.answers, 8 * s.labels);
+            glyph_label_filled f = glyph_label_sheet(file + a, s.size, o.bytes + b, 8 * s.labels);
+            check(is_filled(f, 0, 0, 2 * s.labels) && stays_behind(&o, 0), "a file at %zu, answers at %zu", a, b);
+            free_output(&o);
+        }
+    free(file);
+    free_sheet(&s);
+}
+
+/* ---- A sheet with its answers, from files ---- */
+
+static uint8_t *read_file(const char *path, size_t *size) {
+    FILE *f = fopen(path, "rb");
+    uint8_t *bytes = NULL;
+    *size = 0;
+    check(f != NULL, "no file %s", path);
+    if (f == NULL)
+        return NULL;
+    for (size_t more = 1; more > 0; *size += more) {
+        bytes = grown(bytes, *size + 65536);
+        more = fread(bytes + *size, 1, 65536, f);
+    }
+    fclose(f);
+    return bytes;
+}
+
+/* Each answer is the one of the file, and of the reading; the file is cut at each step-th byte. */
+static void test_given_sheet(const char *sheet_path, const char *answers_path, size_t step) {
+    size_t n, size, at = 5;
+    uint8_t *file = read_file(sheet_path, &n), *answers = read_file(answers_path, &size);
+    sheet s = new_sheet();
+    if (file && answers) {
+        check(size > 0 && size % 8 == 0, "%zu bytes of answers", size);
+        check(is_filled(test_modelled("given sheet", file, n), 0, 0, size / 4), "a given sheet of %zu bytes, with answers of %zu", n, size);
+        while (n - at >= 6 && s.labels < size / 8) {
+            size_t more = 6 + (file[at] + 256u * file[at + 1]) + (uint32_t)get_number(file + at + 2);
+            if (more > n - at)
+                break;
+            add_record(&s, file + at, more, answers + 8 * s.labels);
+            at += more;
+        }
+        check(at == n && s.labels == size / 8, "a given sheet of %zu labels, with answers of %zu bytes", s.labels, size);
+        test_sheet("given sheet", &s);
+        for (size_t k = 0; k < n; k += step)
+            test_start("given sheet, cut", &s, k);
+    }
+    free(file);
+    free(answers);
+    free_sheet(&s);
+}
+
+/* ---- Files above 4 GiB ---- */
+
+/* A record with the largest sizes that there are, and one behind it. */
+static void test_largest_record(void) {
+    static const uint8_t answers[] = "\1\0\0\0\0\0\0\0" "\7\0\0\0\0\0\0\0";
+    const size_t end = 5 + 6 + (size_t)65535 + 4294967295u;
+    uint8_t *file = new_zeros(end + 8);
+    if (file == NULL)
+        return;
+    memcpy(file, HEAD "\xFF\xFF\xFF\xFF\xFF\xFF", 11);
+    memcpy(file + end, "\1\0\1\0\0\0" "Ax", 8);
+    sheet_into("largest record", file, end, 8, 0, 0, answers, 1);
+    sheet_into("largest record", file, end, 7, 27, 1, NULL, 0);
+    sheet_into("largest record, cut", file, end - 1, 8, 26, 0, NULL, 0);
+    sheet_into("largest record and another", file, end + 8, 16, 0, 0, answers, 2);
+    for (size_t n = end + 1; n < end + 8; n++)
+        sheet_into("largest record and another, cut", file, n, 16, 26, 1, NULL, 0);
+    munmap(file, end + 8);
+}
+
+/* More records than 32 bits can count, all empty: the place is the largest number that they hold. */
+static void test_most_records(void) {
+    const size_t n = 5 + 6 * ((size_t)1 << 32);
+    uint8_t *file = new_zeros(n + 1);
+    if (file == NULL)
+        return;
+    memcpy(file, HEAD, 5);
+    sheet_into("most records", file, n, 8, 27, 4294967295u, NULL, 0);
+    sheet_into("most records, cut", file, n + 1, 8, 26, 4294967295u, NULL, 0);
+    munmap(file, n + 1);
+}
+
+static int test_large(void) {
+    test_large_raw();
+    test_largest_record();
+    test_most_records();
+    printf("large: %lu checks, %lu failed\n", checks, failures);
+    return failures != 0;
+}
+
+static void test_sheets(int full) {
+    test_sheet_rows();
+    test_marks(full ? 1 : 15);
+    test_small_files(full);
+    test_rows_sheet(full);
+    test_positions();
+    test_far_ends(full ? 1 : 7);
+    test_alignment();
+    test_long_sheet();
+}
+
 /* ---- Random cases ---- */
 
 /* A run of small numbers, most of them plausible, some of them any. */
@@ -1028,16 +1587,22 @@ static run wild_run(void) {
     return r;
 }
 
-/* A label from pieces: it is refused and nothing changes, or its run is sound. */
-static int random_label(void) {
+/* A label from pieces, a text of up to 63 bytes and indices of up to 255. */
+static void random_pieces(char *text, char *indices) {
     static const char *const texts[] = {"", "A", "AB", "{}", "{}{", "{", "\xF0\x9F\x98\x80", "fl", "ow", "\xE0\xB8\xB3", "\xC3", "\x01", "ABCDEFGH"};
     static const char *const pieces[] = {"5", ";", ";", ";", ",", "(2)", "(1:2)", "(2:3)7;8;9", "65535", "70000", ".5", "-1", "12.25", "1e3", "1e-4", ".00050", "e", "(0)", "6,1,2,3", "x"};
-    char text[64] = "", indices[256] = "";
-    run r;
+    *text = *indices = 0;
     for (uint32_t k = random_below(4); k > 0; k--)
         strcat(text, texts[random_below(sizeof texts / sizeof texts[0])]);
     for (uint32_t k = random_below(8); k > 0; k--)
         strcat(indices, pieces[random_below(sizeof pieces / sizeof pieces[0])]);
+}
+
+/* It is refused and nothing changes, or its run is sound. */
+static int random_label(void) {
+    char text[64], indices[256];
+    run r;
+    random_pieces(text, indices);
     size_t tn = strlen(text), in = strlen(indices);
     uint8_t *t = new_input(text, tn), *i = new_input(indices, in);
     glyph_label_reading a = read_into("random label", t, tn, i, in, 100, 400, 800, &r);
@@ -1062,6 +1627,21 @@ static int random_raw(void) {
     return test_model((const uint8_t *)raw, strlen(raw)).number == 0;
 }
 
+/* A sheet of labels from pieces, whole or with a byte changed or bytes taken off, against the model. */
+static int random_file(void) {
+    sheet s = new_sheet();
+    for (uint32_t k = random_below(6); k > 0; k--) {
+        char text[64], indices[256];
+        random_pieces(text, indices);
+        add_label(&s, text, strlen(text), indices, strlen(indices), 0, 0);
+    }
+    if (random_below(2))
+        s.bytes[random_below((uint32_t)s.size)] = (uint8_t)random_below(random_below(2) ? 8 : 256);
+    glyph_label_filled f = test_modelled("random file", s.bytes, s.size - (random_below(3) ? 0 : random_below((uint32_t)s.size)));
+    free_sheet(&s);
+    return f.number == 0;
+}
+
 static void test_sizes(void) {
     static const size_t sizes[] = {31, 32, 33, 100, 255, 256, 257, 1023, 1024, 1025, 4095, 4096};
     for (size_t k = 0; k < sizeof sizes / sizeof sizes[0]; k++) {
@@ -1070,14 +1650,8 @@ static void test_sizes(void) {
     }
 }
 
-int main(int argc, char **argv) {
-    if (argc > 1 && strcmp(argv[1], "large") == 0) {
-        test_large();
-        printf("%lu checks, %lu failed\n", checks, failures);
-        return failures != 0;
-    }
-    unsigned long rounds = argc < 2 ? 200000 : strtoul(argv[1], NULL, 10), written = 0, wild = 0, accepted = 0, resolved = 0;
-    int full = rounds >= 200000;
+/* All tests but the random ones and the given sheet. */
+static void test_known(int full) {
     for (size_t k = 0; k < sizeof rows / sizeof rows[0]; k++)
         test_row(&rows[k]);
     test_null();
@@ -1093,19 +1667,41 @@ int main(int argc, char **argv) {
     test_places();
     test_long_raw();
     test_escapes(full);
+    test_sheets(full);
+}
+
+static void test_random(unsigned long rounds) {
+    unsigned long written = 0, wild = 0, accepted = 0, resolved = 0, files = (rounds + 9) / 10, whole = 0;
     for (unsigned long k = 0; k < rounds; k++) {
         run r = random_run(), w = wild_run();
         written += (unsigned long)try_run("random run", &r);
         wild += (unsigned long)try_run("run from random bytes", &w);
         accepted += (unsigned long)random_label();
         resolved += (unsigned long)random_raw();
+        whole += (unsigned long)(k % 10 == 0 && random_file());
         free_run(&r);
         free_run(&w);
     }
-    check(written > 0 && written < rounds && accepted > 0 && accepted < rounds && resolved > 0 && resolved < rounds,
-          "random labels, runs and raw values, good and bad");
+    check(written > 0 && written < rounds && accepted > 0 && accepted < rounds && resolved > 0 && resolved < rounds && whole > 0 && whole < files,
+          "random labels, runs, raw values and files, good and bad");
+    test_gathered();
     printf("%lu checks, %lu failed; of %lu random runs %lu were sound, of as many from random bytes %lu, of as many labels %lu were accepted, "
-           "of as many raw values %lu were resolved\n",
-           checks, failures, rounds, written, wild, accepted, resolved);
+           "of as many raw values %lu were resolved, of %lu files %lu were sheets\n",
+           checks, failures, rounds, written, wild, accepted, resolved, files, whole);
+}
+
+int main(int argc, char **argv) {
+    if (argc == 2 && strcmp(argv[1], "large") == 0)
+        return test_large();
+    if (argc != 3 && argc != 4) {
+        fprintf(stderr, "usage: test_calls SHEET ANSWERS [ROUNDS], or test_calls large\n");
+        return 2;
+    }
+    unsigned long rounds = argc == 3 ? 200000 : strtoul(argv[3], NULL, 10);
+    int full = rounds >= 200000;
+    test_known(full);
+    test_given_sheet(argv[1], argv[2], full ? 1 : 97);
+    test_random(rounds);
+    free_sheet(&gathered);
     return failures != 0;
 }
