@@ -2,7 +2,7 @@
 -- Assumes nothing.
 use Prim.Native.Nat.{ℕ, suc, _+_, _*_, _-_, _/_, _%_, _≤_, _<_}
 use native.Mathlib.Omega.{arith}
-use mathlib.Core.Path.{_≡_, refl, sym, _∙_, ap}
+use mathlib.Core.Path.{_≡_, refl, sym, _∙_, ap, subst}
 use mathlib.Core.Logic.{_↔_, _⊎_, inl, inr}
 use mathlib.Core.Bool.{Bool, true, _&&_}
 use mathlib.Core.List.{List, [], _∷_, _++_, append-assoc}
@@ -20,13 +20,15 @@ use Rattle.label.specs.Wire.{fromHalves, fourBytes, fromWords, words, re
 use Rattle.label.specs.Sheet.{header, recordBytes, recordsBytes, sheetFile, fitsFile, labelsOf, answerOf, answer, answers, sheetInto, sheetIntoBytes}
 use Rattle.label.specs.Checks.{GivenBy, saidLabels, sheetChecks}
 use Rattle.label.specs.Demands.{bytes}
-use Rattle.label.specs.Answering.{ofBytes, OneList, answered, answeredBytes, answerAt, answerInBytes, Large, Answers, AnswersBytes, Answering}
+use Rattle.label.specs.Answering.{ofBytes, OneList, answered, answeredBytes, answerAt, answerInBytes, Large, LeftAnswers, LeftAnswerBytes, Answering}
 use Rattle.label.proofs.Basics.{and-l, and-r, cases, bind-ok, need-ok}
 use Rattle.label.proofs.Walks.{ok-path}
 use Rattle.label.proofs.Wires.{length-words, words-append, words-back, all32}
 use Rattle.label.proofs.Checks.{sheet-by-checks, given-is}
 use Rattle.label.proofs.Demands.{read-into}
 use Rattle.label.proofs.Places.{Placed, refused, read-placed}
+use Rattle.label.proofs.Sizes.{sound-roomy}
+use Rattle.label.proofs.Sounds.{read-sound}
 use Rattle.label.proofs.Sheets.{back, forth, length-answer, length-answers, answers-append}
 
 -- ── the file is bytes ──
@@ -91,7 +93,7 @@ labels-into room file ls h m = rw (h, le-leb (2 * length ls) room m)
 one-list : (file : List ℕ) (ls : List Label) → bytes file ≡ true → labelsOf file ≡ ok ls → OneList file ls
 one-list file ls h e =
     let (f, q) = forth file ls h e in
-    record { fits = f; is = q; only = λ ms _ p. ok-path ms ls (sym (back ms) ∙ ap labelsOf p ∙ e) }
+    record { fits = f; is = q; only = λ ms p. ok-path ms ls (sym (back ms) ∙ ap labelsOf p ∙ e) }
 
 accepts : (room : ℕ) (file : List ℕ) (list : List ℤ) → bytes file ≡ true
     → (sheetInto room file ≡ ok list) ↔ ((ls : List Label) × OneList file ls × (2 * length ls ≤ room) × (list ≡ answers ls))
@@ -106,13 +108,13 @@ fixed room file n p = rw (sheet-by-checks room file) (given-is (sheetChecks room
 counted : (list : List ℤ) (ls : List Label) → list ≡ answers ls → length list ≡ 2 * length ls
 counted list ls e = ap length e ∙ length-answers ls
 
-memory : (file : List ℕ) (old : List ℤ) (o : Outcome (List ℤ)) → sheetInto (length old) file ≡ o → Answers o (length old) file old
+memory : (file : List ℕ) (old : List ℤ) (o : Outcome (List ℤ)) → sheetInto (length old) file ≡ o → LeftAnswers o (length old) file old
 memory file old (ok list) h =
     let (ls, a, m, e) = into-labels (length old) file list h in
     inl (ls, a, m, ap ok (counted list ls e), ap (λ (vs : List ℤ). filled vs old) e)
 memory file old (no n p) h = inr (n, p, fixed (length old) file n p .0 h, refl, refl)
 
-byte-memory : (file old : List ℕ) (o : Outcome (List ℤ)) → sheetIntoBytes (length old) file ≡ o → AnswersBytes o (length old / 4) file old
+byte-memory : (file old : List ℕ) (o : Outcome (List ℤ)) → sheetIntoBytes (length old) file ≡ o → LeftAnswerBytes o (length old / 4) file old
 unfolding sheetIntoBytes
 byte-memory file old (ok list) h =
     let (ls, a, m, e) = into-labels (length old / 4) file list h in
@@ -250,6 +252,10 @@ swap at room k one xs ys zs l m h a b =
     one xs (ys ++ (m ∷ zs)) l m h a
     ∙ (rw (append-assoc xs (m ∷ ys) (m ∷ zs), append-assoc xs (m ∷ ys) (l ∷ zs)) at (one (xs ++ (m ∷ ys)) zs m l r (λ q. b (q ∙ e))))
 
+-- a refusal's number is one of 1 to 15
+refused-number : {n p : ℕ} → Placed {A = Run} 15 262145 (no n p) → (1 ≤ n) × (n ≤ 15)
+refused-number (refused a b d) = (a, b)
+
 pub answering : Answering
 answering =
     record {
@@ -257,6 +263,7 @@ answering =
       made = made;
       one-list = one-list;
       accepts = accepts;
+      byte-accepts = λ n file list h. unfold sheetIntoBytes in accepts (n / 4) file list h;
       single = λ xs ys l old u c g h m. single xs ys l old u c g (h .1) m;
       byte-single = λ xs ys l old u c g h m. byte-single xs ys l old u c g (h .1) m;
       replaced = λ xs ys l m old k h _ n. replaced xs ys l m old k (h .1) n;
@@ -265,6 +272,8 @@ answering =
       byte-replaced = λ xs ys l m old k h _ n. byte-replaced xs ys l m old k (h .1) n;
       byte-swapped = λ xs ys zs l m old k h a b.
           swap (λ ls. answerInBytes k (answeredBytes ls old)) (length old / 4) k (λ v w x y r n. byte-replaced v w x y old k r n) xs ys zs l m (h .1) a b;
+      large = λ l r h. sound-roomy r (read-sound (l .text) (l .indices) r h);
+      refused = λ l n p e. let (a, b) = refused-number (subst (Placed 15 262145) e (read-placed (l .text) (l .indices))) in (ap answerOf e, a, b);
       accepted = λ l. (accepted-only l (read (l .text) (l .indices)) (read-placed (l .text) (l .indices)) refl, λ r. ap answerOf (r .1));
       fixed = fixed;
       bytes-fixed = λ room file n p. unfold sheetIntoBytes in fixed (room / 4) file n p;

@@ -19,8 +19,8 @@ use Rattle.label.specs.Pick.{stretch, holding, touched, turned, pickUnit
 use Rattle.label.specs.Fault.{startOf, portion, faultPart}
 use Rattle.label.specs.Attribute.{same, predefined, digitValue, allOf, valueBehind, numbered, referred, body, isClosed, isReference, isGood, spaced, gives, further, resolveFrom, escapeByte, escape}
 use Rattle.label.specs.Calls.{readInto, writeInto, listInto, filledCount, filledAfter, counted, lengths, resolveInto, writeAsked}
-use Rattle.label.specs.Wire.{fromHalves, fromWords, halves, words, signed, evenBytes, wordBytes, readBytes, writeBytes, writeAskedBytes, unitBytesAfter, clusterBytesAfter, glyphBytesAfter}
-use Rattle.label.specs.Sheet.{header, textLength, indicesLength, recordLength, isRecord, recordLabel, labelsFrom, labelsOf, answers, sheetInto, sheetIntoBytes, numberBytesAfter}
+use Rattle.label.specs.Wire.{fromHalves, fromWords, halves, words, signed, evenBytes, wordBytes, readBytes, writeBytes, writeAskedBytes, unitBytesAfter, clusterBytesAfter, glyphBytesAfter, numberBytesAfter}
+use Rattle.label.specs.Sheet.{header, textLength, indicesLength, recordLength, isRecord, recordLabel, labelsFrom, labelsOf, answers, sheetInto, sheetIntoBytes}
 use Rattle.label.specs.Relabel.{relabelRead}
 use Rattle.label.specs.declared.Part.{Part}
 use Rattle.label.specs.declared.Stretch.{Stretch}
@@ -228,14 +228,14 @@ pub longest-escaped : length (escape (textOf (replicate 4096 34))) ≡ 24576
 unfolding utf8 unitBytes unitsBytes textOf ascii escapeByte escape
 longest-escaped = refl
 
--- a sheet whose label is 300 times `A` and a byte that starts no character: refused with 2 at place 300. A list of 8 bytes holds the two numbers, low byte
--- first; one of 7 is too short; bytes left over and bytes behind stay, and a refusal changes nothing.
+-- a sheet of a label without bytes, refused with 6, and one of 300 times `A` and a byte that starts no character, refused with 2 at place 300. A list of 16
+-- bytes holds the four numbers, low byte first; one of 15 is too short; a number behind and a byte left over stay, and a refusal changes nothing.
 abbrev far : List ℕ
-far = 83 ∷ 76 ∷ 66 ∷ 1 ∷ 0 ∷ 45 ∷ 1 ∷ 0 ∷ 0 ∷ 0 ∷ 0 ∷ replicate 300 65 ++ (255 ∷ [])
+far = 83 ∷ 76 ∷ 66 ∷ 1 ∷ 0 ∷ 0 ∷ 0 ∷ 0 ∷ 0 ∷ 0 ∷ 0 ∷ 45 ∷ 1 ∷ 0 ∷ 0 ∷ 0 ∷ 0 ∷ replicate 300 65 ++ (255 ∷ [])
 
-pub sheet-bytes : (filledCount (sheetIntoBytes 8 far) ≡ ok 2) × (filledCount (sheetIntoBytes 7 far) ≡ no 27 1)
-    × (numberBytesAfter (sheetIntoBytes 11 far) (replicate 11 7) ≡ 2 ∷ 0 ∷ 0 ∷ 0 ∷ 44 ∷ 1 ∷ 0 ∷ 0 ∷ 7 ∷ 7 ∷ 7 ∷ [])
-    × (numberBytesAfter (sheetIntoBytes 7 far) (replicate 7 7) ≡ replicate 7 7)
-    × (filledAfter (sheetInto 3 far) (pos 7 ∷ pos 7 ∷ pos 7 ∷ []) ≡ pos 2 ∷ pos 300 ∷ pos 7 ∷ [])
+pub sheet-bytes : (filledCount (sheetIntoBytes 16 far) ≡ ok 4) × (filledCount (sheetIntoBytes 15 far) ≡ no 27 2)
+    × (numberBytesAfter (sheetIntoBytes 21 far) (replicate 21 7) ≡ 6 ∷ 0 ∷ 0 ∷ 0 ∷ 0 ∷ 0 ∷ 0 ∷ 0 ∷ 2 ∷ 0 ∷ 0 ∷ 0 ∷ 44 ∷ 1 ∷ 0 ∷ 0 ∷ replicate 5 7)
+    × (numberBytesAfter (sheetIntoBytes 15 far) (replicate 15 7) ≡ replicate 15 7)
+    × (filledAfter (sheetInto 5 far) (replicate 5 (pos 7)) ≡ pos 6 ∷ pos 0 ∷ pos 2 ∷ pos 300 ∷ pos 7 ∷ [])
 unfolding header fromHalves fromWords textLength indicesLength recordLength isRecord recordLabel labelsFrom labelsOf answers sheetInto sheetIntoBytes begins ascii split cut allDigits valueFrom lead trail starts scalar xmlChar unitsOf decode textUnits unsigned isDecimals isNumber mantissaDigits fractionDigits exponentDigits nearest scaled thousandths numberFits isIndexPart indexDigits mapUnits mapGlyphs isAdvance isOffset wellFormed fieldFits indexOf advanceOf offsetOf entryOf entry entries tail placed step walk runFrom read
 sheet-bytes = (refl, refl, refl, refl, refl)

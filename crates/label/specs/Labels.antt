@@ -292,8 +292,12 @@ sheetRows =
     -- "low byte first": a text of 256 bytes, indices of 256
     sheetRow (sheetOf (0 ∷ 1 ∷ 0 ∷ 0 ∷ 0 ∷ 0 ∷ replicate 256 65)) 2 (ok (pos 0 ∷ pos 0 ∷ [])) ∷
     sheetRow (sheetOf (1 ∷ 0 ∷ 0 ∷ 1 ∷ 0 ∷ 0 ∷ 65 ∷ replicate 256 48)) 2 (ok (pos 0 ∷ pos 0 ∷ [])) ∷
-    -- "size above a limit" (1) of a text of 16,385 bytes that is in the file
-    sheetRow (sheetOf (1 ∷ 64 ∷ 0 ∷ 0 ∷ 0 ∷ 0 ∷ replicate 16_385 65)) 2 (ok (pos 1 ∷ pos 0 ∷ [])) ∷
+    -- "references already resolved": `<&` is a text as it stands; no text, `5`
+    sheetRow (sheetOf (2 ∷ 0 ∷ 0 ∷ 0 ∷ 0 ∷ 0 ∷ 60 ∷ 38 ∷ [])) 2 (ok (pos 0 ∷ pos 0 ∷ [])) ∷
+    sheetRow (sheetOf (0 ∷ 0 ∷ 1 ∷ 0 ∷ 0 ∷ 0 ∷ 53 ∷ [])) 2 (ok (pos 0 ∷ pos 0 ∷ [])) ∷
+    -- "text above 16,384 bytes or indices above 262,144" (1), all in the file: 16,385 bytes, and a record behind them; 262,145
+    sheetRow (sheetOf (1 ∷ 64 ∷ 0 ∷ 0 ∷ 0 ∷ 0 ∷ replicate 16_385 65 ++ goodRecord [])) 4 (ok (pos 1 ∷ pos 0 ∷ pos 0 ∷ pos 0 ∷ [])) ∷
+    sheetRow (sheetOf (1 ∷ 0 ∷ 1 ∷ 0 ∷ 4 ∷ 0 ∷ 65 ∷ replicate 262_145 48)) 2 (ok (pos 1 ∷ pos 0 ∷ [])) ∷
     -- "25: mark or version wrong or cut off": a file of fewer than 5 bytes, another mark or case, versions 0, 2, 257 and 1 with its high byte first
     sheetRow [] 9 (no 25 0) ∷
     sheetRow (83 ∷ 76 ∷ 66 ∷ 1 ∷ []) 9 (no 25 0) ∷

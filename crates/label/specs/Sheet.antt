@@ -10,8 +10,7 @@ use Rattle.label.specs.Outcome.{Outcome, ok, no, need, _>>=_, _>>_}
 use Rattle.label.specs.Bytes.{ascii, begins}
 use Rattle.label.specs.Run.{read}
 use Rattle.label.specs.Write.{Label}
-use Rattle.label.specs.Calls.{after}
-use Rattle.label.specs.Wire.{fromHalves, fourBytes, fromWords}
+use Rattle.label.specs.Wire.{fromHalves, fourBytes}
 
 -- ── a list of labels to bytes ──
 
@@ -58,8 +57,8 @@ isRecord s = leb (recordLength s) (length s)
 unfoldable pub recordLabel : List ℕ → Label
 recordLabel s = record { text = take (textLength s) (drop 6 s); indices = take (indicesLength s) (drop (6 + textLength s) s) }
 
--- the labels of the records, of which the first `skip` bytes belong to a record already read; k is the number of the next one. "26: file ends inside a
--- record, place the record"; "records [...] are numbered from 0"
+-- the labels of the records in these bytes, the first `skip` of which belong to a record already read; the next record has number k. "26: file ends inside
+-- a record, place the record"; "records [...] are numbered from 0"
 unfoldable pub labelsFrom : ℕ → ℕ → List ℕ → Outcome (List Label)
 labelsFrom skip k [] = ok []
 labelsFrom (suc skip) k (b ∷ bs) = labelsFrom skip k bs
@@ -81,7 +80,8 @@ abbrev pub answerOf : {A : Type 0} → Outcome A → List ℤ
 answerOf (ok a) = pos 0 ∷ pos 0 ∷ []
 answerOf (no n p) = pos n ∷ pos p ∷ []
 
--- "They equal those of single readings with large buffers": 16 to 18, the only checks that look at the buffers, don't hold of such a reading
+-- "They equal those of single readings with large buffers": 16 to 18, the only checks that look at the buffers, don't hold of such a reading.
+-- "references already resolved": text and indices are read as they stand
 abbrev pub answer : Label → List ℤ
 answer l = answerOf (read (l .text) (l .indices))
 
@@ -99,7 +99,3 @@ sheetInto room file = do
 -- from C: a list of so many bytes, "numbers [...] are a run's 4 bytes [...], and left-over bytes at a list's end hold none"
 unfoldable pub sheetIntoBytes : ℕ → List ℕ → Outcome (List ℤ)
 sheetIntoBytes n file = sheetInto (n / 4) file
-
--- the bytes of a list of numbers after such a call
-abbrev pub numberBytesAfter : Outcome (List ℤ) → List ℕ → List ℕ
-numberBytesAfter o old = after fromWords o old

@@ -17,8 +17,8 @@ use Rattle.label.specs.Bytes.{begins}
 use Rattle.label.specs.Run.{Run, read}
 use Rattle.label.specs.Write.{Label}
 use Rattle.label.specs.Calls.{readingOutcome, counts, counted, fillingOutcome, filledCount, filledAfter}
-use Rattle.label.specs.Wire.{bitsOf, fourBytes, fromWords, signed}
-use Rattle.label.specs.Sheet.{header, isRecord, recordLabel, labelsFrom, labelsOf, answerOf, answer, answers, sheetInto, sheetIntoBytes, numberBytesAfter}
+use Rattle.label.specs.Wire.{bitsOf, fourBytes, fromWords, signed, numberBytesAfter}
+use Rattle.label.specs.Sheet.{header, isRecord, recordLabel, labelsFrom, labelsOf, answerOf, answer, answers, sheetInto, sheetIntoBytes}
 use Rattle.label.specs.declared.Counts.{Counts}
 use Rattle.label.specs.declared.Refusal.{Refusal}
 use Rattle.label.specs.declared.Filling.{Filling}

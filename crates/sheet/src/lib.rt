@@ -4,7 +4,8 @@ ghost use mathlib.Core.List.{[], _∷_};
 ghost use Prim.Native.Nat.{_/_, _≤_};
 ghost use lib.ListN.{length};
 ghost use Rattle.label.specs.Calls.{refusal, fillingOutcome, filledCount, filledAfter};
-ghost use Rattle.label.specs.Sheet.{answer as answerTo, sheetInto, sheetIntoBytes, numberBytesAfter};
+ghost use Rattle.label.specs.Wire.{numberBytesAfter};
+ghost use Rattle.label.specs.Sheet.{answer as answerTo, sheetInto, sheetIntoBytes};
 ghost use Rattle.sheet.specs.Records.{recordAt, labelIn, Accepted};
 use label::Filling;
 use label::Refusal;
@@ -86,7 +87,7 @@ struct Answer {
     place: i32,
 }
 
-// The label is a part of the file: nothing of it is copied, and no run is stored.
+// The answer to the label of a record. It is a part of the file: nothing of it is copied, and no run is stored.
 fn answer_to(file: &[u8], x: Record) -> Answer
     requires { ⌜ (x .text ≤ x .indices) × (x .indices ≤ x .end) × (x .end ≤ length (now file)) ⌝ }
     ensures { λ r. ⌜ (r .number ∷ r .place ∷ []) ≡ answerTo (labelIn (now (file .entry)) x) ⌝ }
