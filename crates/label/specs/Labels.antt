@@ -295,9 +295,8 @@ sheetRows =
     -- "references already resolved": `<&` is a text as it stands; no text, `5`
     sheetRow (sheetOf (2 ∷ 0 ∷ 0 ∷ 0 ∷ 0 ∷ 0 ∷ 60 ∷ 38 ∷ [])) 2 (ok (pos 0 ∷ pos 0 ∷ [])) ∷
     sheetRow (sheetOf (0 ∷ 0 ∷ 1 ∷ 0 ∷ 0 ∷ 0 ∷ 53 ∷ [])) 2 (ok (pos 0 ∷ pos 0 ∷ [])) ∷
-    -- "text above 16,384 bytes or indices above 262,144" (1), all in the file: 16,385 bytes, and a record behind them; 262,145
+    -- "text above 16,384 bytes or indices above 262,144" (1), all in the file: a text of 16,385 bytes, and a record behind it
     sheetRow (sheetOf (1 ∷ 64 ∷ 0 ∷ 0 ∷ 0 ∷ 0 ∷ replicate 16_385 65 ++ goodRecord [])) 4 (ok (pos 1 ∷ pos 0 ∷ pos 0 ∷ pos 0 ∷ [])) ∷
-    sheetRow (sheetOf (1 ∷ 0 ∷ 1 ∷ 0 ∷ 4 ∷ 0 ∷ 65 ∷ replicate 262_145 48)) 2 (ok (pos 1 ∷ pos 0 ∷ [])) ∷
     -- "25: mark or version wrong or cut off": a file of fewer than 5 bytes, another mark or case, versions 0, 2, 257 and 1 with its high byte first
     sheetRow [] 9 (no 25 0) ∷
     sheetRow (83 ∷ 76 ∷ 66 ∷ 1 ∷ []) 9 (no 25 0) ∷
@@ -307,11 +306,14 @@ sheetRows =
     sheetRow (83 ∷ 76 ∷ 66 ∷ 2 ∷ 0 ∷ []) 9 (no 25 0) ∷
     sheetRow (83 ∷ 76 ∷ 66 ∷ 1 ∷ 1 ∷ []) 9 (no 25 0) ∷
     sheetRow (83 ∷ 76 ∷ 66 ∷ 0 ∷ 1 ∷ []) 9 (no 25 0) ∷
-    -- "26: file ends inside a record, place the record": in the lengths, in the text, in the indices; lengths of 65,535 and 4,294,967,295
+    -- "26: file ends inside a record, place the record": in the lengths, in the text, in the indices; indices lengths of 65,536 and 16,777,216; lengths of
+    -- 65,535 and 4,294,967,295
     sheetRow (sheetOf (0 ∷ [])) 9 (no 26 0) ∷
     sheetRow (sheetOf (0 ∷ 0 ∷ 0 ∷ 0 ∷ 0 ∷ [])) 9 (no 26 0) ∷
     sheetRow (sheetOf (1 ∷ 0 ∷ 0 ∷ 0 ∷ 0 ∷ 0 ∷ [])) 9 (no 26 0) ∷
     sheetRow (sheetOf (1 ∷ 0 ∷ 2 ∷ 0 ∷ 0 ∷ 0 ∷ 65 ∷ 53 ∷ [])) 9 (no 26 0) ∷
+    sheetRow (sheetOf (1 ∷ 0 ∷ 0 ∷ 0 ∷ 1 ∷ 0 ∷ 65 ∷ [])) 9 (no 26 0) ∷
+    sheetRow (sheetOf (1 ∷ 0 ∷ 0 ∷ 0 ∷ 0 ∷ 1 ∷ 65 ∷ [])) 9 (no 26 0) ∷
     sheetRow (sheetOf (goodRecord (emptyRecord (0 ∷ 1 ∷ 0 ∷ 0 ∷ 0 ∷ 0 ∷ 65 ∷ [])))) 9 (no 26 2) ∷
     sheetRow (sheetOf (goodRecord (255 ∷ 255 ∷ 255 ∷ 255 ∷ 255 ∷ 255 ∷ []))) 9 (no 26 1) ∷
     -- "27: answer list too short, place the labels in the file"
@@ -347,9 +349,9 @@ pub sheets : map (λ (r : SheetRow). sheetInto (r .room) (r .file)) sheetRows �
 unfolding sheetRows header fromHalves textLength indicesLength recordLength isRecord recordLabel labelsFrom labelsOf answers sheetInto begins ascii split cut allDigits valueFrom lead trail starts scalar xmlChar unitsOf decode textUnits unsigned isDecimals isNumber mantissaDigits fractionDigits exponentDigits nearest scaled thousandths numberFits isIndexPart indexDigits mapUnits mapGlyphs isAdvance isOffset wellFormed fieldFits indexOf advanceOf offsetOf entryOf entry entries tail placed step walk runFrom read
 sheets = refl
 
--- a list of labels to bytes, "low byte first": `A` with `5` and a label without bytes; the lengths 258 and 66,051
+-- a list of labels to bytes, "low byte first": `A` with `5` and a label without bytes; the lengths 258 and 515
 pub sheet-files : (sheetFile (record { text = ascii "A"; indices = ascii "5" } ∷ record { text = []; indices = [] } ∷ []) ≡ sheetOf (goodRecord (emptyRecord [])))
-    × (take 6 (recordBytes (record { text = replicate 258 65; indices = replicate 66_051 53 })) ≡ 2 ∷ 1 ∷ 3 ∷ 2 ∷ 1 ∷ 0 ∷ [])
+    × (take 6 (recordBytes (record { text = replicate 258 65; indices = replicate 515 53 })) ≡ 2 ∷ 1 ∷ 3 ∷ 2 ∷ 0 ∷ 0 ∷ [])
 unfolding header recordBytes recordsBytes sheetFile fromHalves ascii
 sheet-files = (refl, refl)
 

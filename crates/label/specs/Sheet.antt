@@ -85,6 +85,7 @@ answerOf (no n p) = pos n ∷ pos p ∷ []
 abbrev pub answer : Label → List ℤ
 answer l = answerOf (read (l .text) (l .indices))
 
+-- "two numbers a label", in the order of the records
 unfoldable pub answers : List Label → List ℤ
 answers [] = []
 answers (l ∷ ls) = answer l ++ answers ls
