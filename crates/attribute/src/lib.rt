@@ -3,11 +3,10 @@ ghost use mathlib.Core.Path.{_≡_};
 ghost use Prim.Native.Nat.{_+_, _*_, _≤_, _<_, min};
 ghost use lib.ListN.{length, drop};
 ghost use Rattle.label.specs.Attribute.{predefined, digitValue, numbered, referred, spaced};
-ghost use Rattle.label.specs.Calls.{refusal, fillingOutcome, resolveInto, filledCount, filledAfter};
+ghost use Rattle.label.specs.Calls.{fillingOutcome, resolveInto, filledCount, filledAfter};
 ghost use Rattle.attribute.specs.References.{beyond, numberAt, referenceBy};
 ghost use Rattle.attribute.specs.Stores.{widthAt, Stores};
 use label::Filling;
-use label::Refusal;
 
 // ── references ──
 
@@ -205,12 +204,6 @@ fn put_resolved(out: &mut [u8], raw: &[u8]) -> Stored
 
 // ── the call ──
 
-fn refused(number: usize, place: usize) -> Filling
-    ensures { λ r. ⌜ r ≡ Filling.Refused (refusal number place) ⌝ }
-{
-    Filling::Refused(Refusal { number, place })
-}
-
 // One raw attribute value resolved into `out`, where no reference is bad, no raw `<` stands in it, and `out` has room. A first pass judges and measures, a
 // second one stores.
 pub fn resolve(raw: &[u8], out: &mut [u8]) -> Filling
@@ -219,10 +212,10 @@ pub fn resolve(raw: &[u8], out: &mut [u8]) -> Filling
 {
     let mut none = [0u8; 1];
     match put_resolved(&mut none, raw) {
-        Stored::Bad(place) => refused(23, place),
+        Stored::Bad(place) => Filling::refused(23, place),
         Stored::Bytes(n) => {
             if out.len() < n {
-                return refused(24, n);
+                return Filling::refused(24, n);
             }
             put_resolved(out, raw);
             Filling::Filled(n)

@@ -77,7 +77,7 @@ made ls h k = bytes-append header (recordsBytes ls) (unfold header ascii fromHal
 -- ── the call ──
 
 -- an accepted file is read as labels, and their answers have room; and the other way
-into-labels : (room : ℕ) (file : List ℕ) (list : List ℤ) → sheetInto room file ≡ ok list
+pub into-labels : (room : ℕ) (file : List ℕ) (list : List ℤ) → sheetInto room file ≡ ok list
     → (ls : List Label) × (labelsOf file ≡ ok ls) × (2 * length ls ≤ room) × (list ≡ answers ls)
 unfolding sheetInto
 into-labels room file list h =
@@ -85,7 +85,7 @@ into-labels room file list h =
     let (f, c) = need-ok (leb (2 * length ls) room) 27 _ _ list b in
     (ls, a, leb-true (2 * length ls) room f, sym (ok-path (answers ls) list c))
 
-labels-into : (room : ℕ) (file : List ℕ) (ls : List Label) → labelsOf file ≡ ok ls → 2 * length ls ≤ room → sheetInto room file ≡ ok (answers ls)
+pub labels-into : (room : ℕ) (file : List ℕ) (ls : List Label) → labelsOf file ≡ ok ls → 2 * length ls ≤ room → sheetInto room file ≡ ok (answers ls)
 unfolding sheetInto
 labels-into room file ls h m = rw (h, le-leb (2 * length ls) room m)
 
@@ -198,12 +198,15 @@ answer-large l u c g h = go (read (l .text) (l .indices)) refl
     go (no n p) e = unfold readInto in (rw e)
 
 -- an answer's numbers have 32 bits
-answer-32 : (o : Outcome Run) → Placed 15 262145 o → all32 (answerOf o) ≡ true
-answer-32 (ok r) h = refl
-answer-32 (no n p) (refused a b d) = rw (lt-ltb n 2147483648 (omega arith), lt-ltb p 2147483648 (omega arith))
+pub answer-32 : (l : Label) → all32 (answer l) ≡ true
+answer-32 l = go (read (l .text) (l .indices)) (read-placed (l .text) (l .indices))
+  where
+    go : (o : Outcome Run) → Placed 15 262145 o → all32 (answerOf o) ≡ true
+    go (ok r) h = refl
+    go (no n p) (refused a b d) = rw (lt-ltb n 2147483648 (omega arith), lt-ltb p 2147483648 (omega arith))
 
 answer-back : (l : Label) → words (fromWords (answer l)) ≡ answer l
-answer-back l = words-back (answer l) (answer-32 (read (l .text) (l .indices)) (read-placed (l .text) (l .indices)))
+answer-back l = words-back (answer l) (answer-32 l)
 
 single : (xs ys : List Label) (l : Label) (old : List ℤ) (u c g : ℕ) → 2 * length (xs ++ (l ∷ ys)) ≤ length old → Large l u c g
     → answerAt (length xs) (answered (xs ++ (l ∷ ys)) old) ≡ answerOf (readInto u c g (l .text) (l .indices))

@@ -1,6 +1,7 @@
 // The types that document 01's definitions and the code share, and its limits.
 // The definitions are in specs/, their laws and the demands' proofs in proofs/.
 ghost use mathlib.Core.Path.{_≡_};
+ghost use Rattle.label.specs.Calls.{refusal};
 ghost use Rattle.label.specs.Limits.{maxTextBytes, maxIndicesBytes, maxUnits, maxGlyphs, maxIndex, maxDigits, maxExponentDigits, maxThousandths, maxLineBytes};
 
 // The limits type.
@@ -142,6 +143,15 @@ pub enum Reading {
     Refused(Refusal),
 }
 
+impl Reading {
+    // The refusal with this number and this place.
+    pub fn refused(number: usize, place: usize) -> Reading
+        ensures { λ r. ⌜ r ≡ Reading.Refused (refusal number place) ⌝ }
+    {
+        Reading::Refused(Refusal { number, place })
+    }
+}
+
 // How many bytes the writer wrote.
 pub struct Lengths {
     pub text: usize,
@@ -168,6 +178,15 @@ pub enum Pick {
 pub enum Filling {
     Filled(usize),
     Refused(Refusal),
+}
+
+impl Filling {
+    // The refusal with this number and this place.
+    pub fn refused(number: usize, place: usize) -> Filling
+        ensures { λ r. ⌜ r ≡ Filling.Refused (refusal number place) ⌝ }
+    {
+        Filling::Refused(Refusal { number, place })
+    }
 }
 
 // A part of the text or of the indices of a label.

@@ -9,8 +9,7 @@ ghost use Rattle.label.specs.Outcome.{ok};
 ghost use Rattle.label.specs.Run.{read as readLabel};
 ghost use Rattle.label.specs.Sound.{indexNumber, advanceNumber, advanceFits, flatClusters, flatGlyphs};
 ghost use Rattle.label.specs.Rounded.{rounded as roundedIn, beside};
-ghost use Rattle.label.specs.Calls.{refusal, readingOutcome, readingRounded, readInto, counted, unitsAfter, clustersAfter, glyphsAfter};
-ghost use Rattle.label.specs.declared.Reading.the-variants.{Refused as RefusedReading};
+ghost use Rattle.label.specs.Calls.{readingOutcome, readingRounded, readInto, counted, unitsAfter, clustersAfter, glyphsAfter};
 ghost use Rattle.text.specs.Texts.{unitsStart};
 ghost use Rattle.survey.specs.Steps.{advanced, tailParts};
 ghost use Rattle.reader.specs.Stores.{takenBy, openedHere, glyphPlaces, Storable};
@@ -174,12 +173,6 @@ pub fn fill(
     fill_tail(count - at.unit, at.clusters, at.entry, clusters, glyphs);
 }
 
-fn refused(number: usize, place: usize) -> label::Reading
-    ensures { λ r. ⌜ r ≡ RefusedReading (refusal number place) ⌝ }
-{
-    label::Reading::Refused(label::Refusal { number, place })
-}
-
 // The reading of a label: 1 to 18 in order, or its run is stored.
 pub fn read(
     text: &[u8],
@@ -197,13 +190,13 @@ pub fn read(
     match survey::survey(text, indices) {
         label::Reading::Read { counts, rounded } => {
             if units.len() < counts.units {
-                return refused(16, counts.units);
+                return label::Reading::refused(16, counts.units);
             }
             if clusters.len() < 2 * counts.clusters {
-                return refused(17, counts.clusters);
+                return label::Reading::refused(17, counts.clusters);
             }
             if glyphs.len() < 4 * counts.glyphs {
-                return refused(18, counts.glyphs);
+                return label::Reading::refused(18, counts.glyphs);
             }
             fill(text, indices, counts, units, clusters, glyphs);
             label::Reading::Read { counts, rounded }

@@ -8,7 +8,6 @@ ghost use Rattle.label.specs.Run.{read as readLabel};
 ghost use Rattle.label.specs.Rounded.{rounded as roundedIn, beside};
 ghost use Rattle.label.specs.Calls.{refusal, readingOutcome, readingRounded, pickOutcome, counted};
 ghost use Rattle.label.specs.Wire.{readBytes, writeAskedBytes};
-ghost use Rattle.label.specs.declared.Reading.the-variants.{Refused as RefusedReading};
 ghost use Rattle.label.specs.declared.Writing.the-variants.{Refused as RefusedWriting};
 ghost use Rattle.label.specs.declared.Pick.the-variants.{Refused as RefusedPick};
 ghost use Rattle.picks.specs.Ways.{pickBy};
@@ -335,12 +334,6 @@ fn fill_bytes(
     in_larger(u, c, g, task, text, indices, text, units, clusters, glyphs);
 }
 
-fn refused(number: usize, place: usize) -> label::Reading
-    ensures { λ r. ⌜ r ≡ RefusedReading (refusal number place) ⌝ }
-{
-    label::Reading::Refused(label::Refusal { number, place })
-}
-
 // 1 to 15 before anything is stored, then 16 to 18 by the bytes of each buffer, then the run.
 pub fn read_bytes(
     text: &[u8],
@@ -356,13 +349,13 @@ pub fn read_bytes(
     match survey::survey(text, indices) {
         label::Reading::Read { counts, rounded } => {
             if units.len() / 2 < counts.units {
-                return refused(16, counts.units);
+                return label::Reading::refused(16, counts.units);
             }
             if clusters.len() / 4 < 2 * counts.clusters {
-                return refused(17, counts.clusters);
+                return label::Reading::refused(17, counts.clusters);
             }
             if glyphs.len() / 4 < 4 * counts.glyphs {
-                return refused(18, counts.glyphs);
+                return label::Reading::refused(18, counts.glyphs);
             }
             fill_bytes(text, indices, counts, units, clusters, glyphs);
             label::Reading::Read { counts, rounded }

@@ -1,12 +1,11 @@
 -- The answer to a label, by what the survey of it says; the loops that store the answers; the calls.
 -- Assumes nothing.
-use Prim.Native.Nat.{ℕ, _+_, _-_, _*_, _/_, _≤_, _<_}
+use Prim.Native.Nat.{ℕ, _+_, _-_, _/_, _≤_, _<_}
 use native.Mathlib.Omega.{arith}
-use mathlib.Core.Bool.{true, false}
+use mathlib.Core.Bool.{true, false, _&&_}
 use mathlib.Core.Path.{_≡_, refl, sym, ap, subst, _∙_}
 use mathlib.Core.List.{List, [], _∷_, _++_}
-use borrow.Author.Tests.{lt-ltb, le-leb, leb-true}
-use lib.Dec.{leb}
+use borrow.Author.Tests.{lt-ltb}
 use lib.IntN.{ℤ, pos}
 use lib.Signed.{mag}
 use lib.ListN.{length, drop, set, drop-of-length-le}
@@ -25,9 +24,10 @@ use Rattle.label.specs.declared.Filling.{Filling}
 use Rattle.label.specs.declared.Filling.the-variants as F
 use Rattle.label.specs.declared.Reading.{Reading}
 use Rattle.label.specs.declared.Reading.the-variants.{Read, Refused}
-use Rattle.label.proofs.Basics.{no-ok, need-ok, bind-ok}
+use Rattle.label.proofs.Basics.{and-l, and-r, no-ok, need-ok, bind-ok}
 use Rattle.label.proofs.Walks.{ok-path}
-use Rattle.label.proofs.Wires.{length-words}
+use Rattle.label.proofs.Wires.{in32, all32, in32-below, length-words}
+use Rattle.label.proofs.Answering.{into-labels, labels-into, answer-32}
 use Rattle.label.proofs.Sheets.{labels-none, labels-cut, length-answers}
 use Rattle.label.proofs.Places.{Placed, refused, read-placed}
 use Rattle.words.specs.Words.{putInt}
@@ -76,15 +76,10 @@ module _ (t i : List ℕ) {r : Reading} (e : readingOutcome r ≡ counted (read 
     told = rw (small (x .number) number-small, small (x .place) place-small, is-refused)
 
 -- an answer's numbers fit, so they are stored as they are
-of-two : {n p x y : ℤ} → (n ∷ p ∷ []) ≡ (x ∷ y ∷ []) → (x ≡ n) × (y ≡ p)
-of-two e = (cc, cc)
-
 answer-small : (l : Label) {n p : ℤ} → (n ∷ p ∷ []) ≡ answer l → (mag n < 2147483648) × (mag p < 2147483648)
-answer-small l {n} {p} = go (read (l .text) (l .indices)) (read-placed (l .text) (l .indices))
-  where
-    go : (o : Outcome Run) → Placed 15 262145 o → (n ∷ p ∷ []) ≡ answerOf o → (mag n < 2147483648) × (mag p < 2147483648)
-    go (ok r) f a = let (d, e) = of-two a in rw (← d, ← e) (omega arith, omega arith)
-    go (no i q) (refused b c f) a = let (d, e) = of-two a in rw (← d, ← e) (omega arith, omega arith)
+answer-small l {n} {p} a =
+    let h : (in32 n && (in32 p && true)) ≡ true = ap all32 a ∙ answer-32 l in
+    (in32-below n (and-l (in32 n) (in32 p && true) h), in32-below p (and-l (in32 p) true (and-r (in32 n) (in32 p && true) h)))
 
 pub as-stored : (l : Label) {n p : ℤ} → (n ∷ p ∷ []) ≡ answer l → (toZ w32 (ofZ w32 n) ∷ toZ w32 (ofZ w32 p) ∷ []) ≡ answer l
 as-stored l {n} {p} a = let (d, e) = answer-small l a in rw (back n d, back p e) a
@@ -109,8 +104,7 @@ module _ (file : List ℕ) where
         (record { rest = g .labels; number = 0; are = from-start .1; inside = header-inside file (from-start .0) }, refl)
 
     into : sheetInto room file ≡ ok (answers (g .labels))
-    unfolding sheetInto
-    into = rw (g .are, le-leb (2 * length (g .labels)) room (g .room-for))
+    into = labels-into room file (g .labels) (g .are) (g .room-for)
 
   module _ {at : ℕ} (f : Rest file at) where
     rest-end : length file ≤ at → f .rest ≡ []
@@ -232,11 +226,10 @@ module _ (room : ℕ) (file : List ℕ) {r : Filling} (j : fillingOutcome r ≡ 
     tells = ap fillingOutcome (sym e) ∙ j
 
     pub accepts : Accepted file room
-    unfolding sheetInto
     accepts =
         let (vs, p) = was-filled (sheetInto room file) n tells in
-        let (ls, q, t) = bind-ok (labelsOf file) _ vs p in
-        record { labels = ls; are = q; room-for = leb-true (2 * length ls) room (need-ok (leb (2 * length ls) room) 27 (length ls) _ vs t .0) }
+        let (ls, q, t, _) = into-labels room file vs p in
+        record { labels = ls; are = q; room-for = t }
 
   -- a refusal leaves the list, and its bytes
   module _ {x : Refusal} (e : r ≡ F.Refused x) where

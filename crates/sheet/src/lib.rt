@@ -3,12 +3,11 @@ ghost use mathlib.Core.Path.{_≡_};
 ghost use mathlib.Core.List.{[], _∷_};
 ghost use Prim.Native.Nat.{_/_, _≤_};
 ghost use lib.ListN.{length};
-ghost use Rattle.label.specs.Calls.{refusal, fillingOutcome, filledCount, filledAfter};
+ghost use Rattle.label.specs.Calls.{fillingOutcome, filledCount, filledAfter};
 ghost use Rattle.label.specs.Wire.{numberBytesAfter};
 ghost use Rattle.label.specs.Sheet.{answer as answerTo, sheetInto, sheetIntoBytes};
 ghost use Rattle.sheet.specs.Records.{recordAt, labelIn, Accepted};
 use label::Filling;
-use label::Refusal;
 
 // ── records ──
 
@@ -47,18 +46,12 @@ fn record_at(file: &[u8], at: usize) -> Found
 
 // ── the file ──
 
-fn refused(number: usize, place: usize) -> Filling
-    ensures { λ r. ⌜ r ≡ Filling.Refused (refusal number place) ⌝ }
-{
-    Filling::Refused(Refusal { number, place })
-}
-
 // 25 to 27 of a file and an answer list of `room` numbers, or how many numbers the answers are.
 fn judge(file: &[u8], room: usize) -> Filling
     ensures { λ r. ⌜ fillingOutcome r ≡ filledCount (sheetInto room (now (file .entry))) ⌝ }
 {
     if !words::stands_at(file, 0, b"SLB\x01\x00") {
-        return refused(25, 0);
+        return Filling::refused(25, 0);
     }
     let mut n = 0;
     let mut at = FIRST;
@@ -69,12 +62,12 @@ fn judge(file: &[u8], room: usize) -> Filling
                 at = x.end;
             }
             Found::Cut => {
-                return refused(26, n);
+                return Filling::refused(26, n);
             }
         }
     }
     if room / 2 < n {
-        return refused(27, n);
+        return Filling::refused(27, n);
     }
     Filling::Filled(2 * n)
 }

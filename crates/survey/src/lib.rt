@@ -10,15 +10,8 @@ ghost use Rattle.label.specs.Text.{decode};
 ghost use Rattle.label.specs.Run.{named, tail, runFrom, read as readLabel};
 ghost use Rattle.label.specs.Rounded.{rounded as roundedIn, beside};
 ghost use Rattle.label.specs.Calls.{refusal, readingOutcome, readingRounded, counted};
-ghost use Rattle.label.specs.declared.Reading.the-variants.{Refused as RefusedReading};
 ghost use Rattle.text.specs.Moves.{unitsFrom};
 ghost use Rattle.survey.specs.Steps.{firstPlace, firstCursor, advanced, Opens, Turns, Carries, Steps, Tails, limited, countedFrom};
-
-fn refused(number: usize, place: usize) -> label::Reading
-    ensures { λ r. ⌜ r ≡ RefusedReading (refusal number place) ⌝ }
-{
-    label::Reading::Refused(label::Refusal { number, place })
-}
 
 // ── one entry ──
 
@@ -201,7 +194,7 @@ fn limit(units: usize, clusters: usize, glyphs: usize, rounded: usize) -> label:
     ensures rounded { λ r. ⌜ readingRounded r ≡ beside rounded (readingOutcome r) ⌝ }
 {
     if label::Limits::GLYPHS < glyphs {
-        return refused(15, 0);
+        return label::Reading::refused(15, 0);
     }
     label::Reading::Read {
         counts: label::Counts {
@@ -225,7 +218,7 @@ fn survey_tail(text: &[u8], count: usize, c: label::Cursor, rounded: usize) -> l
             let rest = count - c.unit;
             limit(count, c.clusters + rest, c.entry + rest, rounded)
         }
-        Tail::Pair(unit) => refused(13, unit),
+        Tail::Pair(unit) => label::Reading::refused(13, unit),
     }
 }
 
@@ -255,7 +248,7 @@ fn survey_run(text: &[u8], indices: &[u8], count: usize, start: usize) -> label:
 {
     let bare = count == 0;
     if words::both(bare, indices.len() == 0) {
-        return refused(6, 0);
+        return label::Reading::refused(6, 0);
     }
     let mut c = first_cursor(indices, start);
     let mut rounded_sum = 0;
@@ -271,7 +264,7 @@ fn survey_run(text: &[u8], indices: &[u8], count: usize, start: usize) -> label:
         }
     }
     if c.lack != 0 {
-        return refused(14, c.opener);
+        return label::Reading::refused(14, c.opener);
     }
     survey_tail(text, count, c, rounded_sum)
 }
@@ -282,10 +275,10 @@ pub fn survey(text: &[u8], indices: &[u8]) -> label::Reading
     ensures rounded { λ r. ⌜ readingRounded r ≡ beside (roundedIn (now (indices .entry))) (readLabel (now (text .entry)) (now (indices .entry))) ⌝ }
 {
     if label::Limits::TEXT_BYTES < text.len() {
-        return refused(1, 0);
+        return label::Reading::refused(1, 0);
     }
     if label::Limits::INDICES_BYTES < indices.len() {
-        return refused(1, 0);
+        return label::Reading::refused(1, 0);
     }
     match text::survey_text(text) {
         text::TextRead::Units(t) => survey_run(text, indices, t.count, t.start),
