@@ -2,7 +2,7 @@
 -- Assumes nothing.
 use Prim.Native.Nat.{ℕ, zero, suc, _+_, _*_, _-_, _≤_, _<_}
 use native.Mathlib.Omega.{arith}
-use native.Mathlib.Nat.{add-zero, mul-zero, mul-suc, mul-add, mul-le-mul-left}
+use native.Mathlib.Nat.{mul-zero, mul-suc, mul-add, mul-le-mul-left}
 use native.Mathlib.Numerals.{add-one}
 use mathlib.Core.Path.{_≡_, refl, sym, _∙_, ap}
 use mathlib.Core.Bool.{true}
@@ -18,6 +18,7 @@ use Rattle.label.specs.Sound.{indexNumber, advanceNumber, advanceFits, flatClus
 use Rattle.label.specs.Calls.{filled}
 use Rattle.label.specs.declared.Advance.the-variants.{Given}
 use Rattle.label.specs.declared.Glyph.{Glyph}
+use Rattle.words.proofs.Puts.{sets-append}
 use Rattle.reader.specs.Stores.{openedHere, clusterPlaces, glyphPlaces}
 
 -- ── a cluster ──
@@ -53,12 +54,6 @@ four-stored out at g i a u v ei ea eu ev =
     rw (ei, ea, eu, ev, add-one at, p2, p3)
 
 -- ── stores one behind the other ──
-
-sets-append : (xs ys l : List ℤ) (i : ℕ) → sets (sets l i xs) (i + length xs) ys ≡ sets l i (xs ++ ys)
-sets-append [] ys l i = rw (add-zero i)
-sets-append (a ∷ xs) ys l i =
-    let e : i + suc (length xs) ≡ suc i + length xs = omega arith in
-    rw e (sets-append xs ys (set l i a) (suc i))
 
 -- the buffer was `old`, and `pre` was stored from its start on
 pub record Stored (old out pre : List ℤ) : Type 0 where

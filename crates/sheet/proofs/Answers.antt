@@ -5,18 +5,18 @@ use native.Mathlib.Omega.{arith}
 use mathlib.Core.Bool.{true, false, _&&_}
 use mathlib.Core.Path.{_≡_, refl, sym, ap, subst, _∙_}
 use mathlib.Core.List.{List, [], _∷_, _++_}
-use borrow.Author.Tests.{lt-ltb}
 use lib.IntN.{ℤ, pos}
 use lib.Signed.{mag}
 use lib.ListN.{length, drop, set, drop-of-length-le}
 use mir.Syntax.{w32}
+use mir.Facts.{toZ-pos}
 use mir.Val.{ofZ, toZ}
 use Rattle.label.specs.Outcome.{Outcome, ok, no}
 use Rattle.label.specs.Bytes.{begins}
 use Rattle.label.specs.Run.{Run, read}
 use Rattle.label.specs.Write.{Label}
 use Rattle.label.specs.Calls.{readingOutcome, counts, counted, fillingOutcome, filledCount, filledAfter}
-use Rattle.label.specs.Wire.{bitsOf, fourBytes, fromWords, signed, numberBytesAfter}
+use Rattle.label.specs.Wire.{bitsOf, fourBytes, fromWords, numberBytesAfter}
 use Rattle.label.specs.Sheet.{header, isRecord, recordLabel, labelsFrom, labelsOf, answerOf, answer, answers, sheetInto, sheetIntoBytes}
 use Rattle.label.specs.declared.Counts.{Counts}
 use Rattle.label.specs.declared.Refusal.{Refusal}
@@ -33,7 +33,7 @@ use Rattle.label.proofs.Places.{Placed, refused, read-placed}
 use Rattle.words.specs.Words.{putInt}
 use Rattle.words.proofs.Signed.{back}
 use Rattle.words.proofs.Puts.{Left, left-start, left-next, left-as, left-end, put-room}
-use Rattle.words.proofs.Packs.{signed-is, put-int, Laid, laid-start, laid-next, laid-end}
+use Rattle.words.proofs.Packs.{put-int, Laid, laid-start, laid-next, laid-end}
 use Rattle.sheet.specs.Records.{labelIn, Accepted}
 use Rattle.sheet.specs.declared.Record.{Record}
 use Rattle.sheet.proofs.Records.{Stands, header-inside, some-left, labels-next}
@@ -47,10 +47,6 @@ not-counted (no m q) n p e = cc
 is-counted : (o : Outcome Run) (c : Counts) → counted o ≡ ok c → answerOf o ≡ (pos 0 ∷ pos 0 ∷ [])
 is-counted (ok r) c e = refl
 is-counted (no m q) c e = no-ok m q c e
-
--- a number that a cast leaves as it is
-small : (n : ℕ) → n < 2147483648 → toZ w32 n ≡ pos n
-small n h = signed-is n ∙ (unfold signed in (rw (lt-ltb n 2147483648 h)))
 
 module _ (t i : List ℕ) {r : Reading} (e : readingOutcome r ≡ counted (read t i)) where
   pub accepted : {c : Counts} {n : ℕ} → r ≡ Read c n → (pos 0 ∷ pos 0 ∷ []) ≡ answerOf (read t i)
@@ -73,7 +69,7 @@ module _ (t i : List ℕ) {r : Reading} (e : readingOutcome r ≡ counted (read 
     place-small = bounded .1
 
     pub told : (toZ w32 (x .number) ∷ toZ w32 (x .place) ∷ []) ≡ answerOf (read t i)
-    told = rw (small (x .number) number-small, small (x .place) place-small, is-refused)
+    told = rw (toZ-pos w32 number-small, toZ-pos w32 place-small, is-refused)
 
 -- an answer's numbers fit, so they are stored as they are
 answer-small : (l : Label) {n p : ℤ} → (n ∷ p ∷ []) ≡ answer l → (mag n < 2147483648) × (mag p < 2147483648)

@@ -1,12 +1,12 @@
 -- Laws of storing a text's units: what is left to store gives the whole.
 -- Assumes nothing.
-use Prim.Native.Nat.{ℕ, suc, _+_, _≤_, _<_}
+use Prim.Native.Nat.{ℕ, _+_, _≤_, _<_}
 use native.Mathlib.Omega.{arith}
-use native.Mathlib.Nat.{add-zero, zero-add}
+use native.Mathlib.Nat.{zero-add}
 use mathlib.Core.Path.{_≡_, refl, sym, _∙_, ap}
 use mathlib.Core.Logic.{⊎-elim}
-use mathlib.Core.List.{List, [], _∷_, _++_}
-use lib.ListN.{length, drop, set, length-append}
+use mathlib.Core.List.{List, [], _++_}
+use lib.ListN.{length, drop, length-append}
 use lib.Seq.{sets, sets-eq, length-sets}
 use Rattle.label.specs.Outcome.{ok}
 use Rattle.label.specs.Calls.{filled}
@@ -17,17 +17,12 @@ use Rattle.label.proofs.Walks.{ok-path}
 use Rattle.text.specs.Chars.{charAt}
 use Rattle.text.specs.Moves.{unitsFrom}
 use Rattle.text.specs.declared.Char.the-variants.{Good}
+use Rattle.words.proofs.Puts.{sets-append}
 use Rattle.text.proofs.Chars.{char-is-good}
 use Rattle.text.proofs.Moves.{Here, here-good}
 
 pub good-small : (s : List ℕ) (i c j : ℕ) → charAt s i ≡ Good c j → c ≤ 1114111
 good-small s i c j h = ⊎-elim (λ w. omega arith) (λ w. w .1) (xml-range c (char-is-good s i c j h .xml))
-
-sets-append : (xs ys l : List ℕ) (i : ℕ) → sets (sets l i xs) (i + length xs) ys ≡ sets l i (xs ++ ys)
-sets-append [] ys l i = rw (add-zero i)
-sets-append (a ∷ xs) ys l i =
-    let e : i + suc (length xs) ≡ suc i + length xs = omega arith in
-    rw e (sets-append xs ys (set l i a) (suc i))
 
 -- at byte i, with n units stored in what `out` holds
 pub record Fill (t old out : List ℕ) (from i n : ℕ) : Type 0 where

@@ -6,15 +6,19 @@ use native.Mathlib.Nat.{add-zero}
 use native.Mathlib.Numerals.{add-one}
 use native.Mathlib.Omega.{arith}
 use lib.ListN.{length, getD, drop, set, length-append}
-use lib.Seq.{sets-eq, length-sets, set-out, drop-cons}
+use lib.Seq.{sets, sets-eq, length-sets, set-out, drop-cons}
 use Rattle.words.specs.Puts.{puts, Put}
+
+-- stores one behind the other
+pub sets-append : {A : Type 0} (x y l : List A) (i : ℕ) → sets (sets l i x) (i + length x) y ≡ sets l i (x ++ y)
+sets-append [] y l i = rw (add-zero i)
+sets-append (a ∷ x) y l i =
+    let e : i + suc (length x) ≡ suc i + length x = omega arith in
+    rw e (sets-append x y (set l i a) (suc i))
 
 puts-append : (l : List ℕ) (i : ℕ) (x y : List ℕ) → puts (puts l i x) (i + length x) y ≡ puts l i (x ++ y)
 unfolding puts
-puts-append l i [] y = rw (add-zero i)
-puts-append l i (a ∷ x) y =
-    let e : i + suc (length x) ≡ suc i + length x = omega arith in
-    rw e (puts-append (set l i a) (suc i) x y)
+puts-append l i x y = sets-append x y l i
 
 pub puts-length : (l : List ℕ) (i : ℕ) (w : List ℕ) → length (puts l i w) ≡ length l
 unfolding puts
