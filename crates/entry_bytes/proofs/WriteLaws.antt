@@ -2,7 +2,7 @@
 use mathlib.Core.Path.{_≡_, refl, sym, ap, _∙_}
 use mathlib.Core.Bool.{Bool, true, false, cond, not, _&&_, and-true}
 use mathlib.Core.List.{List, [], _∷_, _++_, append-nil}
-use Prim.Native.Nat.{ℕ, suc, _+_, _/_, _%_}
+use Prim.Native.Nat.{ℕ, _+_, _/_, _%_}
 use native.Mathlib.Omega.{arith}
 use borrow.Author.Tests.{eq-eqb, ne-eqb}
 use lib.Dec.{leb, eqb}
@@ -10,9 +10,10 @@ use lib.IntN.{ℤ, pos, negsuc}
 use Rattle.label.specs.Bytes.{empty, join, joinRest, trim, decimal}
 use Rattle.label.specs.Write.{fraction, valueBytes, offsetBytes, advanceBytes, indexBytes, mapBytes, entryBytes}
 use Rattle.label.specs.Sound.{natural, size, numberIndex, numberAdvance}
-use Rattle.label.proofs.Basics.{cases, clash}
-use Rattle.label.proofs.Splits.{empty-nil}
-use Rattle.label.proofs.Decimals.{empty-decimal}
+use Rattle.label.proofs.Basics.{clash}
+use Rattle.label.proofs.Splits.{empty-nil, trim-empty}
+use Rattle.label.proofs.Outputs.{advance-empty, offset-empty}
+use Rattle.words.proofs.Signs.{given-is}
 use Rattle.words.specs.Places.{glyphAt, place}
 use Rattle.entry_bytes.specs.Fields.{partsV, partsUV, partsAUV, fields}
 
@@ -45,22 +46,6 @@ module _ (n : ℕ) where
   pub value-point : (n % 1000 ≡ 0 → ⊥) → cond (eqb (n / 1000) 0) [] (decimal (n / 1000)) ++ ((46 ∷ []) ++ fraction (n % 1000)) ≡ valueBytes n
   unfolding valueBytes
   value-point h = rw (ne-eqb (n % 1000) 0 h)
-
-empty-more : (x : List ℕ) (y : ℕ) (l : List ℕ) → empty (x ++ (y ∷ l)) ≡ false
-empty-more [] y l = refl
-empty-more (x ∷ xs) y l = refl
-
-value-full : (n : ℕ) → empty (valueBytes n) ≡ false
-unfolding valueBytes
-value-full n =
-    cases (eqb (n % 1000) 0)
-    (λ e. rw e (empty-decimal (n / 1000)))
-    (λ e. rw e (empty-more (cond (eqb (n / 1000) 0) [] (decimal (n / 1000))) 46 (fraction (n % 1000))))
-
-offset-empty : (z : ℤ) → empty (offsetBytes z) ≡ eqb (size z) 0
-unfolding offsetBytes
-offset-empty (pos n) = cases (eqb n 0) (λ e. rw e) (λ e. rw e (value-full n))
-offset-empty (negsuc n) = sym (ne-eqb (suc n) 0 (λ e. omega arith))
 
 module _ (z : ℤ) {n : ℕ} (e : n ≡ size z) where
   pub offset-none : n ≡ 0 → [] ≡ offsetBytes z
@@ -97,19 +82,15 @@ module _ {w : ℕ → List ℕ} {g : ℤ → List ℕ} (is : (z : ℤ) → chose
   chosen-none (pos m) {b} f k = clash b f k
   chosen-none (negsuc m) f k = is (negsuc m)
 
-  chosen-empty : ((n : ℕ) → empty (w n) ≡ false) → (z : ℤ) → empty (g z) ≡ not (natural z)
-  chosen-empty h (pos n) = rw (← is (pos n)) (h n)
-  chosen-empty h (negsuc n) = rw (← is (negsuc n))
-
 pub advance-is : (z : ℤ) → chosen valueBytes z ≡ advanceBytes (numberAdvance z)
 unfolding advanceBytes
 advance-is (pos n) = refl
 advance-is (negsuc n) = refl
 
-pub index-is : (z : ℤ) → chosen decimal z ≡ indexBytes (numberIndex z)
+pub index-is : (a b : ℕ) (z : ℤ) → chosen (λ n. mapBytes a b ++ decimal n) z ≡ indexBytes a b (numberIndex z)
 unfolding indexBytes
-index-is (pos n) = refl
-index-is (negsuc n) = refl
+index-is a b (pos n) = refl
+index-is a b (negsuc n) = refl
 
 -- ── an entry ──
 
@@ -122,14 +103,6 @@ module _ (a b : ℕ) {t : Bool} (e : t ≡ (leb a 1 && eqb b 1)) where
   unfolding mapBytes
   map-some k = rw (← e, k)
 
-empty-cond : {A : Type 0} (t : Bool) (x : A) (l : List A) → empty (cond t [] (x ∷ l)) ≡ t
-empty-cond true x l = refl
-empty-cond false x l = refl
-
-trim-empty : (x : List ℕ) (l : List (List ℕ)) → empty (trim (x ∷ l)) ≡ (empty x && empty (trim l))
-unfolding trim
-trim-empty x l = empty-cond (empty x && empty (trim l)) x (trim l)
-
 pub blank-v-is : (v : ℤ) {n : ℕ} → n ≡ size v → eqb n 0 ≡ empty (trim (partsV v))
 unfolding partsV trim
 blank-v-is v e = rw e (sym (trim-empty (offsetBytes v) [] ∙ and-true (empty (offsetBytes v)) ∙ offset-empty v))
@@ -140,7 +113,7 @@ blank-uv-is u v e f g = g ∙ rw (e, f) (sym (trim-empty (offsetBytes u) (partsV
 
 pub blank-auv-is : (a u v : ℤ) {n b r : Bool} → n ≡ natural a → b ≡ empty (trim (partsUV u v)) → r ≡ (not n && b) → r ≡ empty (trim (partsAUV a u v))
 unfolding partsAUV
-blank-auv-is a u v e f g = g ∙ rw (e, f) (sym (trim-empty (advanceBytes (numberAdvance a)) (partsUV u v) ∙ rw (chosen-empty advance-is value-full a)))
+blank-auv-is a u v e f g = g ∙ rw (e, f) (sym (trim-empty (advanceBytes (numberAdvance a)) (partsUV u v) ∙ rw (advance-empty (numberAdvance a), given-is a)))
 
 pub fields-blank : (l : List (List ℕ)) {b : Bool} → b ≡ empty (trim l) → b ≡ true → [] ≡ fields l
 unfolding fields joinRest
@@ -169,44 +142,9 @@ join-cond c [] (y ∷ l) = refl
 join-cond c (x ∷ xs) l = refl
 
 pub entry-is : (a b : ℕ) (s : List ℤ) (k : ℕ)
-    → (mapBytes a b ++ indexBytes (numberIndex (place s k))) ++ fields (partsAUV (place s (k + 1)) (place s (k + 1 + 1)) (place s (k + 1 + 1 + 1))) ≡ entryBytes a b (glyphAt s k)
+    → indexBytes a b (numberIndex (place s k)) ++ fields (partsAUV (place s (k + 1)) (place s (k + 1 + 1)) (place s (k + 1 + 1 + 1))) ≡ entryBytes a b (glyphAt s k)
 unfolding entryBytes glyphAt fields partsAUV partsUV partsV trim
 entry-is a b s k =
     let e : k + 1 + 1 ≡ k + 2 = omega arith in
     let f : k + 2 + 1 ≡ k + 3 = omega arith in
-    rw (e, f) (sym (join-cond 44 (mapBytes a b ++ indexBytes (numberIndex (place s k))) (trim (partsAUV (place s (k + 1)) (place s (k + 2)) (place s (k + 3))))))
-
--- ── an entry without bytes ──
-
-map-empty : (a b : ℕ) → empty (mapBytes a b) ≡ (leb a 1 && eqb b 1)
-unfolding mapBytes
-map-empty a b = empty-cond (leb a 1 && eqb b 1) 40 (decimal a ++ cond (eqb b 1) [] (58 ∷ decimal b) ++ (41 ∷ []))
-
-append-empty : (x y : List ℕ) → empty (x ++ y) ≡ (empty x && empty y)
-append-empty [] y = refl
-append-empty (b ∷ x) y = refl
-
-rest-empty : (l : List (List ℕ)) → empty (joinRest 44 l) ≡ empty l
-unfolding joinRest
-rest-empty [] = refl
-rest-empty (x ∷ l) = refl
-
-fields-empty : (l : List (List ℕ)) → empty (fields l) ≡ empty (trim l)
-unfolding fields
-fields-empty l = rest-empty (trim l)
-
-pub entry-empty : (a b : ℕ) (s : List ℤ) (k : ℕ) {m n q e r : Bool}
-    → m ≡ (leb a 1 && eqb b 1) → n ≡ natural (place s k) → q ≡ (m && not n)
-    → e ≡ empty (trim (partsAUV (place s (k + 1)) (place s (k + 1 + 1)) (place s (k + 1 + 1 + 1)))) → r ≡ (q && e) → r ≡ empty (entryBytes a b (glyphAt s k))
-entry-empty a b s k em en eq ee er =
-    er
-    ∙ rw (eq, em, en, ee)
-    (sym
-    (ap (λ (w : List ℕ). empty w) (sym (entry-is a b s k))
-    ∙ append-empty (mapBytes a b ++ indexBytes (numberIndex (place s k))) (fields (partsAUV (place s (k + 1)) (place s (k + 1 + 1)) (place s (k + 1 + 1 + 1))))
-    ∙ rw (
-      append-empty (mapBytes a b) (indexBytes (numberIndex (place s k))),
-      map-empty a b,
-      chosen-empty index-is empty-decimal (place s k),
-      fields-empty (partsAUV (place s (k + 1)) (place s (k + 1 + 1)) (place s (k + 1 + 1 + 1))),
-    )))
+    rw (e, f) (sym (join-cond 44 (indexBytes a b (numberIndex (place s k))) (trim (partsAUV (place s (k + 1)) (place s (k + 2)) (place s (k + 3))))))

@@ -107,18 +107,6 @@ fn put_advance_at(out: &mut [u8], at: usize, s: &[i32], k: usize) -> usize
     at
 }
 
-// The index at place k; nothing for one that the font chooses.
-fn put_index_at(out: &mut [u8], at: usize, s: &[i32], k: usize) -> usize
-    requires { ⌜ (at < 1152921504606844000) × (k < length (now s)) ⌝ }
-    ensures { λ r. ⌜ Put (now (out .entry)) at (indexBytes (numberIndex (place (now (s .entry)) k))) r (now (out .exit)) ⌝ }
-    ensures bounds { λ r. ⌜ r ≤ at + 10 ⌝ }
-{
-    if words::natural_at(s, k) {
-        return put_decimal(out, at, words::size_at(s, k));
-    }
-    at
-}
-
 // `:b`, unless b is 1.
 fn put_colon(out: &mut [u8], at: usize, b: u32) -> usize
     requires { ⌜ at < 1152921504606844000 ⌝ }
@@ -145,6 +133,19 @@ fn put_map(out: &mut [u8], at: usize, a: u32, b: u32) -> usize
     let q = put_decimal(out, p, a);
     let t = put_colon(out, q, b);
     words::put_byte(out, t, 41)
+}
+
+// The index at place k with its map a:b; nothing for one that the font chooses.
+fn put_index_at(out: &mut [u8], at: usize, a: u32, b: u32, s: &[i32], k: usize) -> usize
+    requires { ⌜ (at < 1152921504606843000) × (k < length (now s)) ⌝ }
+    ensures { λ r. ⌜ Put (now (out .entry)) at (indexBytes a b (numberIndex (place (now (s .entry)) k))) r (now (out .exit)) ⌝ }
+    ensures bounds { λ r. ⌜ r ≤ at + 33 ⌝ }
+{
+    if words::natural_at(s, k) {
+        let p = put_map(out, at, a, b);
+        return put_decimal(out, p, words::size_at(s, k));
+    }
+    at
 }
 
 // Whether there is nothing to write from a field on, and the fields from it on, each behind its comma: v; u and v; all three.
@@ -215,17 +216,6 @@ pub fn put_entry(out: &mut [u8], at: usize, a: u32, b: u32, s: &[i32], k: usize)
     ensures { λ r. ⌜ Put (now (out .entry)) at (entryBytes a b (glyphAt (now (s .entry)) k)) r (now (out .exit)) ⌝ }
     ensures bounds { λ r. ⌜ r ≤ at + 80 ⌝ }
 {
-    let p = put_map(out, at, a, b);
-    let q = put_index_at(out, p, s, k);
-    put_auv(out, q, s, k + 1)
-}
-
-// Whether that entry has no bytes: no map, no index and no field.
-pub fn empty_entry(a: u32, b: u32, s: &[i32], k: usize) -> bool
-    requires { ⌜ k + 3 < length (now s) ⌝ }
-    ensures { λ r. ⌜ r ≡ empty (entryBytes a b (glyphAt (now (s .entry)) k)) ⌝ }
-{
-    let unmapped = words::both(a <= 1, b == 1);
-    let font = !words::natural_at(s, k);
-    words::both(words::both(unmapped, font), blank_auv(s, k + 1))
+    let p = put_index_at(out, at, a, b, s, k);
+    put_auv(out, p, s, k + 1)
 }

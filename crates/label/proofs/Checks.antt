@@ -13,7 +13,7 @@ use Rattle.label.specs.Outcome.{Outcome, ok, no, need, _>>=_, _>>_}
 use Rattle.label.specs.Bytes.{begins, empty, value}
 use Rattle.label.specs.Text.{lead, starts, scalar, xmlChar, unitsOf, decode, braced, marked, unmarked, textUnits}
 use Rattle.label.specs.Entry.{part, indexDigits, wellFormed, fieldFits, Entry, entryOf, entry, entries}
-use Rattle.label.specs.Run.{Run, Parts, fontGlyph, cluster, before, whole, tail, State, start, opens, takes, allowed, next, placed, step, walk, runFrom, read}
+use Rattle.label.specs.Run.{Run, Parts, cluster, before, whole, tail, State, start, opens, takes, allowed, next, placed, step, walk, runFrom, read}
 use Rattle.label.specs.Sound.{sound, runOf, clustersOf, glyphsOf}
 use Rattle.label.specs.Write.{Label, normal, write}
 use Rattle.label.specs.Pick.{inside, touched, turned, pickUnits, pickGlyphs}
@@ -21,7 +21,7 @@ use Rattle.label.specs.Attribute.{isGood, gives, further, resolveFrom}
 use Rattle.label.specs.Calls.{readInto, writeInto, listInto, resolveInto, readRaw, askedFor, writeAsked}
 use Rattle.label.specs.Wire.{halves, words, noLeftOver, writeBytes, writeAskedBytes, pickUnitsBytes, pickGlyphsBytes}
 use Rattle.label.specs.Sheet.{header, recordLength, isRecord, recordLabel, labelsFrom, labelsOf, answers, sheetInto}
-use Rattle.label.specs.Checks.{Check, check, verdict, refuses, GivenBy, textChecks, bitUnits, entryChecks, tailChecks, walkChecks, tailParts, walkParts, saidUnits, saidParts, saidRun, runChecks, labelChecks, readChecks, writeChecks, pickChecks, listChecks, writeByteChecks, pickByteChecks, rawChecks, rawGives, resolveChecks, rawLabelChecks, askedChecks, askedByteChecks, recordChecks, saidLabels, sheetChecks}
+use Rattle.label.specs.Checks.{Check, check, verdict, refuses, GivenBy, textChecks, bitUnits, entryChecks, walkChecks, walkParts, saidUnits, saidParts, saidRun, runChecks, labelChecks, readChecks, writeChecks, pickChecks, listChecks, writeByteChecks, pickByteChecks, rawChecks, rawGives, resolveChecks, rawLabelChecks, askedChecks, askedByteChecks, recordChecks, saidLabels, sheetChecks}
 use Rattle.label.proofs.Basics.{no-ok, or-l, or-r}
 
 -- ── a list of checks before an outcome ──
@@ -80,16 +80,6 @@ decode-by-checks (b ∷ bs) zero at =
 
 -- ── the entries ──
 
-tail-by-checks : (us : List ℕ) (at : ℕ) → tail at us ≡ (verdict (tailChecks at us) >> ok (tailParts us))
-unfolding tail tailChecks tailParts verdict
-tail-by-checks [] at = refl
-tail-by-checks (u ∷ us) at =
-    rw (
-      tail-by-checks us (suc at),
-      seq-bind (verdict (tailChecks (suc at) us)) (tailParts us) (λ p. ok (before true (cluster 1 1) fontGlyph p)),
-    )
-    (sym (check-need (whole 0 us) 13 (suc at) (tailChecks (suc at) us) (ok (before true (cluster 1 1) fontGlyph (tailParts us)))))
-
 three : {A : Type 0} (a b c : Bool) (k : ℕ) (o : Outcome A)
     → (need a 7 k >> (need b 8 k >> (need c 9 k >> o))) ≡ (verdict (check (not a) 7 k ∷ check (not b) 8 k ∷ check (not c) 9 k ∷ []) >> o)
 unfolding verdict
@@ -138,9 +128,9 @@ step-by-checks bare st s =
     ∙ sym (verdict-append (firstChecks (st .k) s) (lastChecks bare st (entryOf s)) (ok (entryOf s)))
 
 walk-by-checks : (ss : List (List ℕ)) (bare : Bool) (st : State) → walk bare st ss ≡ (verdict (walkChecks bare st ss) >> ok (walkParts bare st ss))
-unfolding walk walkChecks walkParts
+unfolding walk walkChecks walkParts verdict
 walk-by-checks [] bare st =
-    rw (tail-by-checks (st .rest) (st .at)) (sym (check-need (opens st) 14 (st .opener) (tailChecks (st .at) (st .rest)) (ok (tailParts (st .rest)))))
+    sym (check-need (opens st) 14 (st .opener) [] (ok (tail (st .rest))))
 walk-by-checks (s ∷ ss) bare st =
     let st′ = next bare st (entryOf s) in
     let add : Parts → Outcome Parts = λ p. ok (before (opens st) (cluster (takes bare st (entryOf s)) (entryOf s .glyphs)) (entryOf s .glyph) p) in

@@ -3,7 +3,7 @@
 use Prim.Native.Nat.{ℕ, suc, _≤_, _<_}
 use native.Mathlib.Omega.{arith}
 use mathlib.Core.Path.{_≡_, refl, sym, ap}
-use mathlib.Core.Bool.{Bool, true, false, cond, not, _&&_}
+use mathlib.Core.Bool.{Bool, true, false, cond, not, _&&_, and-false}
 use mathlib.Core.List.{List, [], _∷_, _++_, append-nil, append-assoc}
 use borrow.Author.Tests.{eq-eqb, not-true, not-false, le-leb, leb-true, eqb-true}
 use lib.Dec.{eqb, leb}
@@ -82,17 +82,22 @@ offset-read (negsuc n) h = neg-read n (valueBytes (suc n)) (value-writes (suc n)
 
 -- ── the index part ──
 
+-- the digits of an index
+abbrev figures : Index → List ℕ
+figures Font = []
+figures (Named n) = decimal n
+
 record IndexRead (m : Bool) (a b : ℕ) (i : Index) (p : List ℕ) : Type 0 where
   is : isIndexPart p ≡ true
   mapped : hasMap p ≡ m
-  figs : indexDigits p ≡ indexBytes i
+  figs : indexDigits p ≡ figures i
   units : mapUnits p ≡ cond m a 1
   glyphs : mapGlyphs p ≡ cond m b 1
   comma : free 44 p ≡ true
   semi : free 59 p ≡ true
 
-bare-read : (a b : ℕ) (i : Index) → IndexRead false a b i (indexBytes i)
-unfolding indexBytes isIndexPart indexDigits mapUnits mapGlyphs allDigits
+bare-read : (a b : ℕ) (i : Index) → IndexRead false a b i (figures i)
+unfolding isIndexPart indexDigits mapUnits mapGlyphs allDigits
 bare-read a b Font = record { is = refl; mapped = refl; figs = refl; units = refl; glyphs = refl; comma = refl; semi = refl }
 bare-read a b (Named n) =
     let h : hasMap (decimal n) ≡ false = digit-not 40 refl (getD (decimal n) 0 0) (head-digit (decimal n) (digits-decimal n)) in
@@ -110,7 +115,7 @@ bare-read a b (Named n) =
 map-read : (a b n : ℕ) (x : List ℕ) (c : Cut) → none (λ b. eqb b 41) x ≡ true → cut (λ b. eqb b 58) x ≡ c → digits (c .before) ≡ true
     → cond (c .found) (digits (c .after)) true ≡ true → value (c .before) ≡ a → cond (c .found) (value (c .after)) 1 ≡ b → free 44 x ≡ true → free 59 x ≡ true
     → IndexRead true a b (Named n) (40 ∷ (x ++ (41 ∷ decimal n)))
-unfolding indexBytes isIndexPart indexDigits mapUnits mapGlyphs
+unfolding isIndexPart indexDigits mapUnits mapGlyphs
 map-read a b n x c h e d f va vb c4 c5 =
     let o : cut (λ b. eqb b 41) (x ++ (41 ∷ decimal n)) ≡ record { before = x; found = true; after = decimal n } = cut-found (λ b. eqb b 41) x 41 (decimal n) h refl in
     record {
@@ -123,9 +128,12 @@ map-read a b n x c h e d f va vb c4 c5 =
       semi = none-append (λ b. eqb b 59) x (41 ∷ decimal n) c5 (digits-none (λ b. eqb b 59) (digit-not 59 refl) (decimal n) (all-decimal n));
     }
 
--- the map is written
+-- a cluster a:b has a map, and it is written before an index
 abbrev pub maps : ℕ → ℕ → Bool
 maps a b = not (leb a 1 && eqb b 1)
+
+abbrev pub mapped : ℕ → ℕ → Index → Bool
+mapped a b i = maps a b && named i
 
 unmapped : (a b : ℕ) → maps a b ≡ false → mapBytes a b ≡ []
 unfolding mapBytes
@@ -156,35 +164,34 @@ mapped-read a b n h =
     (none-append (λ b. eqb b 44) (decimal a) (58 ∷ decimal b) (digits-free 44 refl a) (digits-free 44 refl b))
     (none-append (λ b. eqb b 59) (decimal a) (58 ∷ decimal b) (digits-free 59 refl a) (digits-free 59 refl b))))
 
-index-read : (a b : ℕ) (i : Index) → (maps a b ≡ true → named i ≡ true) → IndexRead (maps a b) a b i (mapBytes a b ++ indexBytes i)
-index-read a b Font f =
+index-read : (a b : ℕ) (i : Index) → IndexRead (mapped a b i) a b i (indexBytes a b i)
+unfolding indexBytes
+index-read a b Font = rw (and-false (maps a b)) (bare-read a b Font)
+index-read a b (Named n) =
     cases (maps a b)
-    (λ h. clash false (f h) refl)
-    (λ h. rw (h, unmapped a b h) (bare-read a b Font))
-index-read a b (Named n) f =
-    cases (maps a b)
-    (λ h. rw h (unfold indexBytes in (mapped-read a b n h)))
+    (λ h. rw h (mapped-read a b n h))
     (λ h. rw (h, unmapped a b h) (bare-read a b (Named n)))
 
 -- the index that its digits name
-index-of : (i : Index) (p : List ℕ) → indexDigits p ≡ indexBytes i → indexOf p ≡ i
-unfolding indexOf indexBytes
+index-of : (i : Index) (p : List ℕ) → indexDigits p ≡ figures i → indexOf p ≡ i
+unfolding indexOf
 index-of Font p e = rw e
 index-of (Named n) p e = rw (e, empty-decimal n, value-decimal n)
 
-index-small : (i : Index) (p : List ℕ) → indexFits i ≡ true → indexDigits p ≡ indexBytes i → leb (value (indexDigits p)) 65535 ≡ true
-unfolding indexBytes valueFrom
+index-small : (i : Index) (p : List ℕ) → indexFits i ≡ true → indexDigits p ≡ figures i → leb (value (indexDigits p)) 65535 ≡ true
+unfolding valueFrom
 index-small Font p h e = rw e
 index-small (Named n) p h e = rw (e, value-decimal n) h
 
 -- ── the entry ──
 
 abbrev entryParts : ℕ → ℕ → Glyph → List (List ℕ)
-entryParts a b g = (mapBytes a b ++ indexBytes (g .index)) ∷ advanceBytes (g .advance) ∷ offsetBytes (g .u) ∷ offsetBytes (g .v) ∷ []
+entryParts a b g = indexBytes a b (g .index) ∷ advanceBytes (g .advance) ∷ offsetBytes (g .u) ∷ offsetBytes (g .v) ∷ []
 
 -- what the reader makes of the entry written for a glyph that opens a cluster a:b
 abbrev pub back : ℕ → ℕ → Glyph → Entry
-back a b g = record { mapped = maps a b; units = cond (maps a b) a 1; glyphs = cond (maps a b) b 1; glyph = g }
+back a b g =
+    record { mapped = mapped a b (g .index); units = cond (mapped a b (g .index)) a 1; glyphs = cond (mapped a b (g .index)) b 1; glyph = g }
 
 map-short : (a b : ℕ) → a < 100000 → b < 100000 → length (mapBytes a b) ≤ 13
 unfolding mapBytes
@@ -197,12 +204,12 @@ map-short a b ha hb =
     (λ s. rw (s, length-append (decimal a ++ []) (41 ∷ []), length-append (decimal a) []) (omega arith))
     (λ s. rw (s, length-append (decimal a ++ (58 ∷ decimal b)) (41 ∷ []), length-append (decimal a) (58 ∷ decimal b)) (omega arith))))
 
-index-short : (i : Index) → indexFits i ≡ true → length (indexBytes i) ≤ 5
+index-short : (a b : ℕ) (i : Index) → indexFits i ≡ true → a < 100000 → b < 100000 → length (indexBytes a b i) ≤ 18
 unfolding indexBytes
-index-short Font h = omega arith
-index-short (Named n) h = length-decimal n 4 (omega (arith, leb-true n 65535 h))
+index-short a b Font h ha hb = omega arith
+index-short a b (Named n) h ha hb = rw length-append (omega (arith, map-short a b ha hb, length-decimal n 4 (omega (arith, leb-true n 65535 h))))
 
-module _ (a b : ℕ) (g : Glyph) (m : glyphFits g ≡ true) (f : maps a b ≡ true → named (g .index) ≡ true) where
+module _ (a b : ℕ) (g : Glyph) (m : glyphFits g ≡ true) where
   fits-v : leb (size (g .v)) 1000000000 ≡ true
   fits-v = and-r (indexFits (g .index) && advanceFits (g .advance) && leb (size (g .u)) 1000000000) (leb (size (g .v)) 1000000000) m
 
@@ -221,8 +228,8 @@ module _ (a b : ℕ) (g : Glyph) (m : glyphFits g ≡ true) (f : maps a b ≡ tr
   fits-i : indexFits (g .index) ≡ true
   fits-i = and-l (indexFits (g .index)) (advanceFits (g .advance)) fits-ia
 
-  ri : IndexRead (maps a b) a b (g .index) (mapBytes a b ++ indexBytes (g .index))
-  ri = index-read a b (g .index) f
+  ri : IndexRead (mapped a b (g .index)) a b (g .index) (indexBytes a b (g .index))
+  ri = index-read a b (g .index)
 
   ra : AdvanceRead (g .advance) (advanceBytes (g .advance))
   ra = advance-read (g .advance) fits-a
@@ -259,7 +266,7 @@ module _ (a b : ℕ) (g : Glyph) (m : glyphFits g ≡ true) (f : maps a b ≡ tr
       )
 
   entry-index : leb (value (indexDigits (part 0 (entryBytes a b g)))) 65535 ≡ true
-  entry-index = rw (the-part 0) (index-small (g .index) (mapBytes a b ++ indexBytes (g .index)) fits-i (ri .figs))
+  entry-index = rw (the-part 0) (index-small (g .index) (indexBytes a b (g .index)) fits-i (ri .figs))
 
   entry-numbers : (fieldFits (part 1 (entryBytes a b g)) && fieldFits (part 2 (entryBytes a b g)) && fieldFits (part 3 (entryBytes a b g))) ≡ true
   entry-numbers = rw (the-part 1, the-part 2, the-part 3, ra .small, ru .small, rv .small)
@@ -278,7 +285,7 @@ module _ (a b : ℕ) (g : Glyph) (m : glyphFits g ≡ true) (f : maps a b ≡ tr
         ra .val,
         ru .val,
         rv .val,
-        index-of (g .index) (mapBytes a b ++ indexBytes (g .index)) (ri .figs),
+        index-of (g .index) (indexBytes a b (g .index)) (ri .figs),
       )
 
   pub entry-read : (k : ℕ) → entry k (entryBytes a b g) ≡ ok (back a b g)
@@ -296,7 +303,7 @@ module _ (a b : ℕ) (g : Glyph) (m : glyphFits g ≡ true) (f : maps a b ≡ tr
   pub entry-short : a < 100000 → b < 100000 → length (entryBytes a b g) ≤ 57
   unfolding entryBytes
   entry-short ha hb =
-      let i : length (mapBytes a b ++ indexBytes (g .index)) ≤ 18 = rw length-append (omega (arith, map-short a b ha hb, index-short (g .index) fits-i)) in
+      let i : length (indexBytes a b (g .index)) ≤ 18 = index-short a b (g .index) fits-i ha hb in
       let j : length (join 44 (trim (entryParts a b g))) ≤ total (trim (entryParts a b g)) = join-total 44 (trim (entryParts a b g)) in
       let t : total (trim (entryParts a b g)) ≤ total (entryParts a b g) = total-trim (entryParts a b g) in
       omega (arith, ra .short, ru .short, rv .short)
@@ -305,10 +312,12 @@ module _ (a b : ℕ) (g : Glyph) (m : glyphFits g ≡ true) (f : maps a b ≡ tr
 pub entry-full : (a b : ℕ) (g : Glyph) → named (g .index) ≡ true → empty (entryBytes a b g) ≡ false
 unfolding entryBytes
 entry-full a b g h =
-    joined-first 44 (mapBytes a b ++ indexBytes (g .index)) (advanceBytes (g .advance) ∷ offsetBytes (g .u) ∷ offsetBytes (g .v) ∷ [])
-    (full (mapBytes a b) (g .index) h)
+    joined-first 44 (indexBytes a b (g .index)) (advanceBytes (g .advance) ∷ offsetBytes (g .u) ∷ offsetBytes (g .v) ∷ []) (full (g .index) h)
   where
-    full : (m : List ℕ) (i : Index) → named i ≡ true → empty (m ++ indexBytes i) ≡ false
-    full [] (Named n) h = unfold indexBytes in (empty-decimal n)
-    full [] Font h = clash false h refl
-    full (b ∷ m) i h = refl
+    full : (i : Index) → named i ≡ true → empty (indexBytes a b i) ≡ false
+    full (Named n) h = unfold indexBytes in (behind (mapBytes a b) n)
+      where
+        behind : (m : List ℕ) (n : ℕ) → empty (m ++ decimal n) ≡ false
+        behind [] n = empty-decimal n
+        behind (x ∷ m) n = refl
+    full Font h = clash false h refl

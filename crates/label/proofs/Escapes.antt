@@ -10,7 +10,7 @@ use lib.Dec.{leb, ltb, eqb}
 use lib.IntN.{ℤ, pos, negsuc}
 use lib.ListN.{length, getD, length-append}
 use Rattle.label.specs.Limits.{maxIndicesBytes}
-use Rattle.label.specs.Bytes.{ascii, empty, join, trim, isDigit, decimal}
+use Rattle.label.specs.Bytes.{ascii, join, trim, isDigit, decimal}
 use Rattle.label.specs.Text.{isLow, isHigh, braced}
 use Rattle.label.specs.Run.{Run}
 use Rattle.label.specs.Sound.{soundRun}
@@ -196,10 +196,10 @@ map-none a b =
     behind : none odd (cond (eqb b 1) [] (58 ∷ decimal b)) ≡ true
     behind = cases (eqb b 1) (λ t. rw t) (λ t. rw t (unfold odd in (decimal-none b)))
 
-index-none : (i : Index) → none odd (indexBytes i) ≡ true
+index-none : (a b : ℕ) (i : Index) → none odd (indexBytes a b i) ≡ true
 unfolding indexBytes
-index-none Font = refl
-index-none (Named n) = decimal-none n
+index-none a b Font = refl
+index-none a b (Named n) = none-append odd (mapBytes a b) (decimal n) (map-none a b) (decimal-none n)
 
 -- parts joined, those empty at the end dropped
 joined-none : (c : ℕ) (l : List (List ℕ)) → odd c ≡ false → allNone odd l ≡ true → none odd (join c (trim l)) ≡ true
@@ -208,8 +208,8 @@ joined-none c l h k = join-free odd c (trim l) h (none-trim odd l k)
 entry-none : (a b : ℕ) (g : Glyph) → none odd (entryBytes a b g) ≡ true
 unfolding entryBytes
 entry-none a b g =
-    joined-none 44 ((mapBytes a b ++ indexBytes (g .index)) ∷ advanceBytes (g .advance) ∷ offsetBytes (g .u) ∷ offsetBytes (g .v) ∷ []) (unfold odd in refl)
-    (rw (none-append odd (mapBytes a b) (indexBytes (g .index)) (map-none a b) (index-none (g .index)), advance-none (g .advance), offset-none (g .u), offset-none (g .v)))
+    joined-none 44 (indexBytes a b (g .index) ∷ advanceBytes (g .advance) ∷ offsetBytes (g .u) ∷ offsetBytes (g .v) ∷ []) (unfold odd in refl)
+    (rw (index-none a b (g .index), advance-none (g .advance), offset-none (g .u), offset-none (g .v)))
 
 written-none : (lack : ℕ) (cs : List Cluster) (gs : List Glyph) → allNone odd (written lack cs gs) ≡ true
 unfolding written

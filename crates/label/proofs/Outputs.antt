@@ -1,25 +1,90 @@
 -- The entries without bytes are those that are wholly the font's.
 -- Assumes nothing.
-use Prim.Native.Nat.{ℕ}
-use mathlib.Core.Path.{_≡_, refl, sym, _∙_, ap}
-use mathlib.Core.Bool.{true, false}
-use mathlib.Core.List.{[]}
-use Rattle.label.specs.Bytes.{join, joinRest, trim}
-use Rattle.label.specs.Entry.{Entry}
-use Rattle.label.specs.Run.{named, fontGlyph}
-use Rattle.label.specs.Sound.{glyphFits}
-use Rattle.label.specs.Write.{entryBytes, mapBytes, indexBytes, advanceBytes, offsetBytes}
-use Rattle.label.proofs.Entries.{maps, back, entry-read}
-use Rattle.label.proofs.Walks.{ok-path, fontEntry, entry-empty}
+use Prim.Native.Nat.{ℕ, suc, _/_, _%_}
+use native.Mathlib.Omega.{arith}
+use mathlib.Core.Path.{_≡_, refl, sym, _∙_}
+use mathlib.Core.Bool.{Bool, true, false, cond, not, _&&_}
+use mathlib.Core.List.{List, [], _∷_, _++_}
+use borrow.Author.Tests.{ne-eqb, eqb-true}
+use lib.Dec.{eqb}
+use lib.IntN.{ℤ, pos, negsuc}
+use Rattle.label.specs.Bytes.{empty, decimal}
+use Rattle.label.specs.Run.{named, given, fontGlyph}
+use Rattle.label.specs.Sound.{size, isFont}
+use Rattle.label.specs.Write.{fraction, valueBytes, mapBytes, indexBytes, advanceBytes, offsetBytes, entryBytes}
+use Rattle.label.specs.declared.Index.{Index}
+use Rattle.label.specs.declared.Index.the-variants.{Named, Font}
+use Rattle.label.specs.declared.Advance.{Advance}
+use Rattle.label.specs.declared.Advance.the-variants.{Given, Own}
 use Rattle.label.specs.declared.Glyph.{Glyph}
+use Rattle.label.proofs.Basics.{and-l, and-r, clash, cases}
+use Rattle.label.proofs.Splits.{empty-nil, trim-nil, trim-empty, joined-empty}
+use Rattle.label.proofs.Decimals.{empty-decimal}
 
--- what `trim` drops is wholly the font's: of a glyph within its limits, with its index named where the cluster has a map, the written entry is empty only
--- where there is no map and the glyph is the font's; and there it is
-pub empty-is-font : (a b : ℕ) (g : Glyph) → glyphFits g ≡ true → (maps a b ≡ true → named (g .index) ≡ true) → entryBytes a b g ≡ [] → (maps a b ≡ false) × (g ≡ fontGlyph)
-empty-is-font a b g m f e =
-    let q : back a b g ≡ fontEntry = ok-path (back a b g) fontEntry (sym (entry-read a b g m f 0) ∙ rw e (entry-empty 0)) in
-    (ap (λ (x : Entry). x .mapped) q, ap (λ (x : Entry). x .glyph) q)
+-- ── which fields have bytes ──
 
-pub font-is-empty : entryBytes 1 1 fontGlyph ≡ []
-unfolding entryBytes mapBytes indexBytes advanceBytes offsetBytes join joinRest trim
-font-is-empty = refl
+empty-behind : (x y : List ℕ) → empty y ≡ false → empty (x ++ y) ≡ false
+empty-behind [] y h = h
+empty-behind (b ∷ x) y h = refl
+
+value-full : (n : ℕ) → empty (valueBytes n) ≡ false
+unfolding valueBytes
+value-full n =
+    cases (eqb (n % 1000) 0)
+    (λ e. rw e (empty-decimal (n / 1000)))
+    (λ e. rw e (empty-behind (cond (eqb (n / 1000) 0) [] (decimal (n / 1000))) (46 ∷ fraction (n % 1000)) refl))
+
+pub index-empty : (a b : ℕ) (i : Index) → empty (indexBytes a b i) ≡ not (named i)
+unfolding indexBytes
+index-empty a b (Named n) = empty-behind (mapBytes a b) (decimal n) (empty-decimal n)
+index-empty a b Font = refl
+
+pub advance-empty : (a : Advance) → empty (advanceBytes a) ≡ not (given a)
+unfolding advanceBytes
+advance-empty (Given n) = value-full n
+advance-empty Own = refl
+
+pub offset-empty : (z : ℤ) → empty (offsetBytes z) ≡ eqb (size z) 0
+unfolding offsetBytes
+offset-empty (pos n) = cases (eqb n 0) (λ e. rw e) (λ e. rw e (value-full n))
+offset-empty (negsuc n) = sym (ne-eqb (suc n) 0 (λ e. omega arith))
+
+-- ── which entries have bytes ──
+
+-- what `trim` drops is wholly the font's: a cluster 1:1, or a pair of the tail
+pub empty-is-font : (a b : ℕ) (g : Glyph) → empty (entryBytes a b g) ≡ isFont g
+unfolding entryBytes
+empty-is-font a b g =
+    let i = indexBytes a b (g .index) in
+    let d = advanceBytes (g .advance) in
+    let u = offsetBytes (g .u) in
+    let v = offsetBytes (g .v) in
+    joined-empty 44 (i ∷ d ∷ u ∷ v ∷ [])
+    ∙ trim-empty i (d ∷ u ∷ v ∷ [])
+    ∙ rw (trim-empty d (u ∷ v ∷ []), trim-empty u (v ∷ []), trim-empty v [], trim-nil, index-empty a b (g .index), advance-empty (g .advance), offset-empty (g .u), offset-empty (g .v))
+    (regroup (not (named (g .index))) (not (given (g .advance))) (eqb (size (g .u)) 0) (eqb (size (g .v)) 0))
+  where
+    regroup : (a b c d : Bool) → (a && (b && (c && (d && true)))) ≡ (a && b && c && d)
+    regroup true true true true = refl
+    regroup true true true false = refl
+    regroup true true false d = refl
+    regroup true false c d = refl
+    regroup false b c d = refl
+
+-- such a glyph is that of the tail
+pub font-is : (g : Glyph) → isFont g ≡ true → g ≡ fontGlyph
+font-is g h = is (g .index) (g .advance) (g .u) (g .v) h
+  where
+    nothing : (z : ℤ) → size z ≡ 0 → z ≡ pos 0
+    nothing (pos n) e = rw e
+    nothing (negsuc n) e = absurd (omega arith)
+
+    is : (i : Index) (a : Advance) (u v : ℤ) → isFont (record { index = i; advance = a; u = u; v = v }) ≡ true
+        → _≡_ {A = Glyph} (record { index = i; advance = a; u = u; v = v }) fontGlyph
+    is (Named n) a u v h = clash false h refl
+    is Font (Given n) u v h = clash false h refl
+    is Font Own u v h =
+        rw (nothing u (eqb-true (size u) 0 (and-l (eqb (size u) 0) (eqb (size v) 0) h)), nothing v (eqb-true (size v) 0 (and-r (eqb (size u) 0) (eqb (size v) 0) h)))
+
+pub font-empty : (a b : ℕ) (g : Glyph) → isFont g ≡ true → entryBytes a b g ≡ []
+font-empty a b g h = empty-nil (entryBytes a b g) (empty-is-font a b g ∙ h)

@@ -75,12 +75,12 @@ fits-units (g ∷ gs) bare cs us (suc n) h = fits-units gs bare cs us n (fits-fu
 fits-units (g ∷ gs) bare [] us zero h = clash (fits bare zero us [] (g ∷ gs)) h (unfold fits in refl)
 fits-units (g ∷ gs) true (c ∷ cs) us zero h =
     let f : Opening true us c cs g gs = fits-opening true us c cs g gs h in
-    let o : Bare c g = may-bare us c g (f .may) in
+    let o : Bare c g = may-bare us c g gs (f .may) in
     let r : sum (unitCounts cs) ≡ length (drop (c .units) us) = fits-units gs true cs (drop (c .units) us) (c .glyphs - 1) (f .rest) in
     omega (arith, o .none, rw length-drop at r)
 fits-units (g ∷ gs) false (c ∷ cs) us zero h =
     let f : Opening false us c cs g gs = fits-opening false us c cs g gs h in
-    let o : Opens us c g = may-opens us c g (f .may) in
+    let o : Opens us c g gs = may-opens us c g gs (f .may) in
     let r : sum (unitCounts cs) ≡ length (drop (c .units) us) = fits-units gs false cs (drop (c .units) us) (c .glyphs - 1) (f .rest) in
     omega (arith, o .inside, rw length-drop at r)
 
@@ -92,11 +92,11 @@ fits-glyphs (g ∷ gs) bare cs us (suc n) h =
 fits-glyphs (g ∷ gs) bare [] us zero h = clash (fits bare zero us [] (g ∷ gs)) h (unfold fits in refl)
 fits-glyphs (g ∷ gs) true (c ∷ cs) us zero h =
     let f : Opening true us c cs g gs = fits-opening true us c cs g gs h in
-    let o : Bare c g = may-bare us c g (f .may) in
+    let o : Bare c g = may-bare us c g gs (f .may) in
     omega (arith, o .one, fits-glyphs gs true cs (drop (c .units) us) (c .glyphs - 1) (f .rest))
 fits-glyphs (g ∷ gs) false (c ∷ cs) us zero h =
     let f : Opening false us c cs g gs = fits-opening false us c cs g gs h in
-    let o : Opens us c g = may-opens us c g (f .may) in
+    let o : Opens us c g gs = may-opens us c g gs (f .may) in
     omega (arith, o .some-glyphs, fits-glyphs gs false cs (drop (c .units) us) (c .glyphs - 1) (f .rest))
 
 -- ── a run's numbers and back ──

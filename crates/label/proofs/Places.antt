@@ -13,7 +13,7 @@ use Rattle.label.specs.Outcome.{Outcome, ok, no, need, _>>=_, _>>_}
 use Rattle.label.specs.Bytes.{empty, value}
 use Rattle.label.specs.Text.{lead, starts, scalar, xmlChar, decode, braced, marked, unmarked, textUnits}
 use Rattle.label.specs.Entry.{part, indexDigits, wellFormed, fieldFits, Entry, entry, entries}
-use Rattle.label.specs.Run.{whole, tail, State, start, opens, takes, allowed, next, placed, step, walk, runFrom, read}
+use Rattle.label.specs.Run.{whole, State, start, opens, takes, allowed, next, placed, step, walk, runFrom, read}
 use Rattle.label.proofs.Basics.{and-l, and-r}
 use Rattle.label.proofs.Rounded.{entries-length}
 use Rattle.label.proofs.Walks.{step-ok}
@@ -53,12 +53,6 @@ module _ (k : ℕ) where
       (λ all _. need-placed 15 k (not (braced all) || marked all) 4 0 _ (omega arith, omega arith) (omega arith)
       (λ _. need-placed 15 k (leb (length (unmarked all)) maxUnits) 5 0 _ (omega arith, omega arith) (omega arith) (λ _. fine)))
 
-  tail-placed : (us : List ℕ) (at : ℕ) → at + length us ≤ k → Placed 15 k (tail at us)
-  unfolding tail
-  tail-placed [] at h = fine
-  tail-placed (u ∷ us) at h =
-      need-placed 15 k (whole 0 us) 13 (suc at) _ (omega arith, omega arith) (omega arith) (λ _. bind-placed 15 k (tail (suc at) us) _ (tail-placed us (suc at) (omega arith)) (λ _ _. fine))
-
   entry-placed : (j : ℕ) (s : List ℕ) → j ≤ k → Placed 15 k (entry j s)
   unfolding entry
   entry-placed j s h =
@@ -84,7 +78,7 @@ module _ (k : ℕ) where
 
   walk-placed : (ss : List (List ℕ)) (bare : Bool) (st : State) → st .k + length ss ≤ k → st .at + length (st .rest) ≤ k → st .opener ≤ k → Placed 15 k (walk bare st ss)
   unfolding walk
-  walk-placed [] bare st h r o = need-placed 15 k (opens st) 14 (st .opener) _ (omega arith, omega arith) o (λ _. tail-placed (st .rest) (st .at) r)
+  walk-placed [] bare st h r o = need-placed 15 k (opens st) 14 (st .opener) _ (omega arith, omega arith) o (λ _. fine)
   walk-placed (s ∷ ss) bare st h r o =
       bind-placed 15 k (step bare st s) _ (step-placed bare st s (omega arith) r)
       (λ e q.

@@ -1,29 +1,29 @@
 -- What is read is sound.
 -- Assumes nothing.
-use Prim.Native.Nat.{ℕ, zero, suc, _+_, _-_, _/_, _%_, _≤_, _<_}
+use Prim.Native.Nat.{ℕ, zero, suc, _+_, _-_, _/_, _%_, _≤_}
 use native.Mathlib.Omega.{arith}
 use mathlib.Core.Path.{_≡_, refl, _∙_, subst}
-use mathlib.Core.Logic.{⊎-elim}
-use mathlib.Core.Bool.{Bool, true, false, cond, not, _&&_, _||_}
+use mathlib.Core.Bool.{Bool, true, false, cond, not, _&&_, _||_, or-true}
 use mathlib.Core.List.{List, [], _∷_, _++_}
-use borrow.Author.Tests.{eq-eqb, not-true, le-leb, lt-leb, leb-true, leb-false, eqb-true}
+use borrow.Author.Tests.{eq-eqb, not-true, le-leb, leb-true, leb-false, eqb-true}
 use lib.Dec.{eqb, leb, eqb·suc-zero}
 use lib.IntN.{pos, negℤ}
 use lib.ListN.{length, drop}
 use Rattle.label.specs.Outcome.{ok}
 use Rattle.label.specs.Bytes.{empty, allDigits, digits, value, split, onFirst}
-use Rattle.label.specs.Text.{lead, starts, scalar, xmlChar, isHigh, isLow, unitsOf, decode, braced, marked, unmarked, textUnits}
+use Rattle.label.specs.Text.{lead, starts, scalar, xmlChar, isHigh, isLow, isPair, unitsOf, decode, braced, marked, unmarked, textUnits}
 use Rattle.label.specs.Entry.{minus, unsigned, thousandths, mantissaDigits, exponentDigits, numberFits, part, hasMap, atParenthesis, atColon, isIndexPart, indexDigits, mapUnits, mapGlyphs, isAdvance, isOffset, wellFormed, fieldFits, indexOf, advanceOf, offsetOf, Entry, entryOf, entry, entries}
 use Rattle.label.specs.Run.{Run, Parts, named, fontGlyph, cluster, before, whole, tail, State, start, opens, takes, allowed, next, walk, read, runFrom}
 use Rattle.label.specs.Limits.{maxTextBytes, maxIndicesBytes, maxUnits, maxGlyphs}
 use Rattle.label.specs.Write.{textOf, indicesOf}
-use Rattle.label.specs.Sound.{properUnits, size, indexFits, advanceFits, glyphFits, mayOpen, fits, soundRun}
+use Rattle.label.specs.Sound.{properUnits, size, indexFits, advanceFits, glyphFits, allFont, mayOpen, fits, soundRun}
 use Rattle.label.specs.declared.Glyph.{Glyph}
 use Rattle.label.specs.declared.Cluster.{Cluster}
 use Rattle.label.proofs.Basics.{and-l, and-r, clash, cases, bind-ok, need-ok}
 use Rattle.label.proofs.Splits.{empty-nil}
 use Rattle.label.proofs.Walks.{parts, state, ok-path, Stepped, step-ok, Walked, walk-ok, indices-back, Indices, indices-full}
-use Rattle.label.proofs.Texts.{xml-range, within-is, TextBack, text-back, proper-first}
+use Rattle.label.proofs.Texts.{xml-not-high, xml-halves, TextBack, text-back, proper-first, proper-behind, pair-whole, plain-whole}
+use Rattle.label.proofs.Tails.{tail-nil, tail-font}
 
 -- ── an entry that was read ──
 
@@ -106,23 +106,6 @@ entry-facts k s e h =
 
 -- ── the tail ──
 
-record Tailed (at u : ℕ) (us : List ℕ) (p : Parts) : Type 0 where
-  ends : whole 0 us ≡ true
-  others : Parts
-  tailed : tail (suc at) us ≡ ok others
-  is : before true (cluster 1 1) fontGlyph others ≡ p
-
-tail-ok : (at u : ℕ) (us : List ℕ) (p : Parts) → tail at (u ∷ us) ≡ ok p → Tailed at u us p
-unfolding tail
-tail-ok at u us p h =
-    let (t, b) = need-ok (whole 0 us) 13 (suc at) _ p h in
-    let (q, c, d) = bind-ok (tail (suc at) us) _ p b in
-    record { ends = t; others = q; tailed = c; is = ok-path _ p d }
-
-tail-nil : (at : ℕ) (p : Parts) → tail at [] ≡ ok p → parts [] [] ≡ p
-unfolding tail
-tail-nil at p h = ok-path (parts [] []) p h
-
 fits-end : (bare : Bool) → fits bare 0 [] [] [] ≡ true
 unfolding fits
 fits-end bare = refl
@@ -132,26 +115,31 @@ fits-further-is : (bare : Bool) (n : ℕ) (us : List ℕ) (cs : List Cluster) (g
 unfolding fits
 fits-further-is bare n us cs g gs a b c = rw (a, b, c)
 
-fits-open-is : (bare : Bool) (us : List ℕ) (c : Cluster) (cs : List Cluster) (g : Glyph) (gs : List Glyph) → glyphFits g ≡ true → mayOpen bare us c g ≡ true
+fits-open-is : (bare : Bool) (us : List ℕ) (c : Cluster) (cs : List Cluster) (g : Glyph) (gs : List Glyph) → glyphFits g ≡ true → mayOpen bare us c g gs ≡ true
     → fits bare (c .glyphs - 1) (drop (c .units) us) cs gs ≡ true → fits bare 0 us (c ∷ cs) (g ∷ gs) ≡ true
 unfolding fits
 fits-open-is bare us c cs g gs a b d = rw (a, b, d)
 
-tail-fits : (us : List ℕ) (at : ℕ) (p : Parts) → tail at us ≡ ok p → fits false 0 us (p .clusters) (p .glyphs) ≡ true
-tail-fits [] at p h = rw (← tail-nil at p h) (fits-end false)
-tail-fits (u ∷ us) at p h =
-    let x : Tailed at u us p = tail-ok at u us p h in
-    let o : mayOpen false (u ∷ us) (cluster 1 1) fontGlyph ≡ true = rw (le-leb 1 (suc (length us)) (omega arith), x .ends) in
-    subst (λ (q : Parts). fits false 0 (u ∷ us) (q .clusters) (q .glyphs) ≡ true) (x .is)
-    (fits-open-is false (u ∷ us) (cluster 1 1) (x .others .clusters) fontGlyph (x .others .glyphs) refl o (tail-fits us (suc at) (x .others) (x .tailed)))
+tail-fits : (us : List ℕ) → properUnits false us ≡ true → fits false 0 us (tail us .clusters) (tail us .glyphs) ≡ true
+unfolding tail allFont
+tail-fits [] h = fits-end false
+tail-fits (u ∷ []) h = fits-open-is false (u ∷ []) (cluster 1 1) [] fontGlyph [] refl refl (fits-end false)
+tail-fits (u ∷ v ∷ us) h =
+    cases (isPair (u ∷ v ∷ us))
+    (λ p. let w : whole 2 (u ∷ v ∷ us) ≡ true = pair-whole (u ∷ v ∷ us) h p in
+    let o : mayOpen false (u ∷ v ∷ us) (cluster 2 1) fontGlyph (tail us .glyphs) ≡ true = rw (le-leb 2 (suc (suc (length us))) (omega arith), w, p, tail-font us) in
+    rw p (fits-open-is false (u ∷ v ∷ us) (cluster 2 1) (tail us .clusters) fontGlyph (tail us .glyphs) refl o (tail-fits us (proper-behind (u ∷ v ∷ us) 2 h w))))
+    (λ p. let w : whole 1 (u ∷ v ∷ us) ≡ true = plain-whole (u ∷ v ∷ us) h p in
+    let o : mayOpen false (u ∷ v ∷ us) (cluster 1 1) fontGlyph (tail (v ∷ us) .glyphs) ≡ true = rw (le-leb 1 (suc (suc (length us))) (omega arith), w) in
+    rw p (fits-open-is false (u ∷ v ∷ us) (cluster 1 1) (tail (v ∷ us) .clusters) fontGlyph (tail (v ∷ us) .glyphs) refl o (tail-fits (v ∷ us) (proper-behind (u ∷ v ∷ us) 1 h w))))
 
 -- ── the walk ──
 
-walk-end : (bare : Bool) (k at : ℕ) (us : List ℕ) (lack opener : ℕ) (p : Parts) → walk bare (state k at us lack opener) [] ≡ ok p → (lack ≡ 0) × (tail at us ≡ ok p)
+walk-end : (bare : Bool) (k at : ℕ) (us : List ℕ) (lack opener : ℕ) (p : Parts) → walk bare (state k at us lack opener) [] ≡ ok p → (lack ≡ 0) × (tail us ≡ p)
 unfolding walk
 walk-end bare k at us lack opener p h =
     let (t, b) = need-ok (eqb lack 0) 14 opener _ p h in
-    (eqb-true lack 0 t, b)
+    (eqb-true lack 0 t, ok-path (tail us) p b)
 
 next-further : (bare : Bool) (k at : ℕ) (us : List ℕ) (n opener : ℕ) (e : Entry) → next bare (state k at us (suc n) opener) e ≡ state (suc k) (at + 0) us n opener
 next-further bare k at us n opener e = let d : suc n - 1 ≡ n = omega arith in rw (eqb·suc-zero n, d)
@@ -160,43 +148,39 @@ or-false : (b : Bool) → (false || b) ≡ true → b ≡ true
 or-false b h = h
 
 -- a cluster that was opened may open
-may-bare-is : (us : List ℕ) (e : Entry) → EntryFacts e → (not (e .mapped) && named (e .glyph .index)) ≡ true → mayOpen true us (cluster 0 (e .glyphs)) (e .glyph) ≡ true
-may-bare-is us e f h =
+may-bare-is : (us : List ℕ) (e : Entry) (gs : List Glyph) → EntryFacts e → (not (e .mapped) && named (e .glyph .index)) ≡ true
+    → mayOpen true us (cluster 0 (e .glyphs)) (e .glyph) gs ≡ true
+may-bare-is us e gs f h =
     let m : e .mapped ≡ false = not-true (e .mapped) (and-l (not (e .mapped)) (named (e .glyph .index)) h) in
     let n : named (e .glyph .index) ≡ true = and-r (not (e .mapped)) (named (e .glyph .index)) h in
     rw (eq-eqb (e .glyphs) 1 (f .no-map m .1), n)
 
-may-open-is : (us : List ℕ) (e : Entry) → EntryFacts e → (leb 1 (e .units) && leb 1 (e .glyphs)) ≡ true → leb (e .units) (length us) ≡ true → whole (e .units) us ≡ true
-    → mayOpen false us (cluster (e .units) (e .glyphs)) (e .glyph) ≡ true
-may-open-is us e f h10 h12 h13 =
+may-open-is : (us : List ℕ) (e : Entry) (gs : List Glyph) → EntryFacts e → (leb 1 (e .units) && leb 1 (e .glyphs)) ≡ true → leb (e .units) (length us) ≡ true
+    → whole (e .units) us ≡ true → mayOpen false us (cluster (e .units) (e .glyphs)) (e .glyph) gs ≡ true
+may-open-is us e gs f h10 h12 h13 =
     let n : (named (e .glyph .index) || (eqb (e .units) 1 && eqb (e .glyphs) 1)) ≡ true =
     cases (e .mapped)
     (λ m. rw (f .map-named m))
     (λ m. rw (eq-eqb (e .units) 1 (f .no-map m .0), eq-eqb (e .glyphs) 1 (f .no-map m .1)) (or-true (named (e .glyph .index)))) in
     rw (and-l (leb 1 (e .units)) (leb 1 (e .glyphs)) h10, and-r (leb 1 (e .units)) (leb 1 (e .glyphs)) h10, h12, h13, n)
-  where
-    or-true : (a : Bool) → (a || true) ≡ true
-    or-true true = refl
-    or-true false = refl
 
-pub walk-fits : (ss : List (List ℕ)) (bare : Bool) (k at : ℕ) (us : List ℕ) (lack opener : ℕ) (p : Parts) → (bare ≡ true → us ≡ [])
+pub walk-fits : (ss : List (List ℕ)) (bare : Bool) (k at : ℕ) (us : List ℕ) (lack opener : ℕ) (p : Parts) → (bare ≡ true → us ≡ []) → properUnits false us ≡ true
     → walk bare (state k at us lack opener) ss ≡ ok p → fits bare lack us (p .clusters) (p .glyphs) ≡ true
-walk-fits [] true k at us lack opener p b h =
+walk-fits [] true k at us lack opener p b q h =
     let (l, t) = walk-end true k at us lack opener p h in
-    let n : parts [] [] ≡ p = tail-nil at p (rw (b refl) at t) in
-    rw (l, b refl, ← n) (fits-end true)
-walk-fits [] false k at us lack opener p b h =
+    rw (l, b refl, ← t, b refl, tail-nil) (fits-end true)
+walk-fits [] false k at us lack opener p b q h =
     let (l, t) = walk-end false k at us lack opener p h in
-    rw l (tail-fits us at p t)
-walk-fits (s ∷ ss) bare k at us (suc n) opener p b h =
+    rw (l, ← t) (tail-fits us q)
+walk-fits (s ∷ ss) bare k at us (suc n) opener p b q h =
     let x : Walked bare (state k at us (suc n) opener) s ss p = walk-ok bare (state k at us (suc n) opener) s ss p h in
     let y : Stepped bare (state k at us (suc n) opener) s (x .first) = step-ok bare (state k at us (suc n) opener) s (x .first) (x .stepped) in
     let f : EntryFacts (x .first) = entry-facts k s (x .first) (y .is) in
     let w : walk bare (state (suc k) (at + 0) us n opener) ss ≡ ok (x .others) =
     subst (λ (st : State). walk bare st ss ≡ ok (x .others)) (next-further bare k at us n opener (x .first)) (x .walked) in
-    let r : fits bare n us (x .others .clusters) (x .others .glyphs) ≡ true = walk-fits ss bare (suc k) (at + 0) us n opener (x .others) b w in
+    let r : fits bare n us (x .others .clusters) (x .others .glyphs) ≡ true = walk-fits ss bare (suc k) (at + 0) us n opener (x .others) b q w in
     let a : (not (x .first .mapped) && named (x .first .glyph .index)) ≡ true = or-false (not (x .first .mapped) && named (x .first .glyph .index)) (further-allowed bare k at us n opener (x .first) (y .eleven)) in
-    subst (λ (q : Parts). fits bare (suc n) us (q .clusters) (q .glyphs) ≡ true)
+    subst (λ (r : Parts). fits bare (suc n) us (r .clusters) (r .glyphs) ≡ true)
     (further-is n (cluster (takes bare (state k at us (suc n) opener) (x .first)) (x .first .glyphs)) (x .first .glyph) (x .others) ∙ x .is)
     (fits-further-is bare n us (x .others .clusters) (x .first .glyph) (x .others .glyphs) (f .small) (and-r (not (x .first .mapped)) (named (x .first .glyph .index)) a) r)
   where
@@ -206,37 +190,31 @@ walk-fits (s ∷ ss) bare k at us (suc n) opener p b h =
 
     further-is : (n : ℕ) (c : Cluster) (g : Glyph) (q : Parts) → parts (q .clusters) (g ∷ q .glyphs) ≡ before (eqb (suc n) 0) c g q
     further-is n c g q = rw (eqb·suc-zero n)
-walk-fits (s ∷ ss) true k at us zero opener p b h =
+walk-fits (s ∷ ss) true k at us zero opener p b q h =
     let st = state k at us 0 opener in
     let x : Walked true st s ss p = walk-ok true st s ss p h in
     let y : Stepped true st s (x .first) = step-ok true st s (x .first) (x .stepped) in
     let f : EntryFacts (x .first) = entry-facts k s (x .first) (y .is) in
     let r : fits true (x .first .glyphs - 1) us (x .others .clusters) (x .others .glyphs) ≡ true =
-    walk-fits ss true (suc k) (at + 0) us (x .first .glyphs - 1) k (x .others) b (x .walked) in
-    subst (λ (q : Parts). fits true 0 us (q .clusters) (q .glyphs) ≡ true) (x .is)
-    (fits-open-is true us (cluster 0 (x .first .glyphs)) (x .others .clusters) (x .first .glyph) (x .others .glyphs) (f .small) (may-bare-is us (x .first) f (y .eleven)) r)
-walk-fits (s ∷ ss) false k at us zero opener p b h =
+    walk-fits ss true (suc k) (at + 0) us (x .first .glyphs - 1) k (x .others) b q (x .walked) in
+    subst (λ (r : Parts). fits true 0 us (r .clusters) (r .glyphs) ≡ true) (x .is)
+    (fits-open-is true us (cluster 0 (x .first .glyphs)) (x .others .clusters) (x .first .glyph) (x .others .glyphs) (f .small) (may-bare-is us (x .first) (x .others .glyphs) f (y .eleven)) r)
+walk-fits (s ∷ ss) false k at us zero opener p b q h =
     let st = state k at us 0 opener in
     let x : Walked false st s ss p = walk-ok false st s ss p h in
     let y : Stepped false st s (x .first) = step-ok false st s (x .first) (x .stepped) in
     let f : EntryFacts (x .first) = entry-facts k s (x .first) (y .is) in
     let r : fits false (x .first .glyphs - 1) (drop (x .first .units) us) (x .others .clusters) (x .others .glyphs) ≡ true =
-    walk-fits ss false (suc k) (at + x .first .units) (drop (x .first .units) us) (x .first .glyphs - 1) k (x .others) (λ z. clash false z refl) (x .walked) in
-    subst (λ (q : Parts). fits false 0 us (q .clusters) (q .glyphs) ≡ true) (x .is)
+    walk-fits ss false (suc k) (at + x .first .units) (drop (x .first .units) us) (x .first .glyphs - 1) k (x .others) (λ z. clash false z refl) (proper-behind us (x .first .units) q (y .thirteen)) (x .walked) in
+    subst (λ (r : Parts). fits false 0 us (r .clusters) (r .glyphs) ≡ true) (x .is)
     (fits-open-is false us (cluster (x .first .units) (x .first .glyphs)) (x .others .clusters) (x .first .glyph) (x .others .glyphs) (f .small)
-    (may-open-is us (x .first) f (y .ten) (y .twelve) (y .thirteen)) r)
+    (may-open-is us (x .first) (x .others .glyphs) f (y .ten) (y .twelve) (y .thirteen)) r)
 
 -- ── the text ──
 
 proper-one : (c : ℕ) (us : List ℕ) → c ≤ 65535 → xmlChar c ≡ true → properUnits false us ≡ true → properUnits false (c ∷ us) ≡ true
 unfolding properUnits
-proper-one c us l x h =
-    let n : isHigh c ≡ false = ⊎-elim (λ k. rw (lt-leb 55296 c (omega arith))) (λ k. rw (lt-leb c 56319 (omega (arith, k .0))) (and-no (leb 55296 c))) (xml-range c x) in
-    rw (n, le-leb c 65535 l, x) h
-  where
-    and-no : (a : Bool) → (a && false) ≡ false
-    and-no true = refl
-    and-no false = refl
+proper-one c us l x h = rw (xml-not-high c x, le-leb c 65535 l, x) h
 
 proper-pair : (u v : ℕ) (us : List ℕ) → isHigh u ≡ true → isLow v ≡ true → properUnits false us ≡ true → properUnits false (u ∷ v ∷ us) ≡ true
 unfolding properUnits
@@ -247,12 +225,8 @@ unfolding unitsOf
 proper-char c us x h =
     cases (leb c 65535)
     (λ t. rw t (proper-one c us (leb-true c 65535 t) x h))
-    (λ t. let g : 65535 < c = leb-false c 65535 t in
-    let m : c ≤ 1114111 = ⊎-elim (λ k. omega arith) (λ k. k .1) (xml-range c x) in
-    rw t
-    (proper-pair (55296 + (c - 65536) / 1024) (56320 + (c - 65536) % 1024) us
-    (within-is 55296 56319 (55296 + (c - 65536) / 1024) (omega arith) (omega arith))
-    (within-is 56320 57343 (56320 + (c - 65536) % 1024) (omega arith) (omega arith)) h))
+    (λ t. let (i, j) = xml-halves c x (leb-false c 65535 t) in
+    rw t (proper-pair (55296 + (c - 65536) / 1024) (56320 + (c - 65536) % 1024) us i j h))
 
 pub decode-proper : (s : List ℕ) (skip at : ℕ) (us : List ℕ) → decode skip at s ≡ ok us → properUnits false us ≡ true
 unfolding decode
@@ -355,7 +329,7 @@ read-sound text indices r h =
     let us = x .us in
     let p : properUnits false us ≡ true = text-proper text us (x .text-is) in
     let f : fits (empty us) 0 us (x .made .clusters) (x .made .glyphs) ≡ true =
-    walk-fits (entries indices) (empty us) 0 0 us 0 0 (x .made) (λ e. empty-nil us e) (x .walked) in
+    walk-fits (entries indices) (empty us) 0 0 us 0 0 (x .made) (λ e. empty-nil us e) p (x .walked) in
     let n : not (empty us && empty (x .made .glyphs)) ≡ true =
     cases (empty us)
     (λ e. let i : empty indices ≡ false = nand (empty us) (empty indices) (x .sixth) e in

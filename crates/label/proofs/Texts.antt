@@ -1,17 +1,17 @@
 -- The text that the writer makes is decoded to its units.
 -- Assumes nothing.
-use Prim.Native.Nat.{ℕ, suc, _+_, _*_, _-_, _/_, _%_, _≤_, _<_}
+use Prim.Native.Nat.{ℕ, zero, suc, _+_, _*_, _-_, _/_, _%_, _≤_, _<_}
 use native.Mathlib.Omega.{arith}
 use native.Mathlib.Nat.{div-div-eq-div-mul}
 use mathlib.Core.Path.{_≡_, refl, _∙_, ap}
 use mathlib.Core.Logic.{_⊎_, inl, inr, ⊎-elim}
 use mathlib.Core.Bool.{Bool, true, false, not, _&&_, _||_, and-false}
 use mathlib.Core.List.{List, [], _∷_, _++_}
-use borrow.Author.Tests.{ltb-true, ltb-false, le-leb, lt-leb, leb-true, leb-false, eqb-true}
+use borrow.Author.Tests.{not-true, ltb-true, ltb-false, le-leb, lt-leb, leb-true, leb-false, eqb-true}
 use lib.Dec.{eqb, ltb, leb}
-use lib.ListN.{length, getD, length-append}
+use lib.ListN.{length, getD, drop, length-append}
 use Rattle.label.specs.Outcome.{ok}
-use Rattle.label.specs.Text.{within, row, lead, trail, starts, scalar, xmlChar, isHigh, isLow, unitsOf, decode, braced, marked, unmarked}
+use Rattle.label.specs.Text.{within, row, lead, trail, starts, scalar, xmlChar, isHigh, isLow, isPair, unitsOf, decode, braced, marked, unmarked}
 use Rattle.label.specs.Write.{utf8, paired, unitBytes, unitsBytes, textOf}
 use Rattle.label.specs.Sound.{properUnits}
 use Rattle.label.proofs.Basics.{and-l, and-r, clash, cases}
@@ -214,6 +214,17 @@ pair-xml u v h k =
     or-true true = refl
     or-true false = refl
 
+-- an XML character is no high half and no low half; above U+FFFF its two units are one of each
+pub xml-not-high : (u : ℕ) → xmlChar u ≡ true → isHigh u ≡ false
+xml-not-high u h = ⊎-elim (λ k. rw (lt-leb 55296 u (omega arith))) (λ k. above-range 55296 56319 u (omega (arith, k .0))) (xml-range u h)
+
+pub xml-halves : (c : ℕ) → xmlChar c ≡ true → 65535 < c → (isHigh (55296 + (c - 65536) / 1024) ≡ true) × (isLow (56320 + (c - 65536) % 1024) ≡ true)
+xml-halves c x g =
+    let m : c ≤ 1114111 = ⊎-elim (λ k. omega arith) (λ k. k .1) (xml-range c x) in (
+      within-is 55296 56319 (55296 + (c - 65536) / 1024) (omega arith) (omega arith),
+      within-is 56320 57343 (56320 + (c - 65536) % 1024) (omega arith) (omega arith),
+    )
+
 xml-not-low : (u : ℕ) → xmlChar u ≡ true → isLow u ≡ false
 xml-not-low u h =
     ⊎-elim
@@ -359,3 +370,33 @@ proper-first (u ∷ us) h =
     (λ k. rw (high-not-low u k))
     (λ k. rw (xml-not-low u (and-r (leb u 65535) (xmlChar u) k)))
     (or-cases (isHigh u) (leb u 65535 && xmlChar u) a)
+
+-- units behind whole pairs are proper too
+pub proper-behind : (us : List ℕ) (a : ℕ) → properUnits false us ≡ true → not (isLow (getD us a 0)) ≡ true → properUnits false (drop a us) ≡ true
+proper-behind us zero h w = h
+proper-behind [] (suc a) h w = h
+proper-behind (u ∷ []) (suc zero) h w = unfold properUnits in refl
+proper-behind (u ∷ []) (suc (suc a)) h w = unfold properUnits in refl
+proper-behind (u ∷ v ∷ us) (suc zero) h w =
+    let p : properUnits (isHigh u) (v ∷ us) ≡ true = proper-false u (v ∷ us) h .1 in
+    cases (isHigh u) (λ t. clash (isLow v) (proper-true v us (rw t at p) .0) (not-true (isLow v) w)) (λ t. rw t at p)
+proper-behind (u ∷ v ∷ us) (suc (suc a)) h w =
+    let p : properUnits (isHigh u) (v ∷ us) ≡ true = proper-false u (v ∷ us) h .1 in
+    cases (isHigh u) (λ t. proper-behind us a (proper-true v us (rw t at p) .1) w) (λ t. proper-behind (v ∷ us) (suc a) (rw t at p) w)
+
+-- behind a pair, and behind a unit that begins none, no low half follows
+pub pair-whole : (us : List ℕ) → properUnits false us ≡ true → isPair us ≡ true → not (isLow (getD us 2 0)) ≡ true
+pair-whole [] h p = clash false p refl
+pair-whole (u ∷ []) h p = clash false (and-r (isHigh u) false p) refl
+pair-whole (u ∷ v ∷ us) h p =
+    let q : properUnits true (v ∷ us) ≡ true = rw (and-l (isHigh u) (isLow v) p) at (proper-false u (v ∷ us) h .1) in
+    proper-first us (proper-true v us q .1)
+
+pub plain-whole : (us : List ℕ) → properUnits false us ≡ true → isPair us ≡ false → not (isLow (getD us 1 0)) ≡ true
+plain-whole [] h p = refl
+plain-whole (u ∷ []) h p = refl
+plain-whole (u ∷ v ∷ us) h p =
+    let q : properUnits (isHigh u) (v ∷ us) ≡ true = proper-false u (v ∷ us) h .1 in
+    cases (isHigh u)
+    (λ t. let l : isLow v ≡ true = proper-true v us (rw t at q) .0 in clash (isHigh u && isLow v) (rw (t, l)) p)
+    (λ t. proper-first (v ∷ us) (rw t at q))

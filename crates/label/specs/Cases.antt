@@ -12,8 +12,8 @@ use Rattle.label.specs.Bytes.{ascii, begins, split, cut, allDigits, valu
 use Rattle.label.specs.Text.{lead, trail, starts, scalar, xmlChar, unitsOf, decode, textUnits}
 use Rattle.label.specs.Entry.{unsigned, isDecimals, isNumber, mantissaDigits, fractionDigits, exponentDigits, nearest, scaled, thousandths, numberFits, isIndexPart, indexDigits, mapUnits, mapGlyphs, isAdvance, isOffset, wellFormed, fieldFits, indexOf, advanceOf, offsetOf, entryOf, entry, entries}
 use Rattle.label.specs.Rounded.{isWhole, isExact, roundedField, roundedEntry, roundedEntries, rounded, beside}
-use Rattle.label.specs.Run.{tail, placed, step, walk, runFrom, read}
-use Rattle.label.specs.Sound.{wholeClusters, wholeGlyphs, clustersOf, glyphsOf, properUnits, fits, soundRun, sound, flatClusters, flatGlyphs}
+use Rattle.label.specs.Run.{fontGlyph, tail, placed, step, walk, runFrom, read}
+use Rattle.label.specs.Sound.{wholeClusters, wholeGlyphs, clustersOf, glyphsOf, properUnits, allFont, fits, soundRun, sound, flatClusters, flatGlyphs}
 use Rattle.label.specs.Write.{utf8, unitBytes, unitsBytes, textOf, fraction, valueBytes, advanceBytes, offsetBytes, mapBytes, indexBytes, entryBytes, written, indicesOf, Label, write}
 use Rattle.label.specs.Pick.{stretch, holding, touched, turned, pickUnits, pickGlyphs}
 use Rattle.label.specs.Fault.{startOf, portion, faultPart}
@@ -43,6 +43,13 @@ plain n zs = pos n ∷ negsuc 0 ∷ pos 0 ∷ pos 0 ∷ zs
 
 abbrev font : List ℤ → List ℤ
 font zs = negsuc 0 ∷ negsuc 0 ∷ pos 0 ∷ pos 0 ∷ zs
+
+-- U+1F600: its units, and its bytes
+abbrev pair : List ℕ
+pair = 0xd83d ∷ 0xde00 ∷ []
+
+abbrev grin : List ℕ
+grin = 0xf0 ∷ 0x9f ∷ 0x98 ∷ 0x80 ∷ []
 
 -- units ABCD in clusters 1:1, 2:3, 1:1
 abbrev four : Places
@@ -74,15 +81,33 @@ writings =
     -- 0:1 among units, and without any; nothing at all
     writes (places (ascii "A") (pos 0 ∷ pos 1 ∷ pos 1 ∷ pos 1 ∷ []) (plain 5 (plain 6 []))) (no 19 0) ∷
     writes (places [] (pos 0 ∷ pos 1 ∷ []) (plain 5 [])) (label [] (ascii "5")) ∷
+    writes (places [] (pos 0 ∷ pos 1 ∷ []) (font [])) (no 19 0) ∷
     writes (places [] [] []) (no 19 0) ∷
-    -- a font's index in a cluster 2:1, inside a cluster, and in a cluster 1:1 with an advance
+    -- a font's index in a cluster 2:1 over two plain units, opening and inside a cluster 1:2, and in a cluster 1:1 with an advance
     writes (places (ascii "AB") (pos 2 ∷ pos 1 ∷ []) (font [])) (no 19 0) ∷
+    writes (places (ascii "A") (pos 1 ∷ pos 2 ∷ []) (font (plain 5 []))) (no 19 0) ∷
     writes (places (ascii "A") (pos 1 ∷ pos 2 ∷ []) (plain 5 (font []))) (no 19 0) ∷
     writes (places (ascii "A") (pos 1 ∷ pos 1 ∷ []) (negsuc 0 ∷ pos 0 ∷ pos 0 ∷ pos 0 ∷ [])) (label (ascii "A") (ascii ",0")) ∷
     -- a lone half, a pair that a cluster splits, a pair
     writes (places (0xd83d ∷ []) (pos 1 ∷ pos 1 ∷ []) (plain 5 [])) (no 19 0) ∷
-    writes (places (0xd83d ∷ 0xde00 ∷ []) (pos 1 ∷ pos 1 ∷ pos 1 ∷ pos 1 ∷ []) (plain 5 (plain 6 []))) (no 19 0) ∷
-    writes (places (0xd83d ∷ 0xde00 ∷ []) (pos 2 ∷ pos 1 ∷ []) (plain 5 [])) (label (0xf0 ∷ 0x9f ∷ 0x98 ∷ 0x80 ∷ []) (ascii "(2)5")) ∷
+    writes (places pair (pos 1 ∷ pos 1 ∷ pos 1 ∷ pos 1 ∷ []) (plain 5 (plain 6 []))) (no 19 0) ∷
+    writes (places pair (pos 2 ∷ pos 1 ∷ []) (plain 5 [])) (label grin (ascii "(2)5")) ∷
+    -- a pair of the tail: alone, behind a named glyph, before other clusters wholly the font's
+    writes (places pair (pos 2 ∷ pos 1 ∷ []) (font [])) (label grin []) ∷
+    writes (places (65 ∷ pair) (pos 1 ∷ pos 1 ∷ pos 2 ∷ pos 1 ∷ []) (plain 5 (font []))) (label (65 ∷ grin) (ascii "5")) ∷
+    writes (places (pair ++ (65 ∷ pair)) (pos 2 ∷ pos 1 ∷ pos 1 ∷ pos 1 ∷ pos 2 ∷ pos 1 ∷ []) (font (font (font [])))) (label (grin ++ (65 ∷ grin)) []) ∷
+    -- it is not sound before a named glyph, right behind it or not, before an advance or an offset, with an advance or an offset of its own
+    writes (places (pair ++ (65 ∷ [])) (pos 2 ∷ pos 1 ∷ pos 1 ∷ pos 1 ∷ []) (font (plain 5 []))) (no 19 0) ∷
+    writes (places (pair ++ (65 ∷ 66 ∷ [])) (pos 2 ∷ pos 1 ∷ pos 1 ∷ pos 1 ∷ pos 1 ∷ pos 1 ∷ []) (font (plain 5 (font [])))) (no 19 0) ∷
+    writes (places (pair ++ (65 ∷ [])) (pos 2 ∷ pos 1 ∷ pos 1 ∷ pos 1 ∷ []) (font (negsuc 0 ∷ pos 7 ∷ pos 0 ∷ pos 0 ∷ []))) (no 19 0) ∷
+    writes (places (pair ++ (65 ∷ 66 ∷ [])) (pos 2 ∷ pos 1 ∷ pos 1 ∷ pos 1 ∷ pos 1 ∷ pos 1 ∷ []) (font (font (negsuc 0 ∷ negsuc 0 ∷ pos 0 ∷ negsuc 0 ∷ [])))) (no 19 0) ∷
+    writes (places pair (pos 2 ∷ pos 1 ∷ []) (negsuc 0 ∷ pos 0 ∷ pos 0 ∷ pos 0 ∷ [])) (no 19 0) ∷
+    writes (places pair (pos 2 ∷ pos 1 ∷ []) (negsuc 0 ∷ negsuc 0 ∷ pos 1 ∷ pos 0 ∷ [])) (no 19 0) ∷
+    -- nor are clusters wholly the font's of other counts: 2:2, 3:1, 4:1 over two pairs, 1:1 at a pair
+    writes (places pair (pos 2 ∷ pos 2 ∷ []) (font (font []))) (no 19 0) ∷
+    writes (places (65 ∷ pair) (pos 3 ∷ pos 1 ∷ []) (font [])) (no 19 0) ∷
+    writes (places (pair ++ pair) (pos 4 ∷ pos 1 ∷ []) (font [])) (no 19 0) ∷
+    writes (places pair (pos 1 ∷ pos 1 ∷ pos 1 ∷ pos 1 ∷ []) (font (font []))) (no 19 0) ∷
     -- half a cluster, units left over, glyphs left over
     writes (places (ascii "A") (pos 1 ∷ pos 1 ∷ pos 1 ∷ []) (plain 5 [])) (no 19 0) ∷
     writes (places (ascii "AB") (pos 1 ∷ pos 1 ∷ []) (plain 5 [])) (no 19 0) ∷
@@ -145,20 +170,25 @@ pub calls-agree : (map (λ (w : Writes). write (w .run .units) (w .run .clusters
     × (map (λ (p : Picked). pickUnits (four .units) (four .clusters) (four .glyphs) (p .first) (p .end)) picks ≡ map (λ (p : Picked). p .units) picks)
     × (map (λ (p : Picked). pickGlyphs (four .units) (four .clusters) (four .glyphs) (p .first) (p .end)) picks ≡ map (λ (p : Picked). p .glyphs) picks)
     × (map (λ (s : Shown). faultPart (ascii "{a") (ascii "(1:2)5;") (s .number) (s .place)) faults ≡ map (λ (s : Shown). s .part) faults)
-unfolding writings picks faults ascii wholeClusters wholeGlyphs clustersOf glyphsOf properUnits fits soundRun sound xmlChar split join joinRest trim decimalFrom decimal utf8 unitBytes unitsBytes textOf fraction valueBytes advanceBytes offsetBytes mapBytes indexBytes entryBytes written indicesOf write holding touched turned pickUnits pickGlyphs startOf faultPart entries
+unfolding writings picks faults ascii wholeClusters wholeGlyphs clustersOf glyphsOf properUnits allFont fits soundRun sound xmlChar split join joinRest trim decimalFrom decimal utf8 unitBytes unitsBytes textOf fraction valueBytes advanceBytes offsetBytes mapBytes indexBytes entryBytes written indicesOf write holding touched turned pickUnits pickGlyphs startOf faultPart entries
 calls-agree = (refl, refl, refl, refl)
 
 -- an unsound run is 19 even where the stretch is bad; without units a good stretch gives 0 to 0
 pub edge-picks : (pickUnits (ascii "A") [] [] 1 1 ≡ no 19 0) × (pickUnits [] (pos 0 ∷ pos 1 ∷ []) (plain 5 []) 0 1 ≡ ok (stretch 0 0))
     × (pickGlyphs [] (pos 0 ∷ pos 1 ∷ []) (plain 5 []) 0 1 ≡ no 22 0)
-unfolding ascii wholeClusters wholeGlyphs clustersOf glyphsOf properUnits fits soundRun sound xmlChar holding touched turned pickUnits pickGlyphs
-edge-picks = (refl, refl, refl)
+    -- a pair of the tail is picked whole
+    × (pickUnits (65 ∷ pair) (pos 1 ∷ pos 1 ∷ pos 2 ∷ pos 1 ∷ []) (plain 5 (font [])) 1 2 ≡ ok (stretch 1 3))
+    × (pickGlyphs (65 ∷ pair) (pos 1 ∷ pos 1 ∷ pos 2 ∷ pos 1 ∷ []) (plain 5 (font [])) 2 3 ≡ ok (stretch 1 2))
+unfolding ascii wholeClusters wholeGlyphs clustersOf glyphsOf properUnits allFont fits soundRun sound xmlChar holding touched turned pickUnits pickGlyphs
+edge-picks = (refl, refl, refl, refl, refl)
 
 -- the list of records: 19, then 18 with the glyphs needed, then the count
 pub listings : (filledCount (listInto 5 (four .units) (four .clusters) (four .glyphs)) ≡ ok 5) × (filledCount (listInto 4 (four .units) (four .clusters) (four .glyphs)) ≡ no 18 5)
     × (filledCount (listInto 0 (ascii "A") [] []) ≡ no 19 0)
-unfolding ascii wholeClusters wholeGlyphs clustersOf glyphsOf properUnits fits soundRun sound xmlChar listInto
-listings = (refl, refl, refl)
+    -- a pair of the tail has one record; before a named glyph it is 19
+    × (listInto 1 pair (pos 2 ∷ pos 1 ∷ []) (font []) ≡ ok (fontGlyph ∷ [])) × (filledCount (listInto 2 (pair ++ (65 ∷ [])) (pos 2 ∷ pos 1 ∷ pos 1 ∷ pos 1 ∷ []) (font (plain 5 []))) ≡ no 19 0)
+unfolding ascii wholeClusters wholeGlyphs clustersOf glyphsOf properUnits allFont fits soundRun sound xmlChar listInto
+listings = (refl, refl, refl, refl, refl)
 
 -- the label `A` with `5,,-1` into bytes: a byte too few is 16, 17 or 18; bytes left over and bytes behind stay
 pub byte-readings : (counted (readBytes 1 8 16 (ascii "A") (ascii "5,,-1")) ≡ no 16 1) × (counted (readBytes 2 7 16 (ascii "A") (ascii "5,,-1")) ≡ no 17 1)
@@ -169,6 +199,20 @@ pub byte-readings : (counted (readBytes 1 8 16 (ascii "A") (ascii "5,,-1")) ≡ 
     × (glyphBytesAfter (readBytes 3 8 17 (ascii "A") (ascii "5,,-1")) (replicate 17 7) ≡ 5 ∷ 0 ∷ 0 ∷ 0 ∷ 255 ∷ 255 ∷ 255 ∷ 255 ∷ 24 ∷ 252 ∷ 255 ∷ 255 ∷ 0 ∷ 0 ∷ 0 ∷ 0 ∷ 7 ∷ [])
 unfolding ascii split cut allDigits valueFrom joinRest join trim decimalFrom decimal lead trail starts scalar xmlChar unitsOf decode textUnits unsigned isDecimals isNumber mantissaDigits fractionDigits exponentDigits nearest scaled thousandths numberFits isIndexPart indexDigits mapUnits mapGlyphs isAdvance isOffset wellFormed fieldFits indexOf advanceOf offsetOf entryOf entry entries tail placed step walk runFrom read readInto readBytes flatClusters flatGlyphs fromHalves fromWords
 byte-readings = (refl, refl, refl, refl, refl, refl, refl)
+
+-- U+1F600 left to the font, into bytes: 2 units, 1 cluster, 1 glyph
+pub byte-tails : (counted (readBytes 4 8 16 grin []) ≡ ok (record { units = 2; clusters = 1; glyphs = 1 })) × (counted (readBytes 3 8 16 grin []) ≡ no 16 2)
+    × (counted (readBytes 4 7 16 grin []) ≡ no 17 1) × (counted (readBytes 4 8 15 grin []) ≡ no 18 1)
+    × (clusterBytesAfter (readBytes 4 9 17 grin []) (replicate 9 7) ≡ 2 ∷ 0 ∷ 0 ∷ 0 ∷ 1 ∷ 0 ∷ 0 ∷ 0 ∷ 7 ∷ [])
+    × (glyphBytesAfter (readBytes 4 9 17 grin []) (replicate 17 7) ≡ replicate 8 255 ++ (replicate 8 0 ++ (7 ∷ [])))
+unfolding lead trail starts scalar xmlChar unitsOf decode textUnits entries tail walk runFrom read readInto readBytes flatClusters flatGlyphs fromHalves fromWords
+byte-tails = (refl, refl, refl, refl, refl, refl)
+
+-- 15 counts a pair of the tail once
+pub tail-limit : (counted (readInto 4096 9_999 20_000 (replicate 4094 65 ++ grin) (ascii "(1:2)5;6")) ≡ ok (record { units = 4096; clusters = 4095; glyphs = 4096 }))
+    × (counted (readInto 4096 9_999 20_000 (replicate 4094 65 ++ grin) (ascii "(1:3)5;6;7")) ≡ no 15 0)
+unfolding ascii split cut allDigits valueFrom lead trail starts scalar xmlChar unitsOf decode textUnits unsigned isDecimals isNumber mantissaDigits fractionDigits exponentDigits nearest scaled thousandths numberFits isIndexPart indexDigits mapUnits mapGlyphs isAdvance isOffset wellFormed fieldFits indexOf advanceOf offsetOf entryOf entry entries tail placed step walk runFrom read readInto
+tail-limit = (refl, refl)
 
 -- the count of rounded fields beside `A` with `5,.0005`, "a refusal as 0" for 16, 17 and 18 too
 abbrev finer : List ℕ

@@ -13,7 +13,7 @@ use Rattle.label.specs.Outcome.{Outcome, ok, no}
 use Rattle.label.specs.Bytes.{begins, empty, value}
 use Rattle.label.specs.Text.{lead, starts, scalar, xmlChar, unitsOf, braced, marked, unmarked}
 use Rattle.label.specs.Entry.{part, indexDigits, wellFormed, fieldFits, entryOf, entries}
-use Rattle.label.specs.Run.{Run, Parts, fontGlyph, cluster, before, whole, State, start, opens, takes, allowed, next}
+use Rattle.label.specs.Run.{Run, Parts, cluster, before, whole, tail, State, start, opens, takes, allowed, next}
 use Rattle.label.specs.Sound.{sound, runOf, glyphsOf}
 use Rattle.label.specs.Write.{Label, normal}
 use Rattle.label.specs.Attribute.{isGood, gives, further}
@@ -82,23 +82,14 @@ entryChecks bare st s =
     check (not (whole (takes bare st (entryOf s)) (st .rest))) 13 (st .at + takes bare st (entryOf s)) ∷
     []
 
--- "13 for the tail"
-unfoldable pub tailChecks : ℕ → List ℕ → List Check
-tailChecks at [] = []
-tailChecks at (u ∷ us) = check (not (whole 0 us)) 13 (suc at) ∷ tailChecks (suc at) us
-
--- the entries, "then 14, then 13 for the tail"
+-- the entries, "then 14"; document 02, CR 4: 13 is what "the tail no longer gives"
 unfoldable pub walkChecks : Bool → State → List (List ℕ) → List Check
-walkChecks bare st [] = check (not (opens st)) 14 (st .opener) ∷ tailChecks (st .at) (st .rest)
+walkChecks bare st [] = check (not (opens st)) 14 (st .opener) ∷ []
 walkChecks bare st (s ∷ ss) = entryChecks bare st s ++ walkChecks bare (next bare st (entryOf s)) ss
 
 -- the clusters and glyphs that the entries say, the tail included
-unfoldable pub tailParts : List ℕ → Parts
-tailParts [] = record { clusters = []; glyphs = [] }
-tailParts (u ∷ us) = before true (cluster 1 1) fontGlyph (tailParts us)
-
 unfoldable pub walkParts : Bool → State → List (List ℕ) → Parts
-walkParts bare st [] = tailParts (st .rest)
+walkParts bare st [] = tail (st .rest)
 walkParts bare st (s ∷ ss) =
     before (opens st) (cluster (takes bare st (entryOf s)) (entryOf s .glyphs)) (entryOf s .glyph) (walkParts bare (next bare st (entryOf s)) ss)
 

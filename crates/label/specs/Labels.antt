@@ -1,5 +1,6 @@
--- "Labels to prove and to run": labels 1 to 11 of document 01 in a single theorem over a list of rows, the worked examples of ECMA-388 likewise, the counts
--- of rounded fields, raw attribute values, escaped bytes, sheets, and the example of `relabel`. Each is computed from the definitions.
+-- "Labels to prove and to run": labels 1 to 11 of document 01 in a single theorem over a list of rows, the worked examples of ECMA-388 and labels with pairs
+-- in the tail likewise, the counts of rounded fields, raw attribute values, escaped bytes, sheets, and the example of `relabel`. Each is computed from the
+-- definitions.
 -- Assumes nothing.
 use Prim.Native.Nat.{ℕ}
 use mathlib.Core.Path.{_≡_, refl}
@@ -59,6 +60,13 @@ advanced n a = record { index = Named n; advance = Given a; u = pos 0; v = pos 0
 abbrev one : Cluster
 one = cluster 1 1
 
+-- U+1F600: its bytes, and its units before others
+abbrev grin : List ℕ
+grin = 0xf0 ∷ 0x9f ∷ 0x98 ∷ 0x80 ∷ []
+
+abbrev grins : List ℕ → List ℕ
+grins us = 0xd83d ∷ 0xde00 ∷ us
+
 -- ── document 01, labels 1 to 11 ──
 
 -- a row for each answer that the list names
@@ -95,10 +103,9 @@ documentRows =
     row (ascii "AB") (ascii "(2:2)5") (refused 14 0) ∷
     row (ascii "AB") (ascii "(2:2)5;") (refused 11 1) ∷
     row (ascii "AB") (ascii "(0)5") (refused 10 0) ∷
-    -- 10. U+1F600, nothing: 13, place 1. With `(2)9`: accepted
-    row (0xf0 ∷ 0x9f ∷ 0x98 ∷ 0x80 ∷ []) [] (refused 13 1) ∷
-    row (0xf0 ∷ 0x9f ∷ 0x98 ∷ 0x80 ∷ []) (ascii "(2)9")
-    (reads (0xd83d ∷ 0xde00 ∷ []) (cluster 2 1 ∷ []) (glyph 9 ∷ []) (0xf0 ∷ 0x9f ∷ 0x98 ∷ 0x80 ∷ []) (ascii "(2)9")) ∷
+    -- 10. U+1F600, nothing: document 02, CR 4, accepts it. With `(2)9`: accepted
+    row grin [] (reads (grins []) (cluster 2 1 ∷ []) (fontGlyph ∷ []) grin []) ∷
+    row grin (ascii "(2)9") (reads (grins []) (cluster 2 1 ∷ []) (glyph 9 ∷ []) grin (ascii "(2)9")) ∷
     -- 11. No text, `5;6`: two clusters 0:1
     row [] (ascii "5;6") (reads [] (cluster 0 1 ∷ cluster 0 1 ∷ []) (glyph 5 ∷ glyph 6 ∷ []) [] (ascii "5;6")) ∷
     []
@@ -127,6 +134,42 @@ standardRows =
     row (ascii "fathoms") (ascii ";;;;;(2:1)191")
     (reads (ascii "fathoms") (one ∷ one ∷ one ∷ one ∷ one ∷ cluster 2 1 ∷ []) (fontGlyph ∷ fontGlyph ∷ fontGlyph ∷ fontGlyph ∷ fontGlyph ∷ glyph 191 ∷ [])
     (ascii "fathoms") (ascii ";;;;;(2)191")) ∷
+    []
+
+-- ── document 02, CR 4: pairs in the unwritten tail ──
+
+-- a row for each way that a pair is left to the font, and for each that it is not
+unfoldable pub tailRows : List LabelRow
+tailRows =
+    -- "a pair in the tail is one cluster of 2 units and 1 glyph, wholly the font's": among other units, behind a named pair, behind an
+    -- entry, behind a cluster's further glyph
+    row (ascii "A" ++ (grin ++ ascii "B")) []
+    (reads (65 ∷ grins (66 ∷ [])) (one ∷ cluster 2 1 ∷ one ∷ []) (fontGlyph ∷ fontGlyph ∷ fontGlyph ∷ []) (ascii "A" ++ (grin ++ ascii "B")) []) ∷
+    row (grin ++ grin) (ascii "(2)09")
+    (reads (grins (grins [])) (cluster 2 1 ∷ cluster 2 1 ∷ []) (glyph 9 ∷ fontGlyph ∷ []) (grin ++ grin) (ascii "(2)9")) ∷
+    row (ascii "A" ++ grin) (ascii ",7") (reads (65 ∷ grins []) (one ∷ cluster 2 1 ∷ [])
+    (record { index = Font; advance = Given 7_000; u = pos 0; v = pos 0 } ∷ fontGlyph ∷ []) (ascii "A" ++ grin) (ascii ",7")) ∷
+    row (ascii "A" ++ grin) (ascii "(1:2)5;6")
+    (reads (65 ∷ grins []) (cluster 1 2 ∷ cluster 2 1 ∷ []) (glyph 5 ∷ glyph 6 ∷ fontGlyph ∷ []) (ascii "A" ++ grin) (ascii "(1:2)5;6")) ∷
+    -- at the ends of the halves' ranges, one behind the other: U+D7FF U+10000 U+10FFFF U+E000
+    row (0xed ∷ 0x9f ∷ 0xbf ∷ 0xf0 ∷ 0x90 ∷ 0x80 ∷ 0x80 ∷ 0xf4 ∷ 0x8f ∷ 0xbf ∷ 0xbf ∷ 0xee ∷ 0x80 ∷ 0x80 ∷ []) []
+    (reads (0xd7ff ∷ 0xd800 ∷ 0xdc00 ∷ 0xdbff ∷ 0xdfff ∷ 0xe000 ∷ []) (one ∷ cluster 2 1 ∷ cluster 2 1 ∷ one ∷ []) (fontGlyph ∷ fontGlyph ∷ fontGlyph ∷ fontGlyph ∷ [])
+    (0xed ∷ 0x9f ∷ 0xbf ∷ 0xf0 ∷ 0x90 ∷ 0x80 ∷ 0x80 ∷ 0xf4 ∷ 0x8f ∷ 0xbf ∷ 0xbf ∷ 0xee ∷ 0x80 ∷ 0x80 ∷ []) []) ∷
+    -- "the normal writing drops it like them. [...] Equal runs and equal bytes go together for these labels as well": these three are one run
+    row (ascii "AB" ++ grin) [] (reads (65 ∷ 66 ∷ grins []) (one ∷ one ∷ cluster 2 1 ∷ []) (fontGlyph ∷ fontGlyph ∷ fontGlyph ∷ []) (ascii "AB" ++ grin) []) ∷
+    row (ascii "AB" ++ grin) (ascii ";") (reads (65 ∷ 66 ∷ grins []) (one ∷ one ∷ cluster 2 1 ∷ []) (fontGlyph ∷ fontGlyph ∷ fontGlyph ∷ []) (ascii "AB" ++ grin) []) ∷
+    row (ascii "AB" ++ grin) (ascii ",,;,,,0") (reads (65 ∷ 66 ∷ grins []) (one ∷ one ∷ cluster 2 1 ∷ []) (fontGlyph ∷ fontGlyph ∷ fontGlyph ∷ []) (ascii "AB" ++ grin) []) ∷
+    -- a pair that is named is another run, with other bytes
+    row (ascii "AB" ++ grin) (ascii ";;(2)9") (reads (65 ∷ 66 ∷ grins []) (one ∷ one ∷ cluster 2 1 ∷ []) (fontGlyph ∷ fontGlyph ∷ glyph 9 ∷ []) (ascii "AB" ++ grin) (ascii ";;(2)9")) ∷
+    -- "An entry without a map at a pair is still refused with 13": an empty one, at the first unit, with an index, behind a pair
+    row (ascii "A" ++ grin) (ascii ";") (refused 13 2) ∷
+    row grin (ascii ";") (refused 13 1) ∷
+    row grin (ascii "9") (refused 13 1) ∷
+    row (grin ++ grin) (ascii "(2)9;") (refused 13 3) ∷
+    -- a cluster that ends inside a pair is too
+    row (ascii "A" ++ grin) (ascii "(2)9") (refused 13 2) ∷
+    -- an open cluster takes nothing from the tail
+    row (ascii "A" ++ grin) (ascii "(1:2)5") (refused 14 0) ∷
     []
 
 -- ── document 02, CR 1: how many values were rounded ──
@@ -325,8 +368,9 @@ sheetRows =
     []
 
 -- each row's label is answered as the row says
-pub labels : map (λ (r : LabelRow). said (read (r .text) (r .indices))) (documentRows ++ standardRows) ≡ map (λ (r : LabelRow). r .answer) (documentRows ++ standardRows)
-unfolding documentRows standardRows ascii split cut allDigits valueFrom joinRest join trim decimalFrom decimal lead trail starts scalar xmlChar unitsOf decode textUnits unsigned isDecimals isNumber mantissaDigits fractionDigits exponentDigits nearest scaled thousandths numberFits isIndexPart indexDigits mapUnits mapGlyphs isAdvance isOffset wellFormed fieldFits indexOf advanceOf offsetOf entryOf entry entries tail placed step walk runFrom read utf8 unitBytes unitsBytes textOf fraction valueBytes advanceBytes offsetBytes mapBytes indexBytes entryBytes written indicesOf
+pub labels : map (λ (r : LabelRow). said (read (r .text) (r .indices))) (documentRows ++ (standardRows ++ tailRows))
+    ≡ map (λ (r : LabelRow). r .answer) (documentRows ++ (standardRows ++ tailRows))
+unfolding documentRows standardRows tailRows ascii split cut allDigits valueFrom joinRest join trim decimalFrom decimal lead trail starts scalar xmlChar unitsOf decode textUnits unsigned isDecimals isNumber mantissaDigits fractionDigits exponentDigits nearest scaled thousandths numberFits isIndexPart indexDigits mapUnits mapGlyphs isAdvance isOffset wellFormed fieldFits indexOf advanceOf offsetOf entryOf entry entries tail placed step walk runFrom read utf8 unitBytes unitsBytes textOf fraction valueBytes advanceBytes offsetBytes mapBytes indexBytes entryBytes written indicesOf
 labels = refl
 
 -- each row's label has the count that the row says
@@ -371,3 +415,8 @@ same-run = refl
 pub relabelled : relabel (ascii "{}flow\n(2:1)192;07,+55.50,,0\n") ≡ ascii "ok 4 3 3\nflow\n(2)192;7,55.5\n"
 unfolding relabel relabelRead ascii split cut allDigits valueFrom joinRest join trim decimalFrom decimal lead trail starts scalar xmlChar unitsOf decode textUnits unsigned isDecimals isNumber mantissaDigits fractionDigits exponentDigits nearest scaled thousandths numberFits isIndexPart indexDigits mapUnits mapGlyphs isAdvance isOffset wellFormed fieldFits indexOf advanceOf offsetOf entryOf entry entries tail placed step walk runFrom read utf8 unitBytes unitsBytes textOf fraction valueBytes advanceBytes offsetBytes mapBytes indexBytes entryBytes written indicesOf
 relabelled = refl
+
+-- a pair that is left to the font: 2 units, 1 cluster, 1 glyph, no indices
+pub relabelled-pair : relabel (grin ++ (10 ∷ [])) ≡ ascii "ok 2 1 1\n" ++ (grin ++ ascii "\n\n")
+unfolding relabel relabelRead ascii split cut allDigits valueFrom joinRest join trim decimalFrom decimal lead trail starts scalar xmlChar unitsOf decode textUnits unsigned isDecimals isNumber mantissaDigits fractionDigits exponentDigits nearest scaled thousandths numberFits isIndexPart indexDigits mapUnits mapGlyphs isAdvance isOffset wellFormed fieldFits indexOf advanceOf offsetOf entryOf entry entries tail placed step walk runFrom read utf8 unitBytes unitsBytes textOf fraction valueBytes advanceBytes offsetBytes mapBytes indexBytes entryBytes written indicesOf
+relabelled-pair = refl

@@ -9,11 +9,12 @@ use lib.ListN.{length, getD, drop}
 use Rattle.label.specs.Limits.{maxTextBytes, maxIndicesBytes, maxGlyphs}
 use Rattle.label.specs.Outcome.{Outcome, ok, need, _>>=_, _>>_}
 use Rattle.label.specs.Bytes.{empty}
-use Rattle.label.specs.Text.{isLow, textUnits}
+use Rattle.label.specs.Text.{isLow, isPair, textUnits}
 use Rattle.label.specs.Entry.{Entry, entry, entries}
 use Rattle.label.specs.declared.Index.{Index}
 use Rattle.label.specs.declared.Index.the-variants.{Named, Font}
-use Rattle.label.specs.declared.Advance.the-variants.{Own}
+use Rattle.label.specs.declared.Advance.{Advance}
+use Rattle.label.specs.declared.Advance.the-variants.{Given, Own}
 use Rattle.label.specs.declared.Glyph.{Glyph}
 use Rattle.label.specs.declared.Cluster.{Cluster}
 
@@ -33,6 +34,11 @@ abbrev pub named : Index → Bool
 named (Named n) = true
 named Font = false
 
+-- "the advance is either given or the font's own": it is given
+abbrev pub given : Advance → Bool
+given (Given n) = true
+given Own = false
+
 -- wholly the font's
 abbrev pub fontGlyph : Glyph
 fontGlyph = record { index = Font; advance = Own; u = pos 0; v = pos 0 }
@@ -51,13 +57,12 @@ abbrev pub whole : ℕ → List ℕ → Bool
 whole a us = not (isLow (getD us a 0))
 
 -- "When entries end before the text, each unit left is a 1:1 cluster, all chosen by the font: this is the unwritten tail."
--- "A cluster may not end between the halves of a pair (house), the tail included."
-unfoldable pub tail : ℕ → List ℕ → Outcome Parts
-tail at [] = ok (record { clusters = []; glyphs = [] })
-tail at (u ∷ us) = do
-  need (whole 0 us) 13 (suc at)
-  p ← tail (suc at) us
-  ok (before true (cluster 1 1) fontGlyph p)
+-- "A cluster may not end between the halves of a pair (house), the tail included." Document 02, CR 4: "Now a pair in the tail is one cluster of 2
+-- units and 1 glyph, wholly the font's."
+unfoldable pub tail : List ℕ → Parts
+tail [] = record { clusters = []; glyphs = [] }
+tail (u ∷ []) = before true (cluster 1 1) fontGlyph (tail [])
+tail (u ∷ v ∷ us) = cond (isPair (u ∷ v ∷ us)) (before true (cluster 2 1) fontGlyph (tail us)) (before true (cluster 1 1) fontGlyph (tail (v ∷ us)))
 
 -- Where the walk over the entries stands: the number of the next entry, the units used and those not used yet, the glyphs that the open cluster
 -- still lacks, and the entry that opened it. Beside it goes `bare`: the text has no units.
@@ -114,17 +119,17 @@ step bare st s = do
   e ← entry (st .k) s
   placed bare st e
 
--- the entries, "then 14, then 13 for the tail"
+-- the entries, "then 14"; document 02, CR 4: 13 is what "the tail no longer gives"
 unfoldable pub walk : Bool → State → List (List ℕ) → Outcome Parts
 walk bare st [] = do
   need (opens st) 14 (st .opener)
-  tail (st .at) (st .rest)
+  ok (tail (st .rest))
 walk bare st (s ∷ ss) = do
   e ← step bare st s
   p ← walk bare (next bare st e) ss
   ok (before (opens st) (cluster (takes bare st e) (e .glyphs)) (e .glyph) p)
 
--- the run of these units and indices: "6; then entry by entry 7 to 13 in number order; then 14, then 13 for the tail, 15"
+-- the run of these units and indices: "6; then entry by entry 7 to 13 in number order; then 14, [...] 15"
 unfoldable pub runFrom : List ℕ → List ℕ → Outcome Run
 runFrom us indices = do
   need (not (empty us && empty indices)) 6 0

@@ -10,8 +10,8 @@ use lib.ListN.{length, drop}
 use Rattle.label.specs.Limits.{maxUnits, maxGlyphs, maxIndex, maxThousandths}
 use Rattle.label.specs.Outcome.{ok}
 use Rattle.label.specs.Bytes.{empty}
-use Rattle.label.specs.Text.{isHigh, isLow, xmlChar}
-use Rattle.label.specs.Run.{Run, named, whole, cluster, read}
+use Rattle.label.specs.Text.{isHigh, isLow, isPair, xmlChar}
+use Rattle.label.specs.Run.{Run, named, given, whole, cluster, read}
 use Rattle.label.specs.declared.Index.{Index}
 use Rattle.label.specs.declared.Index.the-variants.{Named, Font}
 use Rattle.label.specs.declared.Advance.{Advance}
@@ -124,12 +124,27 @@ advanceFits Own = true
 abbrev pub glyphFits : Glyph → Bool
 glyphFits g = indexFits (g .index) && advanceFits (g .advance) && leb (size (g .u)) maxThousandths && leb (size (g .v)) maxThousandths
 
--- a cluster with its first glyph may stand before these units: 10 to 13 do not hold of it; `bare`: the run has no units
-abbrev pub mayOpen : Bool → List ℕ → Cluster → Glyph → Bool
-mayOpen true us c g = eqb (c .units) 0 && eqb (c .glyphs) 1 && named (g .index)
-mayOpen false us c g =
+-- a glyph is "wholly the font's": so are its index and its advance, and both offsets are 0; it is `fontGlyph` (law `font-is`)
+abbrev pub isFont : Glyph → Bool
+isFont g = not (named (g .index)) && not (given (g .advance)) && eqb (size (g .u)) 0 && eqb (size (g .v)) 0
+
+-- "nothing but" such glyphs
+unfoldable pub allFont : List Glyph → Bool
+allFont [] = true
+allFont (g ∷ gs) = isFont g && allFont gs
+
+-- document 02, CR 4: "a pair in the tail is one cluster of 2 units and 1 glyph, wholly the font's. Such a cluster is sound only where nothing but clusters
+-- wholly the font's follows"; the glyphs are its own and those behind it
+abbrev pub tailPair : List ℕ → Cluster → List Glyph → Bool
+tailPair us c gs = eqb (c .units) 2 && eqb (c .glyphs) 1 && isPair us && allFont gs
+
+-- a cluster with its first glyph, and the glyphs behind it, may stand before these units: 10, 12 and 13 do not hold of it, and its index is named, or it is
+-- 1:1, or it is a pair of the tail; `bare`: the run has no units
+abbrev pub mayOpen : Bool → List ℕ → Cluster → Glyph → List Glyph → Bool
+mayOpen true us c g gs = eqb (c .units) 0 && eqb (c .glyphs) 1 && named (g .index)
+mayOpen false us c g gs =
     leb 1 (c .units) && leb 1 (c .glyphs) && leb (c .units) (length us) && whole (c .units) us
-    && (named (g .index) || (eqb (c .units) 1 && eqb (c .glyphs) 1))
+    && (named (g .index) || (eqb (c .units) 1 && eqb (c .glyphs) 1) || tailPair us c (g ∷ gs))
 
 -- "counts add up": the clusters use up the units and the glyphs, each glyph is within its limits, each cluster may stand where it does and its further glyphs
 -- name their indices; `lack` glyphs of the open cluster are still to come
@@ -137,7 +152,7 @@ unfoldable pub fits : Bool → ℕ → List ℕ → List Cluster → List Glyph 
 fits bare lack us cs [] = eqb lack 0 && empty cs && empty us
 fits bare (suc n) us cs (g ∷ gs) = glyphFits g && named (g .index) && fits bare n us cs gs
 fits bare zero us [] (g ∷ gs) = false
-fits bare zero us (c ∷ cs) (g ∷ gs) = glyphFits g && mayOpen bare us c g && fits bare (c .glyphs - 1) (drop (c .units) us) cs gs
+fits bare zero us (c ∷ cs) (g ∷ gs) = glyphFits g && mayOpen bare us c g gs && fits bare (c .glyphs - 1) (drop (c .units) us) cs gs
 
 -- "units are well-formed XML characters, counts add up, limits hold, it is not empty"
 unfoldable pub soundRun : Run → Bool

@@ -71,6 +71,10 @@ isHigh u = within 0xd800 0xdbff u
 abbrev pub isLow : ℕ → Bool
 isLow u = within 0xdc00 0xdfff u
 
+-- the first two units are the halves of one pair, "high then low"
+abbrev pub isPair : List ℕ → Bool
+isPair us = isHigh (getD us 0 0) && isLow (getD us 1 0)
+
 -- "a character above U+FFFF gives a pair, high then low"
 unfoldable pub unitsOf : ℕ → List ℕ
 unitsOf c = cond (leb c 0xffff) (c ∷ []) ((0xd800 + (c - 0x10000) / 1024) ∷ (0xdc00 + (c - 0x10000) % 1024) ∷ [])

@@ -76,16 +76,16 @@ offsetBytes (negsuc n) = 45 ∷ valueBytes (suc n)
 unfoldable pub mapBytes : ℕ → ℕ → List ℕ
 mapBytes a b = cond (leb a 1 && eqb b 1) [] (40 ∷ (decimal a ++ cond (eqb b 1) [] (58 ∷ decimal b) ++ (41 ∷ [])))
 
--- an index that is left to the font is empty
-unfoldable pub indexBytes : Index → List ℕ
-indexBytes Font = []
-indexBytes (Named n) = decimal n
+-- an index with its map; an index that is left to the font is empty, and then its map is too: "A map without an index isn't well formed."
+unfoldable pub indexBytes : ℕ → ℕ → Index → List ℕ
+indexBytes a b Font = []
+indexBytes a b (Named n) = mapBytes a b ++ decimal n
 
 -- the entry of a glyph that opens a cluster a:b; a further glyph is written as one that opens 1:1; "trailing empty fields drop with their commas"
 unfoldable pub entryBytes : ℕ → ℕ → Glyph → List ℕ
 entryBytes a b g =
     join 44
-    (trim ((mapBytes a b ++ indexBytes (g .index)) ∷ advanceBytes (g .advance) ∷ offsetBytes (g .u) ∷ offsetBytes (g .v) ∷ []))
+    (trim (indexBytes a b (g .index) ∷ advanceBytes (g .advance) ∷ offsetBytes (g .u) ∷ offsetBytes (g .v) ∷ []))
 
 -- "the clusters' glyphs in order": their entries; `lack` glyphs of the open cluster are still to come
 unfoldable pub written : ℕ → List Cluster → List Glyph → List (List ℕ)
@@ -94,7 +94,8 @@ written (suc n) cs (g ∷ gs) = entryBytes 1 1 g ∷ written n cs gs
 written zero [] (g ∷ gs) = []
 written zero (c ∷ cs) (g ∷ gs) = entryBytes (c .units) (c .glyphs) g ∷ written (c .glyphs - 1) cs gs
 
--- "joined by `;`"; "Trailing 1:1 entries that are wholly the font's drop": in a sound run those are the entries without bytes (law `empty-is-font`)
+-- "joined by `;`"; "Trailing 1:1 entries that are wholly the font's drop", and a pair of the tail "like them" (document 02, CR 4): in a sound run those
+-- are the entries without bytes (law `empty-is-font`)
 unfoldable pub indicesOf : List Cluster → List Glyph → List ℕ
 indicesOf cs gs = join 59 (trim (written 0 cs gs))
 

@@ -8,12 +8,12 @@ use mathlib.Core.List.{List, [], _∷_}
 use borrow.Author.Tests.{le-leb, lt-leb, leb-true}
 use lib.Dec.{eqb, leb}
 use lib.IntN.{ℤ}
-use lib.ListN.{length, getD, length-replicate, List·getD-eq-default}
+use lib.ListN.{length, getD, List·getD-eq-default}
 use Rattle.label.specs.Outcome.{Outcome, ok, no, need, _>>=_, _>>_}
 use Rattle.label.specs.Bytes.{empty}
 use Rattle.label.specs.Text.{marked}
 use Rattle.label.specs.Entry.{entries}
-use Rattle.label.specs.Run.{Run, Parts, State, start, opens, takes, next, walk, tail, before, cluster, fontGlyph, read}
+use Rattle.label.specs.Run.{Run, Parts, State, start, opens, takes, next, walk, tail, before, cluster, read}
 use Rattle.label.specs.Sound.{flatClusters, flatGlyphs}
 use Rattle.label.specs.Rounded.{beside}
 use Rattle.label.specs.Calls.{refusal, readingOutcome, readingRounded, readInto, counts, counted, filled, unitsAfter, clustersAfter, glyphsAfter}
@@ -30,9 +30,8 @@ use Rattle.label.proofs.Sounds.{WasRead, read-ok}
 use Rattle.text.specs.Moves.{unitsFrom}
 use Rattle.text.specs.Texts.{unitsStart}
 use Rattle.text.proofs.Texts.{text-from}
-use Rattle.survey.specs.Steps.{tailParts}
 use Rattle.survey.proofs.Walking.{walk-end, units-at}
-use Rattle.survey.proofs.Endings.{tail-is}
+use Rattle.label.proofs.Tails.{tail-even}
 use Rattle.survey.proofs.Judging.{TextHas, text-has}
 
 -- ── where the units start ──
@@ -57,9 +56,8 @@ module _ (t : List ℕ) where
 -- a run has no more clusters than glyphs
 walk-even : (ss : List (List ℕ)) (bare : Bool) (st : State) (p : Parts) → walk bare st ss ≡ ok p → length (p .clusters) ≤ length (p .glyphs)
 walk-even [] bare st p h =
-    let (t, b) = need-ok (opens st) 14 (st .opener) (tail (st .at) (st .rest)) p (sym (walk-end bare st) ∙ h) in
-    let e : tailParts (length (st .rest)) ≡ p = tail-is (st .rest) (st .at) p b in
-    subst (λ (q : Parts). length (q .clusters) ≤ length (q .glyphs)) e (rw (length-replicate (length (st .rest)) (cluster 1 1), length-replicate (length (st .rest)) fontGlyph) (omega arith))
+    let (t, b) = need-ok (opens st) 14 (st .opener) (ok (tail (st .rest))) p (sym (walk-end bare st) ∙ h) in
+    subst (λ (q : Parts). length (q .clusters) ≤ length (q .glyphs)) (ok-path (tail (st .rest)) p b) (omega (arith, tail-even (st .rest)))
 walk-even (s ∷ ss) bare st p h =
     let x : Walked bare st s ss p = walk-ok bare st s ss p h in
     let r : length (x .others .clusters) ≤ length (x .others .glyphs) = walk-even ss bare (next bare st (x .first)) (x .others) (x .walked) in

@@ -8,13 +8,13 @@ use mathlib.Core.List.{List, [], _∷_, _++_}
 use borrow.Author.Tests.{eq-eqb, eqb-true, eqb-false}
 use lib.Dec.{eqb, leb}
 use lib.IntN.{ℤ}
-use lib.ListN.{length, drop, replicate, length-append, length-drop, length-replicate}
+use lib.ListN.{length, drop, length-append}
 use lib.Seq.{sets}
 use Rattle.label.specs.Outcome.{Outcome, ok, no}
 use Rattle.label.specs.Bytes.{empty}
 use Rattle.label.specs.Entry.{entry, entries}
 use Rattle.label.specs.Rounded.{roundedEntry}
-use Rattle.label.specs.Run.{Parts, State, start, opens, takes, step, next, walk, tail, cluster, fontGlyph}
+use Rattle.label.specs.Run.{Parts, State, start, opens, takes, step, next, walk, tail}
 use Rattle.label.specs.Sound.{indexFits, advanceFits, size, flatClusters, flatGlyphs}
 use Rattle.label.specs.Calls.{filled}
 use Rattle.label.specs.declared.Cursor.{Cursor}
@@ -26,19 +26,18 @@ use Rattle.number.specs.Digits.{cap}
 use Rattle.entry.specs.Items.{here}
 use Rattle.entry.specs.declared.Item.{Item}
 use Rattle.entry.specs.declared.EntryRead.the-variants.{Read, Refused}
-use Rattle.survey.specs.Steps.{itemEntry, advanced, entryAt, tailParts}
+use Rattle.survey.specs.Steps.{itemEntry, advanced, entryAt}
 use Rattle.reader.specs.Stores.{takenBy, openedHere, clusterPlaces, glyphPlaces, Storable}
 use Rattle.survey.proofs.Entries.{empty-eqb, leftFrom, left-is, left-few}
 use Rattle.survey.proofs.Placing.{read-is, refused-is}
 use Rattle.survey.proofs.Walking.{walk-end, stateOf, Stands, Ready, Turned, turned, takes-cut, refusing, step-no, ends-open, ends-shut}
-use Rattle.survey.proofs.Endings.{tail-is}
 use Rattle.reader.proofs.Stores.{Stored, Flattens, clusters-flatten, glyphs-flatten, room-more, flat-stored}
 
 -- ── an open cluster's glyphs are there ──
 
 walk-lack : (ss : List (List ℕ)) (bare : Bool) (st : State) (p : Parts) → walk bare st ss ≡ ok p → st .lack ≤ length ss
 walk-lack [] bare st p h =
-    let (t, b) = need-ok (opens st) 14 (st .opener) (tail (st .at) (st .rest)) p (sym (walk-end bare st) ∙ h) in
+    let (t, b) = need-ok (opens st) 14 (st .opener) (ok (tail (st .rest))) p (sym (walk-end bare st) ∙ h) in
     let z : st .lack ≡ 0 = eqb-true (st .lack) 0 t in
     omega arith
 walk-lack (s ∷ ss) bare st p h =
@@ -50,19 +49,18 @@ walk-lack (s ∷ ss) bare st p h =
 
 -- ── clusters and glyphs alike ──
 
--- one of a run's two lists: how its numbers are laid out, and what a tail adds to it
-record Listed {A : Type 0} (of : Parts → List A) (flat : List A → List ℤ) (one : A → List ℤ) (w : ℕ) (x : A) : Type 0 where
+-- one of a run's two lists: how its numbers are laid out
+record Listed {A : Type 0} (of : Parts → List A) (flat : List A → List ℤ) (one : A → List ℤ) (w : ℕ) : Type 0 where
   flattens : Flattens flat one w
   joins : (p q : Parts) → of (joined p q) ≡ of p ++ of q
-  tails : (n : ℕ) → of (tailParts n) ≡ replicate n x
 
-clusters-listed : Listed (λ (p : Parts). p .clusters) flatClusters clusterPlaces 2 (cluster 1 1)
-clusters-listed = record { flattens = clusters-flatten; joins = λ p q. refl; tails = λ n. refl }
+clusters-listed : Listed (λ (p : Parts). p .clusters) flatClusters clusterPlaces 2
+clusters-listed = record { flattens = clusters-flatten; joins = λ p q. refl }
 
-glyphs-listed : Listed (λ (p : Parts). p .glyphs) flatGlyphs glyphPlaces 4 fontGlyph
-glyphs-listed = record { flattens = glyphs-flatten; joins = λ p q. refl; tails = λ n. refl }
+glyphs-listed : Listed (λ (p : Parts). p .glyphs) flatGlyphs glyphPlaces 4
+glyphs-listed = record { flattens = glyphs-flatten; joins = λ p q. refl }
 
-module _ {A : Type 0} (of : Parts → List A) (flat : List A → List ℤ) (one : A → List ℤ) (w : ℕ) (x : A) (l : Listed of flat one w x) (all pre : Parts) (n : ℕ) (en : length (of pre) ≡ n) where
+module _ {A : Type 0} (of : Parts → List A) (flat : List A → List ℤ) (one : A → List ℤ) (w : ℕ) (l : Listed of flat one w) (all pre : Parts) (n : ℕ) (en : length (of pre) ≡ n) where
   -- parts in the middle, whose numbers are vs
   module _ (more others : Parts) (is : joined (joined pre more) others ≡ all) (vs : List ℤ) (ev : flat (of more) ≡ vs) where
     listed-inside : length (of pre ++ of more) ≤ length (of all)
@@ -79,21 +77,20 @@ module _ {A : Type 0} (of : Parts → List A) (flat : List A → List ℤ) (one 
     listed-stored old out out′ s q r =
         rw (l .joins pre more) (flat-stored flat one w (l .flattens) (of pre) (of more) vs n en ev old out out′ s q (omega (arith, listed-room)))
 
-  -- a tail at the end
-  module _ (m : ℕ) (is : joined pre (tailParts m) ≡ all) where
-    all-listed : of all ≡ of pre ++ replicate m x
-    all-listed = sym (ap of is) ∙ l .joins pre (tailParts m) ∙ ap (λ (y : List A). of pre ++ y) (l .tails m)
+  -- parts at the end
+  module _ (more : Parts) (is : joined pre more ≡ all) where
+    all-listed : of all ≡ of pre ++ of more
+    all-listed = sym (ap of is) ∙ l .joins pre more
 
-    tail-count : n + m ≡ length (of all)
-    tail-count = sym (ap length all-listed ∙ length-append (of pre) (replicate m x) ∙ rw (en, length-replicate m x))
+    end-count : n + length (of more) ≡ length (of all)
+    end-count = sym (ap length all-listed ∙ length-append (of pre) (of more) ∙ rw en)
 
-    tail-filled : (old out out′ : List ℤ) → Stored old out (flat (of pre)) → out′ ≡ sets out (w * n) (flat (replicate m x)) → w * length (of all) ≤ length old
+    end-filled : (old out out′ : List ℤ) → Stored old out (flat (of pre)) → out′ ≡ sets out (w * n) (flat (of more)) → w * length (of all) ≤ length old
         → out′ ≡ filled (flat (of all)) old
-    tail-filled old out out′ s q r =
-        let e : length (of pre ++ replicate m x) ≤ length (of all) = rw (← all-listed) (omega arith) in
-        let g : w * n + length (flat (replicate m x)) ≤ w * length (of all) =
-        room-more flat one w (l .flattens) (of pre) (replicate m x) (flat (replicate m x)) n en refl (length (of all)) e in
-        rw all-listed (flat-stored flat one w (l .flattens) (of pre) (replicate m x) (flat (replicate m x)) n en refl old out out′ s q (omega arith) .is)
+    end-filled old out out′ s q r =
+        let e : length (of pre ++ of more) ≤ length (of all) = rw (← all-listed) (omega arith) in
+        let g : w * n + length (flat (of more)) ≤ w * length (of all) = room-more flat one w (l .flattens) (of pre) (of more) (flat (of more)) n en refl (length (of all)) e in
+        rw all-listed (flat-stored flat one w (l .flattens) (of pre) (of more) (flat (of more)) n en refl old out out′ s q (omega arith) .is)
 
 -- ── an accepted walk, whose parts are `all` ──
 
@@ -201,19 +198,19 @@ module _ (us s : List ℕ) (all : Parts) (good : walk (empty us) (start us) (ent
         subst (λ (y : Item). advanceFits (y .glyph .advance) ≡ true) (w .item-is) f
 
     room-clusters : 2 * c .clusters + length (flatClusters (openedHere (c .lack) t (x .glyphs))) ≤ 2 * length (all .clusters)
-    room-clusters = listed-room _ _ _ _ _ clusters-listed all pre (c .clusters) (st .clusters-are) more (then .others) (then .is) _ opened-is
+    room-clusters = listed-room _ _ _ _ clusters-listed all pre (c .clusters) (st .clusters-are) more (then .others) (then .is) _ opened-is
 
     room-glyphs : 4 * c .entry + 4 ≤ 4 * length (all .glyphs)
-    room-glyphs = listed-room _ _ _ _ _ glyphs-listed all pre (c .entry) (st .glyphs-are) more (then .others) (then .is) _ glyph-is
+    room-glyphs = listed-room _ _ _ _ glyphs-listed all pre (c .entry) (st .glyphs-are) more (then .others) (then .is) _ glyph-is
 
     module _ (old out out′ : List ℤ) where
       clusters-stored : Stored old out (flatClusters (pre .clusters)) → out′ ≡ sets out (2 * c .clusters) (flatClusters (openedHere (c .lack) t (x .glyphs)))
           → 2 * length (all .clusters) ≤ length old → Stored old out′ (flatClusters (joined pre more .clusters))
-      clusters-stored = listed-stored _ _ _ _ _ clusters-listed all pre (c .clusters) (st .clusters-are) more (then .others) (then .is) _ opened-is old out out′
+      clusters-stored = listed-stored _ _ _ _ clusters-listed all pre (c .clusters) (st .clusters-are) more (then .others) (then .is) _ opened-is old out out′
 
       glyphs-stored : Stored old out (flatGlyphs (pre .glyphs)) → out′ ≡ sets out (4 * c .entry) (glyphPlaces (x .glyph))
           → 4 * length (all .glyphs) ≤ length old → Stored old out′ (flatGlyphs (joined pre more .glyphs))
-      glyphs-stored = listed-stored _ _ _ _ _ glyphs-listed all pre (c .entry) (st .glyphs-are) more (then .others) (then .is) _ glyph-is old out out′
+      glyphs-stored = listed-stored _ _ _ _ glyphs-listed all pre (c .entry) (st .glyphs-are) more (then .others) (then .is) _ glyph-is old out out′
 
   -- an entry x that was read can be stored, and then the walk stands behind it
   module _ (c₀ g₀ cs gs : List ℤ) (c : Cursor) (l : Filled us s c₀ g₀ cs gs c) (hi : c .place ≤ length s) (hc : 2 * length (all .clusters) ≤ length c₀) (hg : 4 * length (all .glyphs) ≤ length g₀)
@@ -264,25 +261,22 @@ module _ (us s : List ℕ) (all : Parts) (good : walk (empty us) (start us) (ent
         (λ t. eqb-true (c .lack) 0 t)
         (λ t. never 14 (c .opener) (ends-open us s pre lack c st rd hi (eqb-false (c .lack) 0 t)))
 
-    -- n is the count of the text's units
-    module _ (n : ℕ) (en : n ≡ length us) where
-      all-parts : joined pre (tailParts (n - c .unit)) ≡ all
-      all-parts =
-          let (r, a, b) = after-ok pre (tail (c .unit) (drop (c .unit) us)) all (sym (ends-shut us s pre lack c st rd hi shut) ∙ good) in
-          let e : n - c .unit ≡ length (drop (c .unit) us) = rw (en, length-drop (c .unit) us) in
-          rw e (ap (joined pre) (tail-is (drop (c .unit) us) (c .unit) r a) ∙ b)
+    -- `rest`: the units not used yet
+    module _ (rest : List ℕ) (er : rest ≡ drop (c .unit) us) where
+      all-parts : joined pre (tail rest) ≡ all
+      all-parts = ok-path _ all (ap (λ (r : List ℕ). ok (joined pre (tail r))) er ∙ sym (ends-shut us s pre lack c st rd hi shut) ∙ good)
 
-      pub end-clusters : c .clusters + (n - c .unit) ≡ length (all .clusters)
-      end-clusters = tail-count _ _ _ _ _ clusters-listed all pre (c .clusters) (st .clusters-are) (n - c .unit) all-parts
+      pub end-clusters : c .clusters + length (tail rest .clusters) ≡ length (all .clusters)
+      end-clusters = end-count _ _ _ _ clusters-listed all pre (c .clusters) (st .clusters-are) (tail rest) all-parts
 
-      pub end-glyphs : c .entry + (n - c .unit) ≡ length (all .glyphs)
-      end-glyphs = tail-count _ _ _ _ _ glyphs-listed all pre (c .entry) (st .glyphs-are) (n - c .unit) all-parts
+      pub end-glyphs : c .entry + length (tail rest .glyphs) ≡ length (all .glyphs)
+      end-glyphs = end-count _ _ _ _ glyphs-listed all pre (c .entry) (st .glyphs-are) (tail rest) all-parts
 
       module _ (old out out′ : List ℤ) where
-        pub clusters-end : Stored old out (flatClusters (pre .clusters)) → out′ ≡ sets out (2 * c .clusters) (flatClusters (tailParts (n - c .unit) .clusters))
+        pub clusters-end : Stored old out (flatClusters (pre .clusters)) → out′ ≡ sets out (2 * c .clusters) (flatClusters (tail rest .clusters))
             → 2 * length (all .clusters) ≤ length old → out′ ≡ filled (flatClusters (all .clusters)) old
-        clusters-end = tail-filled _ _ _ _ _ clusters-listed all pre (c .clusters) (st .clusters-are) (n - c .unit) all-parts old out out′
+        clusters-end = end-filled _ _ _ _ clusters-listed all pre (c .clusters) (st .clusters-are) (tail rest) all-parts old out out′
 
-        pub glyphs-end : Stored old out (flatGlyphs (pre .glyphs)) → out′ ≡ sets out (4 * c .entry) (flatGlyphs (tailParts (n - c .unit) .glyphs))
+        pub glyphs-end : Stored old out (flatGlyphs (pre .glyphs)) → out′ ≡ sets out (4 * c .entry) (flatGlyphs (tail rest .glyphs))
             → 4 * length (all .glyphs) ≤ length old → out′ ≡ filled (flatGlyphs (all .glyphs)) old
-        glyphs-end = tail-filled _ _ _ _ _ glyphs-listed all pre (c .entry) (st .glyphs-are) (n - c .unit) all-parts old out out′
+        glyphs-end = end-filled _ _ _ _ glyphs-listed all pre (c .entry) (st .glyphs-are) (tail rest) all-parts old out out′

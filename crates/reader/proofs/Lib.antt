@@ -1,3 +1,4 @@
 pub mod Stores
+pub mod Tails
 pub mod Filling
 pub mod Calls

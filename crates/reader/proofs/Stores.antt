@@ -1,6 +1,6 @@
--- Numbers stored in the lent buffers: one thing's, a tail's, and what stands in a buffer after stores one behind the other.
+-- Numbers stored in the lent buffers: one thing's, those of several, and what stands in a buffer after stores one behind the other.
 -- Assumes nothing.
-use Prim.Native.Nat.{ℕ, zero, suc, _+_, _*_, _-_, _≤_, _<_}
+use Prim.Native.Nat.{ℕ, suc, _+_, _*_, _≤_, _<_}
 use native.Mathlib.Omega.{arith}
 use native.Mathlib.Nat.{mul-zero, mul-suc, mul-add, mul-le-mul-left}
 use native.Mathlib.Numerals.{add-one}
@@ -9,7 +9,7 @@ use mathlib.Core.Bool.{true}
 use mathlib.Core.List.{List, [], _∷_, _++_, append-assoc}
 use borrow.Author.Tests.{eq-eqb, ne-eqb, leb-true}
 use lib.IntN.{ℤ, pos}
-use lib.ListN.{length, take, drop, set, replicate, length-append}
+use lib.ListN.{length, take, drop, set, length-append}
 use lib.Seq.{sets, sets-eq, length-sets, take-at, drop-append-add, drop-drop}
 use mir.Syntax.{w32}
 use mir.Val.{toZ}
@@ -113,21 +113,12 @@ module _ {A : Type 0} (flat : List A → List ℤ) (one : A → List ℤ) (w : �
       let s : w * suc (length xs) ≡ w * length xs + w = mul-suc w (length xs) in
       ap length (f .cons x xs) ∙ omega arith
 
-  -- a tail of m things alike from thing number c on
-  module _ (x : A) (out out′ whole : List ℤ) (c m : ℕ) where
-    pub tail-more : out′ ≡ sets out (w * c) (one x) → (m ≡ 0 → ⊥) → sets out (w * c) (flat (replicate m x)) ≡ whole
-        → sets out′ (w * (c + 1)) (flat (replicate (m - 1) x)) ≡ whole
-    tail-more e h q = ap (λ (o : List ℤ). sets o (w * (c + 1)) (flat (replicate (m - 1) x))) e ∙ step m h ∙ q
-      where
-        step : (m : ℕ) → (m ≡ 0 → ⊥) → sets (sets out (w * c) (one x)) (w * (c + 1)) (flat (replicate (m - 1) x)) ≡ sets out (w * c) (flat (replicate m x))
-        step zero h = absurd (h refl)
-        step (suc m) h =
-            let d : suc m - 1 ≡ m = omega arith in
-            let p : w * (c + 1) ≡ w * c + length (one x) = rw (add-one c, mul-suc w c, f .long x) in
-            rw (d, p) (sets-append (one x) (flat (replicate m x)) out (w * c) ∙ ap (sets out (w * c)) (sym (f .cons x (replicate m x))))
-
-    pub tail-done : m ≡ 0 → sets out (w * c) (flat (replicate m x)) ≡ whole → out ≡ whole
-    tail-done h q = sym (ap (λ (k : ℕ). sets out (w * c) (flat (replicate k x))) h ∙ ap (sets out (w * c)) (f .nil)) ∙ q
+  -- one thing of those to store from thing number c on
+  pub one-stored : (x : A) (xs : List A) (out out′ whole : List ℤ) (c : ℕ) → out′ ≡ sets out (w * c) (one x) → sets out (w * c) (flat (x ∷ xs)) ≡ whole
+      → sets out′ (w * (c + 1)) (flat xs) ≡ whole
+  one-stored x xs out out′ whole c e q =
+      let p : w * (c + 1) ≡ w * c + length (one x) = rw (add-one c, mul-suc w c, f .long x) in
+      rw (e, p) (sets-append (one x) (flat xs) out (w * c) ∙ ap (sets out (w * c)) (sym (f .cons x xs)) ∙ q)
 
   -- more things behind those before, of which there are n
   module _ (pre more : List A) (vs : List ℤ) (n : ℕ) (en : length pre ≡ n) (ev : flat more ≡ vs) where

@@ -2,16 +2,17 @@
 // Nothing is stored before 18 has been judged.
 ghost use Prim.Native.Nat.{_+_, _*_, _≤_, _<_};
 ghost use mathlib.Core.Path.{_≡_};
-ghost use mathlib.Core.Bool.{true};
-ghost use lib.ListN.{length};
+ghost use mathlib.Core.Bool.{true, cond};
+ghost use lib.ListN.{length, drop};
 ghost use lib.Seq.{sets};
 ghost use Rattle.label.specs.Outcome.{ok};
-ghost use Rattle.label.specs.Run.{read as readLabel};
+ghost use Rattle.label.specs.Text.{isPair};
+ghost use Rattle.label.specs.Run.{tail, read as readLabel};
 ghost use Rattle.label.specs.Sound.{indexNumber, advanceNumber, advanceFits, flatClusters, flatGlyphs};
 ghost use Rattle.label.specs.Rounded.{rounded as roundedIn, beside};
 ghost use Rattle.label.specs.Calls.{readingOutcome, readingRounded, readInto, counted, unitsAfter, clustersAfter, glyphsAfter};
 ghost use Rattle.text.specs.Texts.{unitsStart};
-ghost use Rattle.survey.specs.Steps.{advanced, tailParts};
+ghost use Rattle.survey.specs.Steps.{advanced};
 ghost use Rattle.reader.specs.Stores.{takenBy, openedHere, glyphPlaces, Storable};
 
 fn index_number(i: label::Index) -> i32
@@ -62,17 +63,30 @@ fn put_cluster(out: &mut [i32], lack: usize, n: usize, a: usize, b: usize)
     }
 }
 
-// A tail of m units, from cluster n and glyph k on.
-fn fill_tail(m: usize, n: usize, k: usize, clusters: &mut [i32], glyphs: &mut [i32])
-    requires { ⌜ (2 * (n + m) ≤ length (now clusters)) × (4 * (k + m) ≤ length (now glyphs)) ⌝ }
-    ensures { λ _. ⌜ now (clusters .exit) ≡ sets (now (clusters .entry)) (2 * n) (flatClusters (tailParts m .clusters)) ⌝ }
-    ensures { λ _. ⌜ now (glyphs .exit) ≡ sets (now (glyphs .entry)) (4 * k) (flatGlyphs (tailParts m .glyphs)) ⌝ }
+// How many units the tail's cluster at unit j has.
+fn tail_units(units: &[u16], j: usize) -> usize
+    requires { ⌜ j ≤ length (now units) ⌝ }
+    ensures { λ r. ⌜ r ≡ cond (isPair (drop j (now (units .entry)))) 2 1 ⌝ }
 {
-    let mut rest = m;
+    if text_bytes::is_pair_at(units, j) {
+        2
+    } else {
+        1
+    }
+}
+
+// The tail of these units, from cluster n and glyph k on.
+fn fill_tail(units: &[u16], n: usize, k: usize, clusters: &mut [i32], glyphs: &mut [i32])
+    requires { ⌜ (2 * (n + length (tail (now units) .clusters)) ≤ length (now clusters)) × (4 * (k + length (tail (now units) .glyphs)) ≤ length (now glyphs)) ⌝ }
+    ensures { λ _. ⌜ now (clusters .exit) ≡ sets (now (clusters .entry)) (2 * n) (flatClusters (tail (now (units .entry)) .clusters)) ⌝ }
+    ensures { λ _. ⌜ now (glyphs .exit) ≡ sets (now (glyphs .entry)) (4 * k) (flatGlyphs (tail (now (units .entry)) .glyphs)) ⌝ }
+{
+    let mut j = 0;
     let mut c = n;
     let mut g = k;
-    while rest != 0 {
-        put_cluster(clusters, 0, c, 1, 1);
+    while j < units.len() {
+        let a = tail_units(units, j);
+        put_cluster(clusters, 0, c, a, 1);
         put_glyph(
             glyphs,
             g,
@@ -83,7 +97,7 @@ fn fill_tail(m: usize, n: usize, k: usize, clusters: &mut [i32], glyphs: &mut [i
                 v: 0,
             },
         );
-        rest -= 1;
+        j += a;
         c += 1;
         g += 1;
     }
@@ -170,7 +184,8 @@ pub fn fill(
             }
         }
     }
-    fill_tail(count - at.unit, at.clusters, at.entry, clusters, glyphs);
+    let unit = at.unit;
+    fill_tail(&units[unit..count], at.clusters, at.entry, clusters, glyphs);
 }
 
 // The reading of a label: 1 to 18 in order, or its run is stored.

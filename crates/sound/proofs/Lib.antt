@@ -1,3 +1,4 @@
 pub mod Parts
+pub mod Fonts
 pub mod Sounds
 pub mod Facts

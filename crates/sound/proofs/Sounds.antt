@@ -13,7 +13,7 @@ use lib.Seq.{drop-drop, getD-drop}
 use Rattle.label.specs.Limits.{maxUnits, maxGlyphs, maxIndex, maxThousandths}
 use Rattle.label.specs.Bytes.{empty}
 use Rattle.label.specs.Run.{named, cluster}
-use Rattle.label.specs.Sound.{nat, natural, indexFits, advanceFits, numberIndex, numberAdvance, glyphFits, mayOpen, wholeClusters, wholeGlyphs, properUnits, fits, clustersOf, glyphsOf, soundRun, sound}
+use Rattle.label.specs.Sound.{nat, natural, indexFits, advanceFits, numberIndex, numberAdvance, glyphFits, allFont, mayOpen, wholeClusters, wholeGlyphs, properUnits, fits, clustersOf, glyphsOf, soundRun, sound}
 use Rattle.label.specs.declared.Glyph.{Glyph}
 use Rattle.label.specs.declared.Cluster.{Cluster}
 use Rattle.label.proofs.Basics.{and-l, and-r, cases}
@@ -21,6 +21,7 @@ use Rattle.sound.specs.Sounds.{opensAt}
 use Rattle.words.specs.Places.{clusterAt, glyphAt, place}
 use Rattle.words.proofs.Signs.{named-is}
 use Rattle.text_bytes.proofs.Units.{stops, goes}
+use Rattle.sound.proofs.Fonts.{fontAt}
 use Rattle.sound.proofs.Parts.{none-left, glyphs-at, glyphs-end, clusters-at, clusters-end, glyph-count}
 
 pub and-of : {r a b a′ b′ : Bool} → r ≡ (a && b) → a ≡ a′ → b ≡ b′ → r ≡ (a′ && b′)
@@ -52,16 +53,16 @@ pred-suc n = omega arith
 unfoldable pub fitsAt : Bool → List ℕ → List ℤ → List ℤ → ℕ → ℕ → ℕ → ℕ → Bool
 fitsAt bare us cs gs lack at i k = fits bare lack (drop at us) (clustersOf (drop i cs)) (glyphsOf (drop k gs))
 
-opens-is : (bare : Bool) (us : List ℕ) (at a b : ℕ) (g : Glyph)
-    → mayOpen bare (drop at us) (cluster a b) g ≡ opensAt bare us at a b (named (g .index))
+opens-is : (bare : Bool) (us : List ℕ) (at a b : ℕ) (g : Glyph) (gs : List Glyph)
+    → mayOpen bare (drop at us) (cluster a b) g gs ≡ opensAt bare us at a b (named (g .index)) (allFont (g ∷ gs))
 unfolding opensAt
-opens-is true us at a b g = refl
-opens-is false us at a b g = simp (length-drop, getD-drop)
+opens-is true us at a b g gs = refl
+opens-is false us at a b g gs = simp (length-drop, getD-drop)
 
-pub opens-within : (bare : Bool) (us : List ℕ) (at a b : ℕ) (n : Bool) → at ≤ length us → opensAt bare us at a b n ≡ true → at + a ≤ length us
+pub opens-within : (bare : Bool) (us : List ℕ) (at a b : ℕ) (n f : Bool) → at ≤ length us → opensAt bare us at a b n f ≡ true → at + a ≤ length us
 unfolding opensAt
-opens-within true us at a b n h e = let z : a ≡ 0 = eqb-true a 0 (and-l _ _ (and-l _ _ e)) in omega arith
-opens-within false us at a b n h e =
+opens-within true us at a b n f h e = let z : a ≡ 0 = eqb-true a 0 (and-l _ _ (and-l _ _ e)) in omega arith
+opens-within false us at a b n f h e =
     let z : a ≤ length us - at = leb-true a (length us - at) (and-r (leb 1 a && leb 1 b) _ (and-l _ _ (and-l _ _ e))) in omega arith
 
 module _ (bare : Bool) (us : List ℕ) (cs gs : List ℤ) (lack at i k : ℕ) where
@@ -85,7 +86,7 @@ module _ (bare : Bool) (us : List ℕ) (cs gs : List ℤ) (lack at i k : ℕ) wh
   fits-none h l e = rw (glyphs-at gs k h, clusters-end cs i e, l, fits)
 
   pub fits-opens : 4 ≤ length gs - k → lack ≡ 0 → 2 ≤ length cs - i
-      → here ≡ (glyphFits g && opensAt bare us at (nat (place cs i)) (nat (place cs (i + 1))) (named (g .index)) && fitsAt bare us cs gs (nat (place cs (i + 1)) - 1) (at + nat (place cs i)) (i + 2) (k + 4))
+      → here ≡ (glyphFits g && opensAt bare us at (nat (place cs i)) (nat (place cs (i + 1))) (named (g .index)) (fontAt gs k) && fitsAt bare us cs gs (nat (place cs (i + 1)) - 1) (at + nat (place cs i)) (i + 2) (k + 4))
   unfolding fitsAt fits clusterAt
   fits-opens h l e = rw (glyphs-at gs k h, clusters-at cs i e, l, fits, opens-is, drop-drop)
 
@@ -121,9 +122,9 @@ module _ (gs : List ℤ) (k : ℕ) {m n : Bool} (e : m ≡ glyphFits (glyphAt gs
   pub flagged : n ≡ (glyphFits (glyphAt gs k) && named (glyphAt gs k .index))
   flagged = rw well named-here
 
-  pub opened : (bare : Bool) (us : List ℕ) (at a b a′ b′ : ℕ) {x : Bool} → a ≡ a′ → b ≡ b′ → x ≡ opensAt bare us at a b n
-      → x ≡ (glyphFits (glyphAt gs k) && opensAt bare us at a′ b′ (named (glyphAt gs k .index)))
-  opened bare us at a b a′ b′ p q e = rw (well, ← p, ← q, ← named-here) e
+  pub opened : (bare : Bool) (us : List ℕ) (at a b a′ b′ : ℕ) {p x : Bool} → a ≡ a′ → b ≡ b′ → fontAt gs k ≡ p → x ≡ opensAt bare us at a b n p
+      → x ≡ (glyphFits (glyphAt gs k) && opensAt bare us at a′ b′ (named (glyphAt gs k .index)) (fontAt gs k))
+  opened bare us at a b a′ b′ ea eb ep e = rw (well, ← ea, ← eb, ← named-here, ep) e
 
 -- ── the whole test ──
 

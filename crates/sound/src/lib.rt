@@ -7,7 +7,7 @@ ghost use Rattle.label.specs.Limits.{maxThousandths};
 ghost use Rattle.label.specs.Bytes.{empty};
 ghost use Rattle.label.specs.Sound.{size, indexFits, advanceFits, glyphFits, numberIndex, numberAdvance, wholeClusters, wholeGlyphs, fits, clustersOf, glyphsOf, sound};
 ghost use Rattle.words.specs.Places.{glyphAt, place};
-ghost use Rattle.sound.specs.Sounds.{opensAt};
+ghost use Rattle.sound.specs.Sounds.{opensAt, tailPairAt, FontFrom};
 
 // ── the limits of a glyph, whose four numbers begin at place k ──
 
@@ -79,10 +79,35 @@ fn whole_glyphs(s: &[i32]) -> bool
 
 // ── the clusters over the units and the glyphs ──
 
-// Whether a cluster of a units and b glyphs may stand from unit `at` on. `bare`: the run has no units; `named`: its first glyph names an index.
-fn opens_at(bare: bool, us: &[u16], at: usize, a: usize, b: usize, named: bool) -> bool
+// The place of the first glyph from which on every glyph is wholly the font's.
+fn font_from(gs: &[i32]) -> usize
+    ensures { λ r. ⌜ FontFrom (now (gs .entry)) r ⌝ }
+{
+    let mut k = gs.len() - gs.len() % 4;
+    while 4 <= k {
+        if !words::is_font_at(gs, k - 4) {
+            return k;
+        }
+        k -= 4;
+    }
+    k
+}
+
+// Whether a cluster of a units and b glyphs is a pair of the tail. `font`: its glyph and all behind it are wholly the font's.
+fn is_tail_pair(us: &[u16], at: usize, a: usize, b: usize, font: bool) -> bool
+    requires { ⌜ at ≤ length (now us) ⌝ }
+    ensures { λ r. ⌜ r ≡ tailPairAt (now (us .entry)) at a b font ⌝ }
+{
+    let counts = words::both(a == 2, b == 1);
+    let pair = text_bytes::is_pair_at(us, at);
+    words::both(words::both(counts, pair), font)
+}
+
+// Whether a cluster of a units and b glyphs may stand from unit `at` on. `bare`: the run has no units; `named`: its first glyph names an index; `font`: it and
+// all glyphs behind it are wholly the font's.
+fn opens_at(bare: bool, us: &[u16], at: usize, a: usize, b: usize, named: bool, font: bool) -> bool
     requires { ⌜ (at ≤ length (now us)) × (a < 4294967296) ⌝ }
-    ensures { λ r. ⌜ r ≡ opensAt bare (now (us .entry)) at a b named ⌝ }
+    ensures { λ r. ⌜ r ≡ opensAt bare (now (us .entry)) at a b named font ⌝ }
 {
     if bare {
         return words::both(words::both(a == 0, b == 1), named);
@@ -90,8 +115,11 @@ fn opens_at(bare: bool, us: &[u16], at: usize, a: usize, b: usize, named: bool) 
     let counts = words::both(1 <= a, 1 <= b);
     let inside = words::both(counts, a <= us.len() - at);
     let split = text_bytes::is_low(text_bytes::unit_or_zero(us, at + a));
-    let index = words::either(named, words::both(a == 1, b == 1));
-    words::both(words::both(inside, !split), index)
+    let stands = words::both(inside, !split);
+    if words::either(named, words::both(a == 1, b == 1)) {
+        return stands;
+    }
+    words::both(stands, is_tail_pair(us, at, a, b, font))
 }
 
 // Whether the clusters use up the units and the glyphs, and each glyph keeps the limits. `lack`: glyphs that the open cluster still lacks.
@@ -99,6 +127,7 @@ fn fits_run(us: &[u16], cs: &[i32], gs: &[i32]) -> bool
     ensures { λ r. ⌜ r ≡ fits (empty (now (us .entry))) 0 (now (us .entry)) (clustersOf (now (cs .entry))) (glyphsOf (now (gs .entry))) ⌝ }
 {
     let bare = us.len() == 0;
+    let font_start = font_from(gs);
     let mut lack = 0;
     let mut at = 0;
     let mut i = 0;
@@ -108,6 +137,7 @@ fn fits_run(us: &[u16], cs: &[i32], gs: &[i32]) -> bool
             return false;
         }
         let named = words::natural_at(gs, k);
+        let font = font_start <= k;
         k += 4;
         if 0 < lack {
             if !named {
@@ -121,7 +151,7 @@ fn fits_run(us: &[u16], cs: &[i32], gs: &[i32]) -> bool
         }
         let a = words::widened(words::nat_at(cs, i));
         let b = words::widened(words::nat_at(cs, i + 1));
-        if !opens_at(bare, us, at, a, b, named) {
+        if !opens_at(bare, us, at, a, b, named, font) {
             return false;
         }
         at += a;

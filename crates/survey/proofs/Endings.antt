@@ -1,146 +1,76 @@
 -- The tail behind the entries, and the counts of the run.
 -- Assumes nothing.
-use Prim.Native.Nat.{ℕ, suc, _+_, _-_, _≤_, _<_}
+use Prim.Native.Nat.{ℕ, suc, _+_, _≤_, _<_}
 use native.Mathlib.Omega.{arith}
 use native.Mathlib.Nat.{zero-add}
-use native.Mathlib.Numerals.{add-one}
-use mathlib.Core.Path.{_≡_, refl, sym, _∙_, ap, subst}
+use mathlib.Core.Path.{_≡_, refl, sym, _∙_, ap}
 use mathlib.Core.Bool.{Bool, true, false, _&&_}
-use mathlib.Core.List.{List, [], _∷_}
-use borrow.Author.Tests.{leb-true}
+use mathlib.Core.List.{List, []}
 use lib.Dec.{eqb, leb}
-use lib.ListN.{length, drop, length-append, length-drop, length-replicate}
+use lib.ListN.{length, drop, length-append}
 use Rattle.label.specs.Outcome.{Outcome, ok, no, need, _>>=_, _>>_}
 use Rattle.label.specs.Bytes.{empty}
 use Rattle.label.specs.Text.{decode}
 use Rattle.label.specs.Entry.{entries}
-use Rattle.label.specs.Run.{Run, Parts, start, walk, tail, whole, before, cluster, fontGlyph, runFrom}
+use Rattle.label.specs.Run.{Run, Parts, start, walk, tail, runFrom}
 use Rattle.label.specs.Calls.{refusal, readingOutcome, counted}
 use Rattle.label.specs.declared.Cursor.{Cursor}
 use Rattle.label.specs.declared.Reading.{Reading}
 use Rattle.label.specs.declared.Reading.the-variants.{Refused}
-use Rattle.label.proofs.Basics.{clash, need-ok, bind-ok}
+use Rattle.label.proofs.Tails.{tail-nil, tail-even, tail-few, tail-char}
 use Rattle.label.proofs.Walks.{ok-path}
-use Rattle.label.proofs.Cursors.{joined, after, decode-end}
+use Rattle.label.proofs.Cursors.{joined, decode-end}
 use Rattle.text.specs.Chars.{charAt}
-use Rattle.text.specs.Moves.{unitsFrom, Moves}
-use Rattle.text.specs.declared.Char.the-variants.{Good, Ill, Outside}
-use Rattle.text.specs.declared.Moved.the-variants.{To}
-use Rattle.text.proofs.Moves.{left-start, left-one, left-half, left-done, left-no-ill, left-no-outside}
-use Rattle.survey.specs.declared.Tail.{Tail}
-use Rattle.survey.specs.declared.Tail.the-variants.{Plain, Pair}
-use Rattle.survey.specs.Steps.{tailParts, Tails, limited, countedFrom}
+use Rattle.text.specs.Moves.{unitsFrom}
+use Rattle.text.specs.declared.Char.the-variants.{Good}
+use Rattle.text.proofs.Moves.{Here, here-good}
+use Rattle.survey.specs.Steps.{limited, countedFrom}
 use Rattle.survey.proofs.Entries.{empty-eqb}
-use Rattle.survey.proofs.Walking.{nothing, after-none, after-after, Stands, Ready, At, units-at, units-here, ends-shut}
+use Rattle.survey.proofs.Walking.{Stands, Ready, At, units-here, ends-shut}
 
--- ── the tail's parts ──
+-- ── the tail's clusters, a character each ──
 
-pub tail-is : (us : List ℕ) (at : ℕ) (q : Parts) → tail at us ≡ ok q → tailParts (length us) ≡ q
-unfolding tail
-tail-is [] at q h = ok-path nothing q h
-tail-is (u ∷ us) at q h =
-    let (t, b) = need-ok (whole 0 us) 13 (suc at) _ q h in
-    let (p, a, d) = bind-ok (tail (suc at) us) _ q b in
-    ap (λ (y : Parts). before true (cluster 1 1) fontGlyph y) (tail-is us (suc at) p a) ∙ ok-path _ q d
+-- at byte b, n of the tail's clusters are counted; those of the units from there on are left
+pub record Counting (text : List ℕ) (byte b n : ℕ) : Type 0 where
+  pub rest : List ℕ
+  pub here : decode 0 b (drop b text) ≡ ok rest
+  pub count : n + length (tail rest .clusters) ≡ length (tail (unitsFrom text byte) .clusters)
 
--- ── one unit of it ──
+pub counting-start : (text : List ℕ) (byte : ℕ) → decode 0 byte (drop byte text) ≡ ok (unitsFrom text byte) → Counting text byte byte 0
+counting-start text byte h = record { rest = unitsFrom text byte; here = h; count = zero-add (length (tail (unitsFrom text byte) .clusters)) }
 
-tail-one : (us : List ℕ) (at : ℕ) → leb 1 (length us) ≡ true → whole 1 us ≡ true → tail at us ≡ after (tailParts 1) (tail (suc at) (drop 1 us))
-unfolding tail
-tail-one [] at h w = clash false h refl
-tail-one (u ∷ us) at h w = rw w (go (tail (suc at) us))
-  where
-    go : (o : Outcome Parts) → (o >>= (λ p. ok (before true (cluster 1 1) fontGlyph p))) ≡ after (before true (cluster 1 1) fontGlyph nothing) o
-    go (ok p) = refl
-    go (no n p) = refl
+module _ {text : List ℕ} {byte b n : ℕ} (x : Counting text byte b n) where
+  pub counting-few : length (unitsFrom text byte) ≤ 4096 → n ≤ 4096
+  counting-few h = omega (arith, x .count, tail-few (unitsFrom text byte))
 
-tail-half : (us : List ℕ) (at : ℕ) → leb 1 (length us) ≡ true → whole 1 us ≡ false → tail at us ≡ no 13 (suc at)
-unfolding tail
-tail-half [] at h w = clash true refl w
-tail-half (u ∷ us) at h w = rw w
+  pub counting-next : {code next : ℕ} → b < length text → charAt text b ≡ Good code next → Counting text byte next (n + 1)
+  counting-next {code} {next} l g =
+      let y : Here text b code next (x .rest) = here-good text b code next (x .rest) (x .here) l g in
+      let e : length (tail (x .rest) .clusters) ≡ suc (length (tail (y .others) .clusters)) =
+      ap (λ (us : List ℕ). length (tail us .clusters)) (sym (y .is)) ∙ rw (tail-char code (y .others) (y .xml)) in
+      record { rest = y .others; here = y .next; count = omega (arith, x .count) }
 
--- ── the walk over it ──
-
--- at byte b and unit j, behind `pre`
-pub record Passing (text : List ℕ) (byte unit b j : ℕ) : Type 0 where
-  pub pre : Parts
-  pub decodes : decode 0 b (drop b text) ≡ ok (unitsFrom text b)
-  pub so-far : tail unit (unitsFrom text byte) ≡ after pre (tail j (unitsFrom text b))
-  pub few : j + length (unitsFrom text b) ≤ 4096
-
-pub passing-start : (text : List ℕ) (byte unit : ℕ) → decode 0 byte (drop byte text) ≡ ok (unitsFrom text byte) → unit + length (unitsFrom text byte) ≤ 4096
-    → Passing text byte unit byte unit
-passing-start text byte unit d f =
-    record { pre = nothing; decodes = d; so-far = after-none (tail unit (unitsFrom text byte)); few = f }
-
-module _ (text : List ℕ) (byte unit b j : ℕ) (x : Passing text byte unit b j) (l : b < length text) where
-  one-on : (code n : ℕ) → charAt text b ≡ Good code n → code ≤ 65535 → Moves text b 1 (To n)
-  one-on code n g k =
-      left-done text b 1 n (1 - 1) (left-one text b 1 b 1 code n (left-start text b 1 (x .decodes)) (λ q. clash true refl cc) l g k) refl
-
-  pub passing-one : (code n : ℕ) → charAt text b ≡ Good code n → code ≤ 65535 → Passing text byte unit n (j + 1)
-  passing-one code n g k =
-      let m = one-on code n g k in
-      let e : unitsFrom text n ≡ drop 1 (unitsFrom text b) = units-at text n (drop 1 (unitsFrom text b)) (m .2) in
-      let f : 1 ≤ length (unitsFrom text b) = leb-true 1 (length (unitsFrom text b)) (m .0) in
-      let q : length (unitsFrom text n) ≡ length (unitsFrom text b) - 1 = ap length e ∙ length-drop 1 (unitsFrom text b) in
-      record {
-        pre = joined (x .pre) (tailParts 1);
-        decodes = m .2 ∙ ap ok (sym e);
-        so-far =
-            x .so-far
-            ∙ ap (after (x .pre)) (tail-one (unitsFrom text b) j (m .0) (m .1))
-            ∙ after-after (x .pre) (tailParts 1) (tail (suc j) (drop 1 (unitsFrom text b)))
-            ∙ ap (λ (r : List ℕ). after (joined (x .pre) (tailParts 1)) (tail (suc j) r)) (sym e)
-            ∙ rw (add-one j);
-        few = omega (arith, x .few);
-      }
-
-  pub passing-pair : (code n : ℕ) → charAt text b ≡ Good code n → 65535 < code → Tails text byte unit (Pair (j + 1))
-  unfolding Tails
-  passing-pair code n g k =
-      let m = left-half text b 1 b 1 code n (left-start text b 1 (x .decodes)) refl l g k in
-      x .so-far ∙ ap (after (x .pre)) (tail-half (unitsFrom text b) j (m .0) (m .1)) ∙ rw (add-one j)
-
-  pub passing-no-ill : {A : Type 0} → charAt text b ≡ Ill → A
-  passing-no-ill g = left-no-ill text b 0 b 0 (left-start text b 0 (x .decodes)) l g
-
-  pub passing-no-outside : {A : Type 0} → charAt text b ≡ Outside → A
-  passing-no-outside g = left-no-outside text b 0 b 0 (left-start text b 0 (x .decodes)) l g
-
-pub passing-end : (text : List ℕ) (byte unit b j : ℕ) → Passing text byte unit b j → length text ≤ b → Tails text byte unit Plain
-unfolding Tails tail
-passing-end text byte unit b j x l =
-    let e : unitsFrom text b ≡ [] = ok-path (unitsFrom text b) [] (sym (x .decodes) ∙ decode-end text b l) in
-    let q : tail unit (unitsFrom text byte) ≡ ok (joined (x .pre) nothing) = x .so-far ∙ ap (λ (r : List ℕ). after (x .pre) (tail j r)) e in
-    q ∙ ap ok (sym (tail-is (unitsFrom text byte) unit (joined (x .pre) nothing) q))
+  pub counting-end : length text ≤ b → n ≡ length (tail (unitsFrom text byte) .clusters)
+  counting-end l =
+      let e : [] ≡ x .rest = ok-path [] (x .rest) (sym (decode-end text b l) ∙ x .here) in
+      let z : length (tail (x .rest) .clusters) ≡ 0 = rw (← e, tail-nil) in
+      omega (arith, x .count)
 
 -- ── counts ──
 
 pub refused-outcome : (r : Reading) (n p : ℕ) → r ≡ Refused (refusal n p) → readingOutcome r ≡ no n p
 refused-outcome r n p h = rw h
 
-module _ (text : List ℕ) (count : ℕ) (c : Cursor) where
-  pub tail-plain : (t : Tail) → Tails text (c .byte) (c .unit) t → t ≡ Plain → c .unit + length (unitsFrom text (c .byte)) ≡ count
-      → limited count (c .clusters + (count - c .unit)) (c .entry + (count - c .unit)) ≡ countedFrom count (c .clusters) (c .entry) (tail (c .unit) (unitsFrom text (c .byte)))
-  unfolding countedFrom Tails
-  tail-plain t h e q =
-      let n : count - c .unit ≡ length (unitsFrom text (c .byte)) = omega arith in
-      let h′ : tail (c .unit) (unitsFrom text (c .byte)) ≡ ok (tailParts (length (unitsFrom text (c .byte)))) = subst (Tails text (c .byte) (c .unit)) e h in
-      rw (h′, n, length-replicate (length (unitsFrom text (c .byte))) (cluster 1 1), length-replicate (length (unitsFrom text (c .byte))) fontGlyph)
-
-  pub tail-pair : (t : Tail) (p : ℕ) (r : Reading) → Tails text (c .byte) (c .unit) t → t ≡ Pair p → r ≡ Refused (refusal 13 p)
-      → readingOutcome r ≡ countedFrom count (c .clusters) (c .entry) (tail (c .unit) (unitsFrom text (c .byte)))
-  unfolding countedFrom Tails
-  tail-pair t p r h e q =
-      let h′ : tail (c .unit) (unitsFrom text (c .byte)) ≡ no 13 p = subst (Tails text (c .byte) (c .unit)) e h in
-      rw (q, h′)
-
-counted-after : (n : ℕ) (pre : Parts) (o : Outcome Parts) → countedFrom n (length (pre .clusters)) (length (pre .glyphs)) o ≡ countedFrom n 0 0 (after pre o)
+-- the counts with a tail of n clusters: it has as many glyphs
+pub tail-counted : (us : List ℕ) (n u c g : ℕ) → n ≡ length (tail us .clusters) → limited u (c + n) (g + n) ≡ countedFrom u c g (ok (tail us))
 unfolding countedFrom
-counted-after n pre (ok q) =
+tail-counted us n u c g e = rw (e, tail-even us)
+
+-- the counts with the parts of the entries before
+counted-after : (n : ℕ) (pre q : Parts) → countedFrom n (length (pre .clusters)) (length (pre .glyphs)) (ok q) ≡ countedFrom n 0 0 (ok (joined pre q))
+unfolding countedFrom
+counted-after n pre q =
     rw (length-append (pre .clusters) (q .clusters), length-append (pre .glyphs) (q .glyphs), zero-add (length (pre .clusters) + length (q .clusters)), zero-add (length (pre .glyphs) + length (q .glyphs)))
-counted-after n pre (no i p) = refl
 
 module _ (us s : List ℕ) where
   abbrev runWith : Parts → Run
@@ -170,12 +100,12 @@ module _ (us s : List ℕ) where
 
   pub run-tail : (n : ℕ) → n ≡ length us → (pre : Parts) (lack : ℕ) (c : Cursor) (text : List ℕ) → Stands us s pre lack c → Ready us s c → At text us c
       → length s < c .place → c .lack ≡ 0 → (empty us && empty s) ≡ false
-      → countedFrom n (c .clusters) (c .entry) (tail (c .unit) (unitsFrom text (c .byte))) ≡ counted (runFrom us s)
+      → countedFrom n (c .clusters) (c .entry) (ok (tail (unitsFrom text (c .byte)))) ≡ counted (runFrom us s)
   run-tail n en pre lack c text st rd at hi z h =
-      let o = tail (c .unit) (drop (c .unit) us) in
-      ap (λ (m : ℕ). countedFrom m (c .clusters) (c .entry) (tail (c .unit) (unitsFrom text (c .byte)))) en
-      ∙ ap (λ (r : List ℕ). countedFrom (length us) (c .clusters) (c .entry) (tail (c .unit) r)) (units-here text us c at)
-      ∙ ap (λ (m : ℕ). countedFrom (length us) m (c .entry) o) (sym (st .clusters-are))
-      ∙ ap (λ (m : ℕ). countedFrom (length us) (length (pre .clusters)) m o) (sym (st .glyphs-are))
-      ∙ counted-after (length us) pre o
+      let q : Parts = tail (drop (c .unit) us) in
+      ap (λ (m : ℕ). countedFrom m (c .clusters) (c .entry) (ok (tail (unitsFrom text (c .byte))))) en
+      ∙ ap (λ (r : List ℕ). countedFrom (length us) (c .clusters) (c .entry) (ok (tail r))) (units-here text us c at)
+      ∙ ap (λ (m : ℕ). countedFrom (length us) m (c .entry) (ok q)) (sym (st .clusters-are))
+      ∙ ap (λ (m : ℕ). countedFrom (length us) (length (pre .clusters)) m (ok q)) (sym (st .glyphs-are))
+      ∙ counted-after (length us) pre q
       ∙ sym (run-counted h ∙ ap (countedFrom (length us) 0 0) (ends-shut us s pre lack c st rd hi z))

@@ -50,7 +50,7 @@ pub after-after : (p q : Parts) (o : Outcome Parts) → after p (after q o) ≡ 
 after-after p q (ok r) = rw (append-assoc (p .clusters) (q .clusters) (r .clusters), append-assoc (p .glyphs) (q .glyphs) (r .glyphs))
 after-after p q (no n m) = refl
 
-pub walk-end : (bare : Bool) (st : State) → walk bare st [] ≡ (need (opens st) 14 (st .opener) >> tail (st .at) (st .rest))
+pub walk-end : (bare : Bool) (st : State) → walk bare st [] ≡ (need (opens st) 14 (st .opener) >> ok (tail (st .rest)))
 unfolding walk
 walk-end bare st = refl
 
@@ -387,6 +387,6 @@ module _ (us s : List ℕ) (pre : Parts) (lack : ℕ) (c : Cursor) (st : Stands 
   unfolding walk
   ends-open h = st .so-far ∙ rw (left-none s (c .place) hi, open-end, ne-eqb (c .lack) 0 h)
 
-  pub ends-shut : c .lack ≡ 0 → walk (empty us) (start us) (entries s) ≡ after pre (tail (c .unit) (drop (c .unit) us))
+  pub ends-shut : c .lack ≡ 0 → walk (empty us) (start us) (entries s) ≡ ok (joined pre (tail (drop (c .unit) us)))
   unfolding walk
   ends-shut h = st .so-far ∙ rw (left-none s (c .place) hi, open-end, eq-eqb (c .lack) 0 h)

@@ -1,17 +1,17 @@
--- What the first pass's steps come to, over label's definitions: the cursor in the place of label's state, one entry, and the tail.
+-- What the first pass's steps come to, over label's definitions: the cursor in the place of label's state, one entry, and the counts.
 -- Assumes nothing.
 use Prim.Native.Nat.{ℕ, _+_, _-_}
 use mathlib.Core.Path.{_≡_}
 use mathlib.Core.Bool.{Bool, true, cond}
 use mathlib.Core.List.{List}
 use lib.Dec.{leb, eqb}
-use lib.ListN.{length, drop, replicate}
+use lib.ListN.{length, drop}
 use Rattle.label.specs.Limits.{maxGlyphs}
 use Rattle.label.specs.Outcome.{Outcome, ok, no, need, _>>_}
 use Rattle.label.specs.Bytes.{empty}
 use Rattle.label.specs.Text.{decode}
 use Rattle.label.specs.Entry.{Entry}
-use Rattle.label.specs.Run.{Parts, State, takes, placed, tail, whole, cluster, fontGlyph}
+use Rattle.label.specs.Run.{Parts, State, takes, placed, whole}
 use Rattle.label.specs.declared.Cursor.{Cursor}
 use Rattle.label.specs.declared.Counts.{Counts}
 use Rattle.label.specs.declared.Refusal.{Refusal}
@@ -22,8 +22,6 @@ use Rattle.entry.specs.declared.EntryRead.{EntryRead}
 use Rattle.entry.specs.declared.EntryRead.the-variants.{Read, Refused}
 use Rattle.survey.specs.declared.Turn.{Turn}
 use Rattle.survey.specs.declared.Turn.the-variants.{Took, Stopped}
-use Rattle.survey.specs.declared.Tail.{Tail}
-use Rattle.survey.specs.declared.Tail.the-variants.{Plain, Pair}
 
 -- where the first entry starts; past the end where there is none
 abbrev pub firstPlace : List ℕ → ℕ
@@ -89,16 +87,7 @@ unfoldable pub Steps : Bool → List ℕ → List ℕ → Cursor → Turn → Ty
 Steps bare text s c (Took d n) = (x : Item) × (entryAt s c ≡ Read x) × Turns bare text c x (Took d n) × Carries (x .rounded) (Took d n)
 Steps bare text s c (Stopped r) = (o : EntryRead) × (entryAt s c ≡ o) × Stops bare text c r o
 
--- ── the tail ──
-
--- a tail of n units
-abbrev pub tailParts : ℕ → Parts
-tailParts n = record { clusters = replicate n (cluster 1 1); glyphs = replicate n fontGlyph }
-
--- what the tail from byte b and unit `at` on comes to: no pair, or the low half of the first
-unfoldable pub Tails : List ℕ → ℕ → ℕ → Tail → Type 0
-Tails text b at Plain = tail at (unitsFrom text b) ≡ ok (tailParts (length (unitsFrom text b)))
-Tails text b at (Pair p) = tail at (unitsFrom text b) ≡ no 13 p
+-- ── the counts ──
 
 -- 15
 abbrev pub limited : ℕ → ℕ → ℕ → Outcome Counts

@@ -11,7 +11,7 @@ ghost use Rattle.label.specs.Run.{named, tail, runFrom, read as readLabel};
 ghost use Rattle.label.specs.Rounded.{rounded as roundedIn, beside};
 ghost use Rattle.label.specs.Calls.{refusal, readingOutcome, readingRounded, counted};
 ghost use Rattle.text.specs.Moves.{unitsFrom};
-ghost use Rattle.survey.specs.Steps.{firstPlace, firstCursor, advanced, Opens, Turns, Carries, Steps, Tails, limited, countedFrom};
+ghost use Rattle.survey.specs.Steps.{firstPlace, firstCursor, advanced, Opens, Turns, Carries, Steps, limited, countedFrom};
 
 // ── one entry ──
 
@@ -153,39 +153,30 @@ fn survey_entry(text: &[u8], indices: &[u8], bare: bool, c: label::Cursor) -> Tu
 
 // ── the first pass ──
 
-// The tail has no pair, or this unit is the low half of its first one.
-enum Tail {
-    Plain,
-    Pair(usize),
-}
-
-// The tail from byte `byte` and unit `unit` on: 13.
-fn find_pair(text: &[u8], byte: usize, unit: usize) -> Tail
+// How many clusters the tail from a byte on has, each with one glyph: one for a character.
+fn count_tail(text: &[u8], byte: usize) -> usize
     requires { ⌜ decode 0 byte (drop byte (now text)) ≡ ok (unitsFrom (now text) byte) ⌝ }
-    requires bounds { ⌜ unit + length (unitsFrom (now text) byte) ≤ maxUnits ⌝ }
-    ensures { λ r. ⌜ Tails (now (text .entry)) byte unit r ⌝ }
+    requires bounds { ⌜ length (unitsFrom (now text) byte) ≤ maxUnits ⌝ }
+    ensures { λ r. ⌜ r ≡ length (tail (unitsFrom (now (text .entry)) byte) .clusters) ⌝ }
 {
     let mut b = byte;
-    let mut j = unit;
+    let mut n = 0;
     while b < text.len() {
         match text::char_at(text, b) {
-            text::Char::Good { code, next } => {
-                j += 1;
-                if 0xffff < code {
-                    return Tail::Pair(j);
-                }
+            text::Char::Good { code: _, next } => {
+                n += 1;
                 b = next;
             }
             // A text with units has no such character.
             text::Char::Ill => {
-                return Tail::Plain;
+                return n;
             }
             text::Char::Outside => {
-                return Tail::Plain;
+                return n;
             }
         }
     }
-    Tail::Plain
+    n
 }
 
 // The counts, of rounded fields too, or 15.
@@ -206,20 +197,15 @@ fn limit(units: usize, clusters: usize, glyphs: usize, rounded: usize) -> label:
     }
 }
 
-// The tail behind the entries, of a text of `count` units: 13 and 15. It gives no fields, so the count of rounded ones is that of the entries.
+// The tail behind the entries, of a text of `count` units: 15. It gives no fields, so the count of rounded ones is that of the entries.
 fn survey_tail(text: &[u8], count: usize, c: label::Cursor, rounded: usize) -> label::Reading
     requires { ⌜ decode 0 (c .byte) (drop (c .byte) (now text)) ≡ ok (unitsFrom (now text) (c .byte)) ⌝ }
     requires bounds { ⌜ (c .unit + length (unitsFrom (now text) (c .byte)) ≡ count) × (count ≤ maxUnits) × (c .entry ≤ maxIndicesBytes + 1) × (c .clusters ≤ c .entry) ⌝ }
-    ensures { λ r. ⌜ readingOutcome r ≡ countedFrom count (c .clusters) (c .entry) (tail (c .unit) (unitsFrom (now (text .entry)) (c .byte))) ⌝ }
+    ensures { λ r. ⌜ readingOutcome r ≡ countedFrom count (c .clusters) (c .entry) (ok (tail (unitsFrom (now (text .entry)) (c .byte)))) ⌝ }
     ensures rounded { λ r. ⌜ readingRounded r ≡ beside rounded (readingOutcome r) ⌝ }
 {
-    match find_pair(text, c.byte, c.unit) {
-        Tail::Plain => {
-            let rest = count - c.unit;
-            limit(count, c.clusters + rest, c.entry + rest, rounded)
-        }
-        Tail::Pair(unit) => label::Reading::refused(13, unit),
-    }
+    let rest = count_tail(text, c.byte);
+    limit(count, c.clusters + rest, c.entry + rest, rounded)
 }
 
 // Where the first entry starts; past the end where there is none.

@@ -70,10 +70,7 @@ left-next s at count b a k c j x l g e m =
       counts = rw (length-append (x .passed) (unitsOf c)) (omega (arith, x .counts, e, m));
     }
 
-pub left-one : (s : List ℕ) (at count b a c j : ℕ) → Left s at count b a → (a ≡ 0 → ⊥) → b < length s → charAt s b ≡ Good c j → c ≤ 65535 → Left s at count j (a - 1)
-left-one s at count b a c j x n l g k = left-next s at count b a 1 c j x l g (sym (ap length (one-is c k))) (omega (arith, n))
-
-pub left-half : (s : List ℕ) (at count b a c j : ℕ) → Left s at count b a → a ≡ 1 → b < length s → charAt s b ≡ Good c j → 65535 < c → Moves s at count Half
+left-half : (s : List ℕ) (at count b a c j : ℕ) → Left s at count b a → a ≡ 1 → b < length s → charAt s b ≡ Good c j → 65535 < c → Moves s at count Half
 left-half s at count b a c j x n l g k =
     let y : Here s b c j (x .r) = here-good s b c j (x .r) (x .here) l g in
     let e : (55296 + (c - 65536) / 1024) ∷ (56320 + (c - 65536) % 1024) ∷ y .others ≡ x .r = ap (λ (u : List ℕ). u ++ y .others) (sym (two-are c k)) ∙ y .is in

@@ -2,8 +2,8 @@
 ghost use mathlib.Core.Path.{_≡_};
 ghost use mathlib.Core.Bool.{false};
 ghost use Prim.Native.Nat.{_+_, _-_, _%_, _≤_, _<_};
-ghost use lib.ListN.{length, getD};
-ghost use Rattle.label.specs.Text.{isHigh, isLow};
+ghost use lib.ListN.{length, getD, drop};
+ghost use Rattle.label.specs.Text.{isHigh, isLow, isPair};
 ghost use Rattle.label.specs.Sound.{properUnits};
 ghost use Rattle.label.specs.Write.{utf8, paired, unitBytes, unitsBytes, textOf};
 ghost use Rattle.label.specs.Attribute.{escapeByte, asAsked};
@@ -30,6 +30,18 @@ pub fn unit_or_zero(us: &[u16], i: usize) -> u16
     ensures { λ r. ⌜ r ≡ getD (now (us .entry)) i 0 ⌝ }
 {
     if i < us.len() { us[i] } else { 0 }
+}
+
+// Whether the two units at i are the halves of one pair.
+pub fn is_pair_at(us: &[u16], i: usize) -> bool
+    requires { ⌜ i ≤ length (now us) ⌝ }
+    ensures { λ r. ⌜ r ≡ isPair (drop i (now (us .entry))) ⌝ }
+{
+    let high = is_high(unit_or_zero(us, i));
+    if !high {
+        return false;
+    }
+    is_low(unit_or_zero(us, i + 1))
 }
 
 // ── the units of a run ──

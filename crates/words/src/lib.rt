@@ -10,10 +10,10 @@ ghost use lib.ListN.{length, drop};
 ghost use mir.Syntax.{w32};
 ghost use mir.Val.{ofZ, toZ};
 ghost use Rattle.label.specs.Bytes.{begins, cut};
-ghost use Rattle.label.specs.Sound.{natural, choice, nat, size};
+ghost use Rattle.label.specs.Sound.{natural, choice, nat, size, isFont};
 ghost use Rattle.label.specs.Calls.{filled};
 ghost use Rattle.label.specs.Wire.{fromHalves, fromWords, halves, words};
-ghost use Rattle.words.specs.Places.{place};
+ghost use Rattle.words.specs.Places.{place, glyphAt};
 ghost use Rattle.words.specs.Words.{putHalf, halfAt, putWord, wordAt, putInt, intAt};
 ghost use Rattle.words.specs.Puts.{Put};
 
@@ -110,6 +110,18 @@ pub fn nat_at(s: &[i32], k: usize) -> u32
     ensures { λ r. ⌜ r ≡ nat (place (now (s .entry)) k) ⌝ }
 {
     if natural_at(s, k) { size_at(s, k) } else { 0 }
+}
+
+// whether the glyph whose four numbers begin there is wholly the font's
+pub fn is_font_at(s: &[i32], k: usize) -> bool
+    requires { ⌜ k + 3 < length (now s) ⌝ }
+    ensures { λ r. ⌜ r ≡ isFont (glyphAt (now (s .entry)) k) ⌝ }
+{
+    let named = natural_at(s, k);
+    let given = natural_at(s, k + 1);
+    let u = size_at(s, k + 2);
+    let v = size_at(s, k + 3);
+    both(both(both(!named, !given), u == 0), v == 0)
 }
 
 // ── bytes, low byte first ──

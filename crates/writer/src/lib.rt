@@ -30,13 +30,13 @@ fn put_semis(out: &mut [u8], at: usize, n: usize) -> usize
     p
 }
 
-// The entry of the glyph at place k, with the separators owed before it; nothing for an entry without bytes.
+// The entry of the glyph at place k, with the separators owed before it; nothing for a glyph wholly the font's, whose entry has no bytes.
 fn put_next(out: &mut [u8], at: usize, owed: usize, a: u32, b: u32, gs: &[i32], k: usize) -> usize
     requires { ⌜ (at < 1000000000000000000) × (owed < 100000000000000000) × (k + 3 < length (now gs)) ⌝ }
     ensures { λ r. ⌜ Put (now (out .entry)) at (led owed (entryBytes a b (glyphAt (now (gs .entry)) k))) r (now (out .exit)) ⌝ }
     ensures bounds { λ r. ⌜ r ≤ at + owed + 80 ⌝ }
 {
-    if entry_bytes::empty_entry(a, b, gs, k) {
+    if words::is_font_at(gs, k) {
         return at;
     }
     let p = put_semis(out, at, owed);

@@ -2,14 +2,17 @@
 use native.Mathlib.Omega.{arith}
 use lib.IntN.{pos}
 use lib.ListN.{getD}
-use borrow.Author.Needs.{needs}
-use Rattle.words.proofs.Puts.{none, put-as}
+use Rattle.words.proofs.Puts.{none, then, put-as}
 use Rattle.entry_bytes.proofs.WriteLaws.{chosen-some, chosen-none, index-is}
+use borrow.Author.Needs.{needs}
 use Rattle.entry_bytes.proofs.put_index_at.Statement.{statement}
 use Rattle.entry_bytes.proofs.put_index_at.Tie as tie
 
 natural-at-requires : tie.Need-natural-at-requires
 natural-at-requires c κs = search needs
+
+put-map-requires : tie.Need-put-map-requires
+put-map-requires c κs = search needs
 
 size-at-requires : tie.Need-size-at-requires
 size-at-requires c κs = search needs
@@ -21,16 +24,17 @@ same-length : tie.Need-same-length
 same-length c = search needs
 
 returns : tie.Need-returns
-returns c = (put-as (chosen-some index-is (getD (c .before .before .before .before .before .before .before .before .args .s .now) (c .before .before .before .before .before .before .before .before .args .k) (pos 0)) (c .before .before .before .before .before .before .natural-at .ensures) (c .before .before .before .size-at .ensures) (c .before .before .before .before .before .if1 .taken)) (c .before .before .put-decimal .ensures .0), omega arith)
+returns c = (put-as (chosen-some (index-is (c .before .before .before .before .before .before .before .before .before .before .before .before .args .a) (c .before .before .before .before .before .before .before .before .before .before .before .before .args .b)) (getD (c .before .before .before .before .before .before .before .before .before .before .before .before .args .s .now) (c .before .before .before .before .before .before .before .before .before .before .before .before .args .k) (pos 0)) (c .before .before .before .before .before .before .before .before .before .before .natural-at .ensures) (c .before .before .before .size-at .ensures) (c .before .before .before .before .before .before .before .before .before .if1 .taken)) (then (c .before .before .before .before .before .before .before .put-map .ensures .0) (c .before .before .put-decimal .ensures .0)), omega arith)
 
 returns-2 : tie.Need-returns-2
-returns-2 c = (put-as (chosen-none index-is (getD (c .before .before .before .args .s .now) (c .before .before .before .args .k) (pos 0)) (c .before .natural-at .ensures) (c .if1 .left)) none, omega arith)
+returns-2 c = (put-as (chosen-none (index-is (c .before .before .before .args .a) (c .before .before .before .args .b)) (getD (c .before .before .before .args .s .now) (c .before .before .before .args .k) (pos 0)) (c .before .natural-at .ensures) (c .if1 .left)) none, omega arith)
 
 pub put-index-at-spec : {M : Type 1} → statement M
 put-index-at-spec =
     tie.close
     (tie.spec
     natural-at-requires
+    put-map-requires
     size-at-requires
     put-decimal-requires
     same-length

@@ -13,6 +13,7 @@ use Rattle.entry.specs.declared.EntryRead.the-variants.{Read}
 use Rattle.reader.proofs.Calls.{Found, found, units-filled, clusters-filled, glyphs-filled}
 use Rattle.reader.proofs.Filling.{Filled, fill-never, storable, filled-on, end-clusters, end-glyphs, clusters-end, glyphs-end}
 use Rattle.reader.proofs.Stores.{stored-start}
+use Rattle.reader.proofs.Tails.{units-left}
 use Rattle.survey.proofs.Walking.{nothing, stands-start, ready-start, read-here, digits-here}
 use Rattle.reader.proofs.fill.Statement.{statement}
 use Rattle.reader.proofs.fill.Tie as tie
@@ -140,36 +141,48 @@ returns c =
     let l = c .before .before .before .before .before .before .before .before .before .loop in
     fill-never _ _ (f .all) (f .walked) _ _ _ (l .inv .stands) (l .inv .ready) (c .before .before .before .before .before .before .before .if1 .taken) _ (read-here _ (l .at) _ (c .before .before .read-entry .ensures) _ (c .enum-told .given .1))
 
+mul-fill-tail : tie.Need-mul-fill-tail Inv-loop μ-loop
+mul-fill-tail c = search needs
+
 sub-fill-tail : tie.Need-sub-fill-tail Inv-loop μ-loop
-sub-fill-tail c = omega (arith, c .before .before .before .loop .inv .ready .inside, label (c .before .before .before .before .before .before .before .before .before .before .before .before .before) .text .count)
+sub-fill-tail c = omega (arith, c .before .before .loop .inv .ready .inside, label (c .before .before .before .before .before .before .before .before .before .before .before .before) .text .count)
+
+part-fill-tail-start : tie.Need-part-fill-tail-start Inv-loop μ-loop
+part-fill-tail-start c = omega (arith, c .before .before .before .loop .inv .ready .inside, label (c .before .before .before .before .before .before .before .before .before .before .before .before .before) .text .count)
+
+part-fill-tail-end : tie.Need-part-fill-tail-end Inv-loop μ-loop
+part-fill-tail-end c = omega (arith, c .before .before .before .before .before .before .before .before .before .before .before .before .before .pre .1 .0, c .before .before .before .before .before .before .before .fill-units .kept .1 .1 .0)
 
 fill-tail-requires : tie.Need-fill-tail-requires Inv-loop μ-loop
 fill-tail-requires c κs =
-    let a = c .before .before .before .before .before .before .before .before .before .before .before .before .before .before .before in
-    let f = label (c .before .before .before .before .before .before .before .before .before .before .before .before .before .before .before) in
-    let l = c .before .before .before .before .before .loop .inv in
-    let cs = end-clusters _ _ (f .all) (f .walked) _ _ _ (l .stands) (l .ready) (c .before .before .before .if1 .left) _ (f .text .count) in
-    let gs = end-glyphs _ _ (f .all) (f .walked) _ _ _ (l .stands) (l .ready) (c .before .before .before .if1 .left) _ (f .text .count) in
+    let a = c .before .before .before .before .before .before .before .before .before .before .before .before .before .before .before .before in
+    let f = label (c .before .before .before .before .before .before .before .before .before .before .before .before .before .before .before .before) in
+    let l = c .before .before .before .before .before .before .loop .inv in
+    let e = units-left _ (c .before .before .before .before .before .before .before .before .before .before .before .before .before .before .before .before .args .units .now) _ _ (c .before .before .before .before .before .before .loop .at .unit) (f .text .count) (omega (arith, c .before .before .before .before .before .before .loop .inv .ready .inside, f .text .count)) (c .before .before .before .before .before .before .before .before .before .before .fill-units .ensures ∙ ap (λ (b : ℕ). filled (unitsFrom (c .before .before .before .before .before .before .before .before .before .before .before .before .before .before .before .before .args .text .now) b) (c .before .before .before .before .before .before .before .before .before .before .before .before .before .before .before .before .args .units .now)) (c .before .before .before .before .before .before .before .before .before .before .before .before .units-start .ensures)) in
+    let cs = end-clusters _ _ (f .all) (f .walked) _ _ _ (l .stands) (l .ready) (c .before .before .before .before .if1 .left) _ e in
+    let gs = end-glyphs _ _ (f .all) (f .walked) _ _ _ (l .stands) (l .ready) (c .before .before .before .before .if1 .left) _ e in
     omega (arith, cs, gs, f .clusters-are, f .glyphs-are, l .clusters .same, l .glyphs .same, a .pre .1 .1, a .pre .1 .2)
 
 same-length-4 : tie.Need-same-length-4 Inv-loop μ-loop
 same-length-4 c = search needs
 
 same-length-5 : tie.Need-same-length-5 Inv-loop μ-loop
-same-length-5 c = c .before .before .fill-tail .kept .1 .1 .1 .0 ∙ c .before .before .before .before .before .before .before .before .loop .inv .clusters .same
+same-length-5 c = c .before .before .fill-tail .kept .1 .1 .1 .0 ∙ c .before .before .before .before .before .before .before .before .before .loop .inv .clusters .same
 
 same-length-6 : tie.Need-same-length-6 Inv-loop μ-loop
-same-length-6 c = c .before .before .fill-tail .kept .1 .1 .1 .1 .0 ∙ c .before .before .before .before .before .before .before .before .loop .inv .glyphs .same
+same-length-6 c = c .before .before .fill-tail .kept .1 .1 .1 .1 .0 ∙ c .before .before .before .before .before .before .before .before .before .loop .inv .glyphs .same
 
 returns-2 : tie.Need-returns-2 Inv-loop μ-loop
 returns-2 c =
-    let a = c .before .before .before .before .before .before .before .before .before .before .before .before .before .before .before .before .before .before in
-    let f = label (c .before .before .before .before .before .before .before .before .before .before .before .before .before .before .before .before .before .before) in
-    let l = c .before .before .before .before .before .before .before .before .loop .inv in (
-      units-filled _ _ _ f _ _ (c .before .before .before .before .before .before .before .before .before .before .before .before .fill-units .ensures ∙ ap (λ (b : ℕ). filled (unitsFrom (a .args .text .now) b) (a .args .units .now)) (c .before .before .before .before .before .before .before .before .before .before .before .before .before .before .units-start .ensures)),
+    let a = c .before .before .before .before .before .before .before .before .before .before .before .before .before .before .before .before .before .before .before in
+    let f = label (c .before .before .before .before .before .before .before .before .before .before .before .before .before .before .before .before .before .before .before) in
+    let l = c .before .before .before .before .before .before .before .before .before .loop .inv in
+    let u = (c .before .before .before .before .before .before .before .before .before .before .before .before .before .fill-units .ensures ∙ ap (λ (b : ℕ). filled (unitsFrom (c .before .before .before .before .before .before .before .before .before .before .before .before .before .before .before .before .before .before .before .args .text .now) b) (c .before .before .before .before .before .before .before .before .before .before .before .before .before .before .before .before .before .before .before .args .units .now)) (c .before .before .before .before .before .before .before .before .before .before .before .before .before .before .before .units-start .ensures)) in
+    let e = units-left _ (c .before .before .before .before .before .before .before .before .before .before .before .before .before .before .before .before .before .before .before .args .units .now) _ _ (c .before .before .before .before .before .before .before .before .before .loop .at .unit) (f .text .count) (omega (arith, c .before .before .before .before .before .before .before .before .before .loop .inv .ready .inside, f .text .count)) (c .before .before .before .before .before .before .before .before .before .before .before .before .before .fill-units .ensures ∙ ap (λ (b : ℕ). filled (unitsFrom (c .before .before .before .before .before .before .before .before .before .before .before .before .before .before .before .before .before .before .before .args .text .now) b) (c .before .before .before .before .before .before .before .before .before .before .before .before .before .before .before .before .before .before .before .args .units .now)) (c .before .before .before .before .before .before .before .before .before .before .before .before .before .before .before .units-start .ensures)) in (
+      units-filled _ _ _ f _ _ u,
       (
-        clusters-filled _ _ _ f _ _ (clusters-end _ _ (f .all) (f .walked) _ _ _ (l .stands) (l .ready) (c .before .before .before .before .before .before .if1 .left) _ (f .text .count) _ _ _ (l .clusters) (c .before .before .fill-tail .ensures .0) (omega (arith, f .clusters-are, a .pre .1 .1))),
-        glyphs-filled _ _ _ f _ _ (glyphs-end _ _ (f .all) (f .walked) _ _ _ (l .stands) (l .ready) (c .before .before .before .before .before .before .if1 .left) _ (f .text .count) _ _ _ (l .glyphs) (c .before .before .fill-tail .ensures .1) (omega (arith, f .glyphs-are, a .pre .1 .2))),
+        clusters-filled _ _ _ f _ _ (clusters-end _ _ (f .all) (f .walked) _ _ _ (l .stands) (l .ready) (c .before .before .before .before .before .before .before .if1 .left) _ e _ _ _ (l .clusters) (c .before .before .fill-tail .ensures .0) (omega (arith, f .clusters-are, a .pre .1 .1))),
+        glyphs-filled _ _ _ f _ _ (glyphs-end _ _ (f .all) (f .walked) _ _ _ (l .stands) (l .ready) (c .before .before .before .before .before .before .before .if1 .left) _ e _ _ _ (l .glyphs) (c .before .before .fill-tail .ensures .1) (omega (arith, f .glyphs-are, a .pre .1 .2))),
       ),
     )
 
@@ -202,7 +215,10 @@ fill-spec =
     same-length-2
     same-length-3
     returns
+    mul-fill-tail
     sub-fill-tail
+    part-fill-tail-start
+    part-fill-tail-end
     fill-tail-requires
     same-length-4
     same-length-5

@@ -1,70 +1,55 @@
-use Prim.Native.Nat.{_+_, _*_, _≤_}
+-- `reader::fill_tail` meets its contract. Assumes nothing.
+use Prim.Native.Nat.{_-_, _*_}
 use native.Mathlib.Omega.{arith}
-use mathlib.Core.List.{[]}
-use mathlib.Core.Path.{_≡_, refl, _∙_, ap}
+use mathlib.Core.Path.{refl, _∙_, ap}
 use lib.ListN.{length}
 use lib.Seq.{sets}
-use Rattle.label.specs.Run.{cluster, fontGlyph}
-use Rattle.label.specs.Sound.{flatClusters, flatGlyphs}
-use Rattle.survey.specs.Steps.{tailParts}
-use Rattle.reader.specs.Stores.{clusterPlaces, glyphPlaces}
-use Rattle.reader.proofs.Stores.{opened-yes, clusters-flatten, glyphs-flatten, tail-more, tail-done}
+use Rattle.reader.proofs.Stores.{opened-yes}
+use Rattle.reader.proofs.Tails.{Storing, storing-start, inside-next, storing-room, storing-next, storing-end}
 use Rattle.reader.proofs.fill_tail.Statement.{statement}
 use Rattle.reader.proofs.fill_tail.Tie as tie
 
 abbrev Inv-loop : tie.InvT-loop
-Inv-loop m n k clusters₀ glyphs₀ rest₀ c₀ g₀ clusters glyphs rest c g =
-    (length clusters ≡ length clusters₀) × (length glyphs ≡ length glyphs₀) × (2 * (c + rest) ≤ length clusters₀) × (4 * (g + rest) ≤ length glyphs₀)
-    × (sets clusters (2 * c) (flatClusters (tailParts rest .clusters)) ≡ sets clusters₀ (2 * n) (flatClusters (tailParts m .clusters)))
-    × (sets glyphs (4 * g) (flatGlyphs (tailParts rest .glyphs)) ≡ sets glyphs₀ (4 * k) (flatGlyphs (tailParts m .glyphs)))
+Inv-loop units n k clusters₀ glyphs₀ j₀ c₀ g₀ clusters glyphs j c g = Storing units clusters₀ glyphs₀ n k clusters glyphs j c g
 
 abbrev μ-loop : tie.MeasureT-loop
-μ-loop m n k clusters₀ glyphs₀ rest₀ c₀ g₀ clusters glyphs rest c g = rest
+μ-loop units n k clusters₀ glyphs₀ j₀ c₀ g₀ clusters glyphs j c g = length units - j
 
 loop-holds : tie.Need-loop-holds Inv-loop μ-loop
-loop-holds c = (refl, refl, omega arith, omega arith, refl, refl)
+loop-holds c = storing-start _ _ _ _ _ (c .before .pre .0) (c .before .pre .1)
+
+tail-units-requires : tie.Need-tail-units-requires Inv-loop μ-loop
+tail-units-requires c κs = c .before .loop .inv .inside
 
 put-cluster-requires : tie.Need-put-cluster-requires Inv-loop μ-loop
-put-cluster-requires c κs = (λ _. (omega arith, omega arith), simp (opened-yes 0 1 1 refl) (omega arith))
+put-cluster-requires c κs = (λ _. omega (arith, inside-next _ _ _ _ _ _ _ _ _ _ (c .before .before .before .loop .inv) (c .before .before .loop-test .taken) _ (c .before .tail-units .ensures) .1), simp (opened-yes 0 (c .before .tail-units .result) 1 refl) (omega (arith, storing-room _ _ _ _ _ _ _ _ _ _ (c .before .before .before .loop .inv) (c .before .before .loop-test .taken) _ (c .before .tail-units .ensures) .0)))
 
 put-glyph-requires : tie.Need-put-glyph-requires Inv-loop μ-loop
-put-glyph-requires c κs = (omega arith, refl)
+put-glyph-requires c κs = (omega (arith, storing-room _ _ _ _ _ _ _ _ _ _ (c .before .before .before .before .before .before .loop .inv) (c .before .before .before .before .before .loop-test .taken) _ (c .before .before .before .before .tail-units .ensures) .1), refl)
 
-sub-rest : tie.Need-sub-rest Inv-loop μ-loop
-sub-rest c = omega arith
+add-j : tie.Need-add-j Inv-loop μ-loop
+add-j c = omega (arith, inside-next _ _ _ _ _ _ _ _ _ _ (c .before .before .before .before .before .before .before .before .loop .inv) (c .before .before .before .before .before .before .before .loop-test .taken) _ (c .before .before .before .before .before .before .tail-units .ensures) .2)
 
 add-c : tie.Need-add-c Inv-loop μ-loop
-add-c c = omega arith
+add-c c = omega (arith, storing-room _ _ _ _ _ _ _ _ _ _ (c .before .before .before .before .before .before .before .before .loop .inv) (c .before .before .before .before .before .before .before .loop-test .taken) _ (c .before .before .before .before .before .before .tail-units .ensures) .0)
 
 add-g : tie.Need-add-g Inv-loop μ-loop
-add-g c = omega arith
+add-g c = omega (arith, storing-room _ _ _ _ _ _ _ _ _ _ (c .before .before .before .before .before .before .before .before .loop .inv) (c .before .before .before .before .before .before .before .loop-test .taken) _ (c .before .before .before .before .before .before .tail-units .ensures) .1)
 
 loop-less : tie.Need-loop-less Inv-loop μ-loop
-loop-less c = omega arith
+loop-less c = omega (arith, c .before .before .before .before .before .before .before .loop-test .taken, inside-next _ _ _ _ _ _ _ _ _ _ (c .before .before .before .before .before .before .before .before .loop .inv) (c .before .before .before .before .before .before .before .loop-test .taken) _ (c .before .before .before .before .before .before .tail-units .ensures) .0)
 
 loop-again : tie.Need-loop-again Inv-loop μ-loop
-loop-again c =
-    let p = c .before .before .before .before .before .before .before in
-    let e = c .before .before .before .before .put-cluster .ensures ∙ ap (sets (p .loop .clusters) (2 * p .loop .c)) (opened-yes 0 1 1 refl) in (
-      c .before .before .before .before .put-cluster .kept .0 ∙ p .loop .inv .0,
-      c .before .put-glyph .kept .0 ∙ p .loop .inv .1,
-      omega arith,
-      omega arith,
-      tail-more flatClusters clusterPlaces 2 clusters-flatten (cluster 1 1) _ _ _ _ _ e (c .before .before .before .before .before .before .loop-test .taken) (p .loop .inv .4),
-      tail-more flatGlyphs glyphPlaces 4 glyphs-flatten fontGlyph _ _ _ _ _ (c .before .put-glyph .ensures) (c .before .before .before .before .before .before .loop-test .taken) (p .loop .inv .5),
-    )
+loop-again c = storing-next _ _ _ _ _ _ _ _ _ _ (c .before .before .before .before .before .before .before .before .loop .inv) (c .before .before .before .before .before .before .before .loop-test .taken) _ (c .before .before .before .before .before .before .tail-units .ensures) _ _ (c .before .before .before .before .put-cluster .ensures ∙ ap (sets (c .before .before .before .before .before .before .before .before .loop .clusters) (2 * c .before .before .before .before .before .before .before .before .loop .c)) (opened-yes 0 (c .before .before .before .before .before .before .tail-units .result) 1 refl)) (c .before .put-glyph .ensures)
 
 same-length : tie.Need-same-length Inv-loop μ-loop
-same-length c = c .before .loop .inv .0
+same-length c = c .before .loop .inv .same-clusters
 
 same-length-2 : tie.Need-same-length-2 Inv-loop μ-loop
-same-length-2 c = c .before .loop .inv .1
+same-length-2 c = c .before .loop .inv .same-glyphs
 
 returns : tie.Need-returns Inv-loop μ-loop
-returns c = (
-  tail-done flatClusters clusterPlaces 2 clusters-flatten (cluster 1 1) _ [] _ _ _ (c .loop-test .left) (c .before .loop .inv .4),
-  tail-done flatGlyphs glyphPlaces 4 glyphs-flatten fontGlyph _ [] _ _ _ (c .loop-test .left) (c .before .loop .inv .5),
-)
+returns c = storing-end _ _ _ _ _ _ _ _ _ _ (c .before .loop .inv) (c .loop-test .left)
 
 pub fill-tail-spec : {M : Type 1} → statement M
 fill-tail-spec =
@@ -73,9 +58,10 @@ fill-tail-spec =
     Inv-loop
     μ-loop
     loop-holds
+    tail-units-requires
     put-cluster-requires
     put-glyph-requires
-    sub-rest
+    add-j
     add-c
     add-g
     loop-less

@@ -1,5 +1,6 @@
+-- `sound::fits_run` meets its contract. Assumes nothing.
 use borrow.Author.Needs.{needs}
-use Prim.Native.Nat.{_≤_, _-_, _+_}
+use Prim.Native.Nat.{_≤_, _-_, _+_, _%_}
 use mathlib.Core.Path.{_≡_, sym, _∙_}
 use native.Mathlib.Omega.{arith}
 use lib.Dec.{eqb}
@@ -14,15 +15,18 @@ use Rattle.sound.proofs.fits_run.Statement.{statement}
 use Rattle.sound.proofs.fits_run.Tie as tie
 
 abbrev Inv-loop : tie.InvT-loop
-Inv-loop us cs gs bare lack₀ at₀ i₀ k₀ lack at i k =
-    (at ≤ length us) × (i ≤ length cs) × (k ≤ length gs) × (fits (empty us) 0 us (clustersOf cs) (glyphsOf gs) ≡ fitsAt bare us cs gs lack at i k)
+Inv-loop us cs gs bare start lack₀ at₀ i₀ k₀ lack at i k =
+    (at ≤ length us) × (i ≤ length cs) × (k ≤ length gs) × (k % 4 ≡ 0) × (fits (empty us) 0 us (clustersOf cs) (glyphsOf gs) ≡ fitsAt bare us cs gs lack at i k)
 
 abbrev μ-loop : tie.MeasureT-loop
-μ-loop us cs gs bare lack₀ at₀ i₀ k₀ lack at i k = length gs - k
+μ-loop us cs gs bare start lack₀ at₀ i₀ k₀ lack at i k = length gs - k
+
+font-from-requires : tie.Need-font-from-requires Inv-loop μ-loop
+font-from-requires c κs = search needs
 
 loop-holds : tie.Need-loop-holds Inv-loop μ-loop
 unfolding fitsAt
-loop-holds c = (search needs, search needs, search needs, rw (empty-is (c .before .args .us .now)))
+loop-holds c = (search needs, search needs, search needs, search needs, rw (empty-is (c .before .before .args .us .now)))
 
 sub-loop : tie.Need-sub-loop Inv-loop μ-loop
 sub-loop c = search needs
@@ -32,11 +36,11 @@ glyph-fits-at-requires c κs = search needs
 
 returns : tie.Need-returns Inv-loop μ-loop
 returns c =
-    let us = c .before .before .before .before .before .args .us .now in
-    let cs = c .before .before .before .before .before .args .cs .now in
-    let gs = c .before .before .before .before .before .args .gs .now in
+    let us = c .before .before .before .before .before .before .args .us .now in
+    let cs = c .before .before .before .before .before .before .args .cs .now in
+    let gs = c .before .before .before .before .before .before .args .gs .now in
     let l = c .before .before .before .loop in
-    sym (l .inv .3 ∙ fits-unfit (eqb (length us) 0) us cs gs (l .lack) (l .at) (l .i) (l .k) (c .before .before .loop-test .taken) (sym (c .before .glyph-fits-at .ensures) ∙ not-true _ (c .if1 .taken)))
+    sym (l .inv .4 ∙ fits-unfit (eqb (length us) 0) us cs gs (l .lack) (l .at) (l .i) (l .k) (c .before .before .loop-test .taken) (sym (c .before .glyph-fits-at .ensures) ∙ not-true _ (c .if1 .taken)))
 
 natural-at-requires : tie.Need-natural-at-requires Inv-loop μ-loop
 natural-at-requires c κs = search needs
@@ -46,11 +50,11 @@ add-k c = search needs
 
 returns-2 : tie.Need-returns-2 Inv-loop μ-loop
 returns-2 c =
-    let us = c .before .before .before .before .before .before .before .before .args .us .now in
-    let cs = c .before .before .before .before .before .before .before .before .args .cs .now in
-    let gs = c .before .before .before .before .before .before .before .before .args .gs .now in
+    let us = c .before .before .before .before .before .before .before .before .before .args .us .now in
+    let cs = c .before .before .before .before .before .before .before .before .before .args .cs .now in
+    let gs = c .before .before .before .before .before .before .before .before .before .args .gs .now in
     let l = c .before .before .before .before .before .before .loop in
-    stops _ _ (l .inv .3)
+    stops _ _ (l .inv .4)
     (fits-further (eqb (length us) 0) us cs gs (l .lack) (l .at) (l .i) (l .k) (c .before .before .before .before .before .loop-test .taken) (c .before .if2 .taken))
     (flagged gs (l .k) (c .before .before .before .before .glyph-fits-at .ensures) (c .before .before .before .if1 .left) (c .before .before .natural-at .ensures))
     (c .if3 .taken)
@@ -63,14 +67,15 @@ loop-less c = search needs
 
 loop-again : tie.Need-loop-again Inv-loop μ-loop
 loop-again c =
-    let us = c .before .before .before .before .before .before .before .before .args .us .now in
-    let cs = c .before .before .before .before .before .before .before .before .args .cs .now in
-    let gs = c .before .before .before .before .before .before .before .before .args .gs .now in
+    let us = c .before .before .before .before .before .before .before .before .before .args .us .now in
+    let cs = c .before .before .before .before .before .before .before .before .before .args .cs .now in
+    let gs = c .before .before .before .before .before .before .before .before .before .args .gs .now in
     let l = c .before .before .before .before .before .before .loop in (
       omega arith,
       omega arith,
       omega arith,
-      goes _ _ (l .inv .3)
+      omega arith,
+      goes _ _ (l .inv .4)
           (fits-further (eqb (length us) 0) us cs gs (l .lack) (l .at) (l .i) (l .k) (c .before .before .before .before .before .loop-test .taken) (c .before .if2 .taken))
           (flagged gs (l .k) (c .before .before .before .before .glyph-fits-at .ensures) (c .before .before .before .if1 .left) (c .before .before .natural-at .ensures))
           (c .if3 .left),
@@ -81,11 +86,11 @@ sub-if4 c = search needs
 
 returns-3 : tie.Need-returns-3 Inv-loop μ-loop
 returns-3 c =
-    let us = c .before .before .before .before .before .before .before .before .args .us .now in
-    let cs = c .before .before .before .before .before .before .before .before .args .cs .now in
-    let gs = c .before .before .before .before .before .before .before .before .args .gs .now in
+    let us = c .before .before .before .before .before .before .before .before .before .args .us .now in
+    let cs = c .before .before .before .before .before .before .before .before .before .args .cs .now in
+    let gs = c .before .before .before .before .before .before .before .before .before .args .gs .now in
     let l = c .before .before .before .before .before .before .loop in
-    sym (l .inv .3 ∙ fits-none (eqb (length us) 0) us cs gs (l .lack) (l .at) (l .i) (l .k) (c .before .before .before .before .before .loop-test .taken) (omega arith) (c .if4 .taken))
+    sym (l .inv .4 ∙ fits-none (eqb (length us) 0) us cs gs (l .lack) (l .at) (l .i) (l .k) (c .before .before .before .before .before .loop-test .taken) (omega arith) (c .if4 .taken))
 
 nat-at-requires : tie.Need-nat-at-requires Inv-loop μ-loop
 nat-at-requires c κs = search needs
@@ -107,14 +112,14 @@ opens-at-requires c κs = search needs
 
 returns-4 : tie.Need-returns-4 Inv-loop μ-loop
 returns-4 c =
-    let us = c .before .before .before .before .before .before .before .before .before .before .before .before .before .before .args .us .now in
-    let cs = c .before .before .before .before .before .before .before .before .before .before .before .before .before .before .args .cs .now in
-    let gs = c .before .before .before .before .before .before .before .before .before .before .before .before .before .before .args .gs .now in
+    let us = c .before .before .before .before .before .before .before .before .before .before .before .before .before .before .before .args .us .now in
+    let cs = c .before .before .before .before .before .before .before .before .before .before .before .before .before .before .before .args .cs .now in
+    let gs = c .before .before .before .before .before .before .before .before .before .before .before .before .before .before .before .args .gs .now in
     let bare = eqb (length us) 0 in
     let l = c .before .before .before .before .before .before .before .before .before .before .before .before .loop in
-    stops _ _ (l .inv .3)
+    stops _ _ (l .inv .4)
     (fits-opens bare us cs gs (l .lack) (l .at) (l .i) (l .k) (c .before .before .before .before .before .before .before .before .before .before .before .loop-test .taken) (omega arith) (c .before .before .before .before .before .before .if4 .left))
-    (opened gs (l .k) (c .before .before .before .before .before .before .before .before .before .before .glyph-fits-at .ensures) (c .before .before .before .before .before .before .before .before .before .if1 .left) (c .before .before .before .before .before .before .before .before .natural-at .ensures) bare us (l .at) _ _ _ _ (c .before .before .before .before .widened .ensures .0 ∙ c .before .before .before .before .before .nat-at .ensures) (c .before .before .widened2 .ensures .0 ∙ c .before .before .before .nat-at2 .ensures) (c .before .opens-at .ensures))
+    (opened gs (l .k) (c .before .before .before .before .before .before .before .before .before .before .glyph-fits-at .ensures) (c .before .before .before .before .before .before .before .before .before .if1 .left) (c .before .before .before .before .before .before .before .before .natural-at .ensures) bare us (l .at) _ _ _ _ (c .before .before .before .before .widened .ensures .0 ∙ c .before .before .before .before .before .nat-at .ensures) (c .before .before .widened2 .ensures .0 ∙ c .before .before .before .nat-at2 .ensures) (c .before .before .before .before .before .before .before .before .before .before .before .before .before .font-from .ensures (l .k) (l .inv .3)) (c .before .opens-at .ensures))
     (c .if5 .taken)
 
 add-at : tie.Need-add-at Inv-loop μ-loop
@@ -131,19 +136,20 @@ loop-less-2 c = search needs
 
 loop-again-2 : tie.Need-loop-again-2 Inv-loop μ-loop
 loop-again-2 c =
-    let us = c .before .before .before .before .before .before .before .before .before .before .before .before .before .before .before .args .us .now in
-    let cs = c .before .before .before .before .before .before .before .before .before .before .before .before .before .before .before .args .cs .now in
-    let gs = c .before .before .before .before .before .before .before .before .before .before .before .before .before .before .before .args .gs .now in
+    let us = c .before .before .before .before .before .before .before .before .before .before .before .before .before .before .before .before .args .us .now in
+    let cs = c .before .before .before .before .before .before .before .before .before .before .before .before .before .before .before .before .args .cs .now in
+    let gs = c .before .before .before .before .before .before .before .before .before .before .before .before .before .before .before .before .args .gs .now in
     let bare = eqb (length us) 0 in
     let l = c .before .before .before .before .before .before .before .before .before .before .before .before .before .loop in
     let a : c .before .before .before .before .before .widened .result ≡ nat (getD cs (l .i) (pos 0)) = c .before .before .before .before .before .widened .ensures .0 ∙ c .before .before .before .before .before .before .nat-at .ensures in
     let b : c .before .before .before .widened2 .result ≡ nat (getD cs (l .i + 1) (pos 0)) = c .before .before .before .widened2 .ensures .0 ∙ c .before .before .before .before .nat-at2 .ensures in (
-      opens-within bare us (l .at) _ _ _ (l .inv .0) (sym (c .before .before .opens-at .ensures) ∙ not-false _ (c .before .if5 .left)),
+      opens-within bare us (l .at) _ _ _ _ (l .inv .0) (sym (c .before .before .opens-at .ensures) ∙ not-false _ (c .before .if5 .left)),
       omega arith,
       omega arith,
-      goes _ _ (l .inv .3)
+      omega arith,
+      goes _ _ (l .inv .4)
           (fits-opens bare us cs gs (l .lack) (l .at) (l .i) (l .k) (c .before .before .before .before .before .before .before .before .before .before .before .before .loop-test .taken) (omega arith) (c .before .before .before .before .before .before .before .if4 .left))
-          (opened gs (l .k) (c .before .before .before .before .before .before .before .before .before .before .before .glyph-fits-at .ensures) (c .before .before .before .before .before .before .before .before .before .before .if1 .left) (c .before .before .before .before .before .before .before .before .before .natural-at .ensures) bare us (l .at) _ _ _ _ a b (c .before .before .opens-at .ensures))
+          (opened gs (l .k) (c .before .before .before .before .before .before .before .before .before .before .before .glyph-fits-at .ensures) (c .before .before .before .before .before .before .before .before .before .before .if1 .left) (c .before .before .before .before .before .before .before .before .before .natural-at .ensures) bare us (l .at) _ _ _ _ a b (c .before .before .before .before .before .before .before .before .before .before .before .before .before .before .font-from .ensures (l .k) (l .inv .3)) (c .before .before .opens-at .ensures))
           (c .before .if5 .left)
           ∙ rw (c .less-one .ensures, a, b),
     )
@@ -159,11 +165,11 @@ both-requires-2 c κs = search needs
 
 returns-5 : tie.Need-returns-5 Inv-loop μ-loop
 returns-5 c =
-    let us = c .before .before .before .before .before .args .us .now in
-    let cs = c .before .before .before .before .before .args .cs .now in
-    let gs = c .before .before .before .before .before .args .gs .now in
+    let us = c .before .before .before .before .before .before .args .us .now in
+    let cs = c .before .before .before .before .before .before .args .cs .now in
+    let gs = c .before .before .before .before .before .before .args .gs .now in
     let l = c .before .before .before .loop in
-    c .both2 .ensures ∙ rw (c .before .both .ensures) (sym (l .inv .3 ∙ fits-end (eqb (length us) 0) us cs gs (l .lack) (l .at) (l .i) (l .k) (c .before .before .loop-test .left) (l .inv .0)))
+    c .both2 .ensures ∙ rw (c .before .both .ensures) (sym (l .inv .4 ∙ fits-end (eqb (length us) 0) us cs gs (l .lack) (l .at) (l .i) (l .k) (c .before .before .loop-test .left) (l .inv .0)))
 
 pub fits-run-spec : {M : Type 1} → statement M
 fits-run-spec =
@@ -171,6 +177,7 @@ fits-run-spec =
     (tie.spec
     Inv-loop
     μ-loop
+    font-from-requires
     loop-holds
     sub-loop
     glyph-fits-at-requires

@@ -1,3 +1,5 @@
+-- `sound::opens_at` meets its contract. Assumes nothing.
+use mathlib.Core.Bool.{and-true}
 use Rattle.sound.specs.Sounds.{opensAt}
 use borrow.Author.Needs.{needs}
 use Rattle.sound.proofs.opens_at.Statement.{statement}
@@ -34,18 +36,25 @@ is-low-requires c κs = search needs
 both-requires-5 : tie.Need-both-requires-5
 both-requires-5 c κs = search needs
 
+both-requires-6 : tie.Need-both-requires-6
+both-requires-6 c κs = search needs
+
 either-requires : tie.Need-either-requires
 either-requires c κs = search needs
 
-both-requires-6 : tie.Need-both-requires-6
-both-requires-6 c κs = search needs
+returns-2 : tie.Need-returns-2
+unfolding opensAt
+returns-2 c = rw (c .before .before .before .both5 .ensures, c .before .before .before .before .is-low .ensures, c .before .before .before .before .before .unit-or-zero .ensures, c .before .before .before .before .before .before .both4 .ensures, c .before .before .before .before .before .before .before .both3 .ensures, c .before .before .before .before .before .before .before .before .if1 .left, ← c .before .before .both6 .ensures, ← c .before .either .ensures, c .if2 .taken, and-true)
+
+is-tail-pair-requires : tie.Need-is-tail-pair-requires
+is-tail-pair-requires c κs = search needs
 
 both-requires-7 : tie.Need-both-requires-7
 both-requires-7 c κs = search needs
 
-returns-2 : tie.Need-returns-2
+returns-3 : tie.Need-returns-3
 unfolding opensAt
-returns-2 c = rw (c .both7 .ensures, c .before .both6 .ensures, c .before .before .either .ensures, c .before .before .before .both5 .ensures, c .before .before .before .before .is-low .ensures, c .before .before .before .before .before .unit-or-zero .ensures, c .before .before .before .before .before .before .both4 .ensures, c .before .before .before .before .before .before .before .both3 .ensures, c .before .before .before .before .before .before .before .before .if1 .left)
+returns-3 c = rw (c .both7 .ensures, c .before .is-tail-pair .ensures, c .before .before .before .before .before .both5 .ensures, c .before .before .before .before .before .before .is-low .ensures, c .before .before .before .before .before .before .before .unit-or-zero .ensures, c .before .before .before .before .before .before .before .before .both4 .ensures, c .before .before .before .before .before .before .before .before .before .both3 .ensures, c .before .before .before .before .before .before .before .before .before .before .if1 .left, ← c .before .before .before .before .both6 .ensures, ← c .before .before .before .either .ensures, c .before .before .if2 .left)
 
 pub opens-at-spec : {M : Type 1} → statement M
 opens-at-spec =
@@ -61,7 +70,9 @@ opens-at-spec =
     unit-or-zero-requires
     is-low-requires
     both-requires-5
-    either-requires
     both-requires-6
+    either-requires
+    returns-2
+    is-tail-pair-requires
     both-requires-7
-    returns-2)
+    returns-3)
