@@ -80,6 +80,7 @@ def theorem(labels, values, sheets, specs):
         head,
         rows_of('documentRows', 'LabelRow', [row(l) for l in labels]),
         rows_of('standardRows', 'LabelRow', []),
+        rows_of('tailRows', 'LabelRow', []),
         part('-- a label and the count that is returned for it', '-- a row for each way to count'),
         rows_of('roundedRows', 'RoundedRow', [counted(l) for l in labels]),
         part('-- a raw value and what it resolves to', '-- a row for each way to resolve'),

@@ -445,6 +445,13 @@ class Archive:
             for end in ends if small else {first, min(4097, first + 1), 4096}:
                 self.picks(run, first, end)
 
+    def tail_run_edge(self, *run):
+        """Exact outputs, and picks of some small stretches."""
+        answer, run = labels.write(*run), as_bytes(run)
+        self.write(run, list(map(len, answer[1:])) if answer[0] == 'ok' else [9, 9])
+        for first, end in ((0, 1), (1, 2), (2, 3), (0, 3), sorted(self.rng.sample(range(8), 2))):
+            self.picks(run, first, end)
+
     def raw_edge(self, raw):
         """Exact room, a byte less, more; where it is refused none, and room for all; the beginning alone."""
         answer = attributes.resolve(raw)
@@ -472,7 +479,7 @@ class Archive:
             self.there_and_back(run)
 
     def case(self, kind, case):
-        if kind in ('label_edge', 'run_edge', 'fault', 'raw_edge', 'cut_edge', 'escape_edge', 'sheet_edge', 'sheet_cut_edge'):
+        if kind == 'fault' or kind.endswith('_edge'):
             getattr(self, kind)(*case)
         elif kind in generate.LABEL_KINDS:
             answer = labels.read(*case)
@@ -508,7 +515,8 @@ def archive_mode(path, rng, count, kinds, report):
     archive = Archive(path, rng, report)
     fixed = []
     if 'edges' in kinds:
-        fixed += [('label_edge', edges.label_edges()), ('run_edge', edges.run_edges()), ('fault', edges.fault_edges())]
+        fixed += [('label_edge', edges.label_edges()), ('run_edge', edges.run_edges()), ('tail_run_edge', edges.tail_runs()),
+                  ('fault', edges.fault_edges())]
     if 'raw-edges' in kinds:
         fixed += [('raw_edge', zip(edges.raw_edges())), ('cut_edge', zip(edges.CUT)), ('escape_edge', edges.escape_edges()),
                   ('escaped', edges.run_edges())]

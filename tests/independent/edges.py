@@ -140,7 +140,7 @@ def count_edges():
         yield b'A' * 10, b'(1:%d)5' % (count - 9) + b';6' * (count - 10)        # `count` glyphs with the tail
     yield b'A' * 4096, b';'.join([b'5'] * 5000)
     yield b'A', b'(1:5000)5' + b';6' * 4500                                     # 14 before 15
-    yield b'AB' + GRIN.encode(), b'(1:4500)5' + b';6' * 4499                    # 13 in the tail before 15
+    yield b'AB' + GRIN.encode(), b'(1:4500)5' + b';6' * 4499                    # 15, a pair in the tail
     yield b'', b';'.join([b'5'] * 5000 + [b'x'])
     for text in (b'', b'{}'):
         yield text, b''
@@ -233,6 +233,30 @@ def rounding_edges():
         yield b'', b';'.join([b'5,.0001,.0001,-.0001'] * count)                 # no label has more rounded fields
         yield b'A' * count, b';'.join([b',.0005'] * 4096)
 
+def tail_edges():
+    """Change request 4: pairs at the start, in the middle and at the end of the tail; entries that end before, at and inside
+    a pair, and one entry more; 5 and 15 counted with pairs."""
+    texts = [''.join(pieces) for count in range(1, 5) for pieces in product('A' + GRIN, repeat=count)]
+    for pair in (GRIN, '\U00010000', '\U0010FFFF'):
+        texts += (pattern.replace('_', pair) for pattern in ('\u0e33_', '_\u0e33', '\u0451_\u0451_', '{}_', '{}{_', '{}_{}'))
+    texts += ('\U00010000\U0010FFFF', '\uFFFD\U00010000\uE000', '\uD7FF\U0010FFFF\uE000' + GRIN)
+    more = ([], [''], ['', ''], [','], ['5'], ['(2)9'], ['(2:2)9', '6'], ['(1:2)5', '6'], ['(1:2)5', '(2)6'], ['(3)9'],
+            ['(3:2)9', '6'], ['(2:3)9', '6'], [',40'], [',,-1'], ['', '(2)9'], ['(2)9', ''], ['(2)'])
+    for text in texts:
+        written = ['5' if character <= '\uFFFF' else '(2)9' for character in text.removeprefix('{}')]
+        for used, further in product(range(len(written)), more):
+            yield text.encode(), ';'.join(written[:used] + further).encode()
+        yield text.encode(), ';'.join(written).encode()
+    yield b'{' + GRIN.encode(), b''
+    for pairs in (GRIN.encode() * count for count in (2047, 2048, 2049)):
+        yield from ((text, b'') for text in (pairs, b'{}' + pairs, b'{}{' + pairs, b'A' + pairs, pairs + b'A'))
+    pairs, written = GRIN.encode() * 2048, b'(2)9' + b';(2)9' * 2046
+    for indices in (b'(2)9', b';', written, written + b';', written + b';(2)9', b'(4095)9'):
+        yield pairs, indices
+    for glyphs in (4096, 4097):                                                 # a pair of the tail counts one
+        for text, a, tail in ((pairs, 2, 2047), (b'A' + pairs[4:] + b'B', 1, 2048)):
+            yield text, b'(%d:%d)9' % (a, glyphs - tail) + b';6' * (glyphs - tail - 1)
+
 def base_edges():
     for part in (slips, text_edges, entry_edges, number_edges, count_edges, size_edges):
         yield from part()
@@ -240,6 +264,7 @@ def base_edges():
 def label_edges():
     yield from base_edges()
     yield from rounding_edges()
+    yield from tail_edges()
 
 def line_edges():
     """Labels whose lines are at and above the limits of the programs."""
@@ -301,6 +326,67 @@ def run_edges():
         yield a * count, [1, 2] + [1, 1] * (count - 1), named * (count + 1)
         yield [high, low] * (count // 2), [2, 1] * (count // 2), named * (count // 2)
     yield longest_writing()
+    yield from main_tail_runs()
+
+# Clusters with their units and records, to join. Those of BEFORE_TAIL may stand before what is wholly the font's; no run with
+# one of NEVER_SOUND is sound.
+WHOLLY, NAMED_INDEX, GIVEN = labels.WHOLLY_FONT, (5, FONT, 0, 0), (FONT, 0, 0, 0)
+LETTER, LETTERS, PAIR, HIGH, LOW = [0x41], [0x41, 0x42], [0xD83D, 0xDE00], [0xD83D], [0xDE00]
+FONT_LETTER, FONT_PAIR = (LETTER, (1, 1), [WHOLLY]), (PAIR, (2, 1), [WHOLLY])
+NAMED_LETTER, NAMED_PAIR = (LETTER, (1, 1), [NAMED_INDEX]), (PAIR, (2, 1), [NAMED_INDEX])
+GIVEN_LETTER, MOVED_LETTER = (LETTER, (1, 1), [GIVEN]), (LETTER, (1, 1), [(FONT, FONT, 0, -1)])
+BEFORE_TAIL = [NAMED_LETTER, NAMED_PAIR, GIVEN_LETTER, MOVED_LETTER, (LETTER, (1, 1), [(FONT, FONT, 1, 0)])] + [
+    (units, (a, b), [NAMED_INDEX] * b) for units, a, b in ((PAIR, 2, 2), (LETTERS, 2, 1), (LETTER + PAIR, 3, 1), (LETTER, 1, 2))]
+NEVER_SOUND = [(PAIR, (2, 1), [record]) for record in (
+    GIVEN, (FONT, 7, 0, 0), (FONT, FONT, 1, 0), (FONT, FONT, -1, 0), (FONT, FONT, 0, 1), (FONT, FONT, 0, -1), (FONT, 0, 1, -1),
+    (-2, FONT, 0, 0), (FONT, -2, 0, 0))]
+NEVER_SOUND += [(units, (a, b), [WHOLLY] * b) for units, a, b in (
+    (LETTERS, 2, 1), (PAIR, 2, 2), (PAIR, 2, 0), (PAIR, 1, 1), (HIGH, 1, 1), (LOW, 1, 1), (LOW + HIGH, 2, 1), (HIGH * 2, 2, 1),
+    (HIGH + LETTER, 2, 1), (LETTER + LOW, 2, 1), (PAIR + LETTER, 3, 1), (LETTER + PAIR, 3, 1), (PAIR * 2, 4, 1), (PAIR * 2, 4, 2),
+    (LETTER, 1, 2), (LETTER, 1, 0), ([], 0, 1))]
+NEVER_SOUND += [(PAIR, (2, 2), records) for records in ([WHOLLY, NAMED_INDEX], [NAMED_INDEX, WHOLLY])]
+
+def joined(pieces):
+    """The run of these clusters, as its places."""
+    units, clusters, glyphs = [], [], []
+    for more_units, cluster, records in pieces:
+        units += more_units
+        clusters += cluster
+        glyphs += [n for record in records for n in record]
+    return units, clusters, glyphs
+
+def main_tail_runs():
+    """One run for each thing to know of change request 4, and the limits."""
+    pair, letter, named = FONT_PAIR, FONT_LETTER, NAMED_LETTER
+    for pieces in (
+            [pair], [pair, pair], [letter, pair], [pair, letter], [pair, pair, letter, pair, letter, letter], [named, pair],
+            [NAMED_PAIR, pair], [GIVEN_LETTER, pair], [MOVED_LETTER, pair], [letter, named, letter, pair], [BEFORE_TAIL[-2], pair],
+            [BEFORE_TAIL[-1], pair], [pair, named], [pair, NAMED_PAIR], [pair, GIVEN_LETTER], [pair, MOVED_LETTER],
+            [pair, pair, letter, named], [pair, BEFORE_TAIL[-1]], [named, pair, letter, NAMED_PAIR, pair],
+            *([named, piece, pair] for piece in NEVER_SOUND[:4]), *([piece] for piece in NEVER_SOUND[9:13])):
+        yield joined(pieces)
+    yield PAIR * 2, [1, 1, 2, 1, 1, 1], list(WHOLLY) * 3                        # over the low and the high half of neighbours
+    for count in (2047, 2048, 2049):
+        yield joined([pair] * count)
+    yield joined([pair] * 2047 + [NAMED_PAIR])
+    yield joined([NAMED_PAIR] + [pair] * 2047)
+    for glyphs in (2049, 2050):                                                 # 4,096 and 4,097 with the tail
+        yield joined([(PAIR, (2, glyphs), [NAMED_INDEX] * glyphs)] + [pair] * 2047)
+
+def tail_runs():
+    """Change request 4: clusters next to each other in twos, some in threes and fours, each anywhere in a tail; borders of
+    clusters inside pairs."""
+    pieces, few = BEFORE_TAIL + [FONT_LETTER, FONT_PAIR] + NEVER_SOUND, [NAMED_LETTER, NAMED_PAIR, FONT_LETTER, FONT_PAIR]
+    yield from (joined([piece]) for piece in pieces)
+    for piece, other in product(pieces, few + [GIVEN_LETTER, MOVED_LETTER]):
+        yield joined([piece, other])
+        yield joined([other, piece])
+    yield from map(joined, product(few, repeat=3))
+    yield from map(joined, product(few[1:], repeat=4))
+    tail = [FONT_PAIR, FONT_LETTER, FONT_PAIR]
+    yield from (joined(tail[:at] + [piece] + tail[at:]) for piece, at in product(pieces, range(4)))
+    for counts in ((1, 2, 1), (1, 3), (3, 1), (1, 1, 2), (2, 1, 1), (1, 1, 1, 1), (4,), (2, 2), (2,), (2, 2, 2), (2, 1), (1, 2)):
+        yield PAIR * 2, [n for a in counts for n in (a, 1)], list(WHOLLY) * len(counts)
 
 # ---- Faults ------------------------------------------------------------------------------------------
 
@@ -447,6 +533,8 @@ def escape_edges():
         yield units, [1, 1] * len(units) or [0, 1], font * len(units) or named
         yield units, [len(units), 1], named
     yield [0xD83D, 0xDE00, 0x26], [2, 1, 1, 1], named * 2
+    yield [0x26, 0xD83D, 0xDE00, 0x26], [1, 1, 2, 1, 1, 1], named + font * 2    # a pair wholly the font's ..
+    yield [0x26, 0xD83D, 0xDE00, 0x26], [1, 1, 2, 1, 1, 1], font * 2 + named    # .. before what is not
     yield [0x26, 0xD83D, 0x26], [3, 1], named                                   # a lone half
     yield [0x26, 0x26], [1, 1], named                                           # counts that don't add up
     yield [0x26, 0, 0x26], [3, 1], named                                        # no XML character
@@ -465,7 +553,7 @@ LATER_PAPER = [(b'A', b'5,' + number) for number in b'.0005 .0015 .0025 1000000.
 # Labels by the number of their answer, 0 for those accepted, with places of one and of two bytes.
 ANSWERED = {
     0: [(b'A', b'5'), (b'fl', b'(2:1)192'), (b'', b'5;6'), (b'{}flow', b'(2:1)192;07,+55.50,,0'), (THAI.encode(), b''),
-        (b'A' * 4096, b'')],
+        (GRIN.encode(), b''), (b'AB' + GRIN.encode(), b'5'), (b'A' * 4096, b'')],
     1: [(b'A' * 16385, b''), (b'\xff' * 16385, b'x'), (b'A', b'0' * 262144 + b'5')],
     2: [(b'A\xff', b'5'), (b'\x80', b''), (b'A' * 300 + b'\xc2', b'x')],
     3: [(b'\1', b'5'), (b'AB\0', b''), (b'A' * 255 + b'\xef\xbf\xbf', b'')],
@@ -478,7 +566,7 @@ ANSWERED = {
     10: [(b'A', b'(0)5'), (b'AB', b'5;(1:0)5')],
     11: [(b'', b';'), (b'AB', b'(2:2)5;')],
     12: [(b'A', b';'), (b'A', b'(2)5'), (b'A' * 257, b';' * 257)],
-    13: [(GRIN.encode(), b''), (b'AB' + GRIN.encode(), b'5')],
+    13: [(GRIN.encode(), b'5'), (b'A' + GRIN.encode(), b';'), (b'A' * 255 + GRIN.encode(), b';' * 255)],
     14: [(b'AB', b'(2:2)5'), (b'AB', b'5;(1:2)5')],
     15: [(b'A' * 4096, b'(1:2)5;6'), (b'', b'5' + b';5' * 4096)],
 }

@@ -109,20 +109,90 @@ def sound_run(rng, characters=None):
         for _ in range(b):
             glyphs += glyph(rng, (a, b) != (1, 1))
         used, spare = used + a, spare + a - b
-    if rng.random() < .4:                                           # the last 1:1 clusters wholly the font's
+    if rng.random() < .4:                                           # the last 1:1 clusters and 2:1 pairs wholly the font's
         for k in range(1, rng.randint(1, len(clusters) // 2) + 1):
-            if clusters[len(clusters) - 2 * k:][:2] != [1, 1]:
+            a, b = clusters[len(clusters) - 2 * k:][:2]
+            used -= a
+            if b != 1 or a != 1 + labels.inside_pair(units, used + 1):
                 break
             at = len(glyphs) - 4 * k
             glyphs[at:at + 4] = labels.WHOLLY_FONT
     return units, clusters, glyphs
+
+def tail_character(rng):
+    """A character above U+FFFF, as often as not."""
+    r = rng.random()
+    if r < .5:
+        return rng.choice((GRIN, GRIN, '\U00010000', '\U0010FFFF', chr(rng.randint(0x10000, 0x10FFFF))))
+    return rng.choice(('A', 'B', '{', '\u0451', THAI)) if r < .9 else character(rng)
+
+def font_cluster(text):
+    """A cluster of a tail, with its units and its record."""
+    units = utf16(text)
+    return units, (len(units), 1), [labels.WHOLLY_FONT]
+
+def tail_clusters(rng):
+    """Clusters of a sound run with their units and records: some of any kind, then some wholly the font's, pairs among them."""
+    units, clusters, glyphs = sound_run(rng, rng.choice((0, 0, 1, 2, 3)))
+    pieces, records = [], labels.grouped(glyphs, 4)
+    for a, b in labels.grouped(clusters, 2) if units else ():
+        pieces.append((units[:a], (a, b), records[:b]))
+        units, records = units[a:], records[b:]
+    return pieces + [font_cluster(tail_character(rng)) for _ in range(1 + int(rng.expovariate(.4)))]
+
+def tail_run(rng):
+    return edges.joined(tail_clusters(rng))
+
+def nearly_tail_run(rng):
+    """A run of tail_clusters with a cluster or two changed, put in, left out, moved, joined or divided. It may be sound
+    still."""
+    pieces = tail_clusters(rng)
+    for _ in range(1 if rng.random() < .8 else 2):
+        at, r = rng.randrange(len(pieces)), rng.random()
+        units, (a, b), records = pieces[at]
+        if r < .35:
+            changed = rng.choice((edges.NAMED_INDEX, edges.GIVEN, (FONT, FONT, 1, 0), (FONT, FONT, 0, -1), labels.WHOLLY_FONT))
+            pieces[at] = units, (a, b), [changed] + records[1:]
+        elif r < .55:
+            pieces.insert(rng.choice((at, len(pieces))), rng.choice(edges.BEFORE_TAIL + edges.NEVER_SOUND))
+        elif r < .65:
+            other = rng.randrange(len(pieces))
+            pieces[at], pieces[other] = pieces[other], pieces[at]
+        elif r < .75 and a == 2:
+            pieces[at] = rng.choice((edges.LETTERS, edges.LOW + edges.HIGH, edges.PAIR)), (a, b), records
+        elif r < .8 and len(pieces) > 1:
+            del pieces[at]
+        elif r < .9 and at:
+            before, cluster, glyphs = pieces[at - 1]
+            pieces[at - 1:at + 1] = [(before + units, (cluster[0] + a, 1), glyphs[:1])]
+        elif r < .95 and a == 2:
+            pieces[at:at + 1] = [(units[:1], (1, 1), records[:1]), (units[1:], (1, 1), records[:1])]
+        else:
+            a, b = rng.choice(((2, 1), (2, 2), (2, 0), (1, 1), (3, 1)))
+            pieces[at] = units, (a, b), (records * 2)[:b]
+    return edges.joined(pieces)
+
+def random_tail_run(rng):
+    """Letters and pairs in clusters that mostly fit them, most of the last wholly the font's."""
+    units, pieces = utf16(''.join(rng.choices(('A', GRIN), k=rng.randint(1, 5)))), []
+    written = rng.randint(-4, len(units))
+    while units:
+        a, b = 1 + labels.inside_pair(units, 1), 1
+        if rng.random() < .1:
+            a, b = rng.choice(((1, 1), (2, 1), (3, 1), (1, 2), (2, 2), (2, 0)))
+        record = edges.NAMED_INDEX if len(pieces) < written else labels.WHOLLY_FONT
+        if rng.random() < .1:
+            record = rng.choice((edges.NAMED_INDEX, labels.WHOLLY_FONT, edges.GIVEN, (FONT, FONT, -1, 0)))
+        pieces.append((units[:a], (a, b), [record] * b))
+        units = units[a:]
+    return edges.joined(pieces)
 
 def clamp(number):
     return max(MIN, min(MAX, number))
 
 def nearly_run(rng):
     """A sound run with a number or two changed, dropped, added or moved."""
-    run = sound_run(rng)
+    run = (sound_run if rng.random() < .8 else tail_run)(rng)
     for _ in range(1 if rng.random() < .8 else 2):
         which = rng.choice((0, 1, 1, 2))
         numbers, size = run[which], (1, 2, 4)[which] if rng.random() < .5 else 1
@@ -138,7 +208,7 @@ def nearly_run(rng):
         elif r < .65:
             del numbers[at:at + size]
         elif r < .8:
-            more = [[], [[0, 1], [1, 1], [1, 0]], [list(labels.WHOLLY_FONT)]][which]
+            more = [[], [[0, 1], [1, 1], [1, 0], [2, 1]], [list(labels.WHOLLY_FONT)]][which]
             numbers[at:at] = rng.choice([numbers[at:at + size], [odd] * size] + more)
         elif r < .87 and run[2]:
             at = rng.randrange(len(run[2]))
@@ -167,7 +237,7 @@ def random_run(rng):
 
 def large_run(rng):
     """About as many units or glyphs as the limits allow, or one more."""
-    count, record, kind = rng.choice((4095, 4096, 4097)), glyph(rng, True), rng.randrange(5)
+    count, record, kind = rng.choice((4095, 4096, 4097)), glyph(rng, True), rng.randrange(6)
     if kind == 0:
         return [], [0, 1] * count, record * count
     if kind == 1:
@@ -176,6 +246,10 @@ def large_run(rng):
         return [0x41] * count, [count, 1], record
     if kind == 3:
         return [0x7B], [1, count], record * count
+    if kind == 4:
+        pieces = [edges.FONT_PAIR] * (count // 2)
+        pieces[rng.randrange(len(pieces))] = rng.choice((edges.FONT_PAIR, edges.FONT_LETTER, edges.NAMED_PAIR, edges.GIVEN_LETTER))
+        return edges.joined(pieces)
     return sound_run(rng, rng.randint(1000, 4096))
 
 # ---- Labels ------------------------------------------------------------------------------------------
@@ -187,7 +261,10 @@ def spelled_label(rng, run):
     if text.startswith('{') or rng.random() < .1:
         text = '{}' + text
     entries = []
-    for a, b in labels.grouped(clusters, 2):
+    for at, (a, b) in enumerate(labels.grouped(clusters, 2)):
+        if a == 2 and glyphs[4 * len(entries)] == FONT:             # a pair that no entry can give, before others of the tail
+            clusters = clusters[:2 * at]
+            break
         for k in range(b):
             index, advance, u, v = glyphs[4 * len(entries):4 * len(entries) + 4]
             head = '' if index == FONT else zeros(rng) + str(index)
@@ -229,6 +306,21 @@ def damaged_label(rng):
             text = damaged(rng, text, rng.choice((b'\x80\xbf\xc2\xe0\xed\xef\xf0\xf4\xff', b'{}A\0\x1f', ANY_BYTE)))
         else:
             indices = damaged(rng, indices, INDICES_BYTES if rng.random() < .95 else ANY_BYTE)
+    return text, indices
+
+# Entries to stand behind those of a label: at a pair or in its middle, or behind the end.
+MORE_ENTRIES = [b''] + b'''
+    , 5 ; ;; ,40 ,,1 (2) (2)9 (1)9 (3)9 (4)9 (1:2)5;6 (2:2)5;6 (2:2)5 (3:2)5;6 (2)9; ;(2)9 (2)9;(2)9 (2)9,40 (2),40 x'''.split()
+
+def tail_label(rng):
+    """A label whose tail has pairs, in any writing; often with an entry or two more, now and then damaged."""
+    text, indices = spelled_label(rng, tail_run(rng))
+    r = rng.random()
+    if r < .5:
+        more = rng.choice(MORE_ENTRIES)
+        indices = indices + b';' + more if indices or r < .2 else more
+    elif r < .6:
+        indices = damaged(rng, indices, INDICES_BYTES)
     return text, indices
 
 def clean_text(rng):
@@ -275,7 +367,7 @@ def rounded_label(rng):
             fields = ['' if rng.random() < .3 else rng.choice(signs) + near_whole(rng)
                       for signs in (('', '+'), ('', '+', '-'), ('', '+', '-'))]
             entries.append(','.join([head] + fields[:rng.choice((1, 2, 3, 3, 3))]))
-    text, indices = text + 'B' * rng.randrange(3) if text else '', ';'.join(entries).encode()
+    text, indices = text + rng.choice(('', 'B', 'BB', GRIN, 'B' + GRIN)) if text else '', ';'.join(entries).encode()
     if rng.random() < .15:
         indices = damaged(rng, indices, INDICES_BYTES) if rng.random() < .5 else indices + b';' + rng.choice(BAD_ENTRIES)
     return text.encode(), indices
@@ -296,7 +388,7 @@ def utf8_label(rng):
 
 def large_label(rng):
     """About as many bytes, units, entries or glyphs as the limits allow, or one more."""
-    kind, count = rng.randrange(8), rng.choice((4095, 4096, 4097))
+    kind, count = rng.randrange(9), rng.choice((4095, 4096, 4097))
     if kind == 0:
         return ((rng.choice(('', '{}')) + character(rng) * count).encode(),
                 rng.choice((b'', b'5', b'(%d)5' % count, b'(2)5;;(1:2)6;7')))
@@ -312,6 +404,10 @@ def large_label(rng):
                 rng.choice((b'0' * (size - 1) + b'5', b';' * size, (b'5;' * size)[:size], b'5,.' + b'0' * (size - 3))))
     if kind == 5:
         return rng.choice((b'', b'A' * 4096)), b';'.join([b'5'] * rng.randint(4000, 9000) + [rng.choice(BAD_ENTRIES)])
+    if kind == 8:
+        pairs, glyphs = count // 2 + rng.randrange(2), rng.randint(2047, 2051)
+        return (rng.choice((b'', b'', b'{}', b'A')) + GRIN.encode() * pairs,
+                rng.choice((b'', b'(2)9', b';', b'(2)9;(2)9;', b'(2:%d)9' % glyphs + b';6' * (glyphs - 1))))
     run = large_run(rng) if kind == 6 else None
     return spelled_label(rng, run if run and labels.sound(*run) else sound_run(rng, rng.randint(50, 600)))
 
@@ -419,7 +515,7 @@ def large_raw(rng):
 
 def raw_label(rng):
     """(raw text, raw indices): a label in any raw spelling; now and then damaged."""
-    text, indices = rng.choice((valid_label, valid_label, damaged_label, mixed_label))(rng)
+    text, indices = rng.choice((valid_label, valid_label, damaged_label, mixed_label, tail_label))(rng)
     if rng.random() < .3:
         text = rng.choice((b'', b'', b'{}', b'{')) + plain_text(rng)
     raw = [spelled_raw(rng, text), spelled_raw(rng, indices)]
@@ -432,8 +528,8 @@ def escaped_run(rng):
     """A run whose text has what is escaped; now and then not sound."""
     r = rng.random()
     if r > .8:
-        return nearly_run(rng) if r < .95 else random_run(rng)
-    units, clusters, glyphs = sound_run(rng)
+        return nearly_run(rng) if r < .93 else nearly_tail_run(rng) if r < .97 else random_run(rng)
+    units, clusters, glyphs = (sound_run if r < .6 else tail_run)(rng)
     often = rng.choice((.1, .4, 1))
     units = [ord(rng.choice(ESCAPED + ">'{A")) if rng.random() < often and not 0xD800 <= unit <= 0xDFFF else unit for unit in units]
     return units, clusters, glyphs
@@ -446,7 +542,8 @@ def label_pool():
     where the number takes more. The same for every rng."""
     rng = Random(0)
     pool = {number: [label for label in group if sum(map(len, label)) < 20_000] for number, group in edges.ANSWERED.items()}
-    fixed = [label for part in (edges.slips, edges.text_edges, edges.entry_edges, edges.rounding_edges) for label in part()]
+    parts = edges.slips, edges.text_edges, edges.entry_edges, edges.rounding_edges, edges.tail_edges
+    fixed = [label for part in parts for label in part()]
     draw = chooser(rng, {kind: made for kind, made in LABEL_KINDS.items() if kind != 'large'})
     for label in dict.fromkeys(rng.sample(fixed, 1500) + [draw()[1] for _ in range(1500)]):
         group = pool[sheets.answer_to(*label)[0]]
@@ -458,7 +555,7 @@ def sheet_label(rng):
     """A label of the pool, about half of them accepted, now and then another."""
     r = rng.random()
     if r < .03:
-        return rng.choice((valid_label, damaged_label, mixed_label, utf8_label, rounded_label))(rng)
+        return rng.choice((valid_label, damaged_label, mixed_label, utf8_label, rounded_label, tail_label))(rng)
     number = 0 if r < .5 else rng.choice((1, 5, 15)) if r < .52 else rng.choice((2, 3, 4, 6, 7, 8, 9, 10, 11, 12, 13, 14))
     return rng.choice(label_pool()[number])
 
@@ -549,7 +646,9 @@ def cut_sheet(rng):
 
 def pick_case(rng):
     """(run, first, end): borders of clusters, both sides of the end, empty and reversed."""
-    run, side = sound_run(rng) if rng.random() < .85 else nearly_run(rng), rng.randrange(2)
+    r = rng.random()
+    make = sound_run if r < .6 else tail_run if r < .85 else nearly_run if r < .95 else nearly_tail_run
+    run, side = make(rng), rng.randrange(2)
     count, borders = (len(run[0]), len(run[2]) // 4)[side], [0]
     for number in run[1][side::2]:
         borders.append(max(0, borders[-1] + number))
@@ -568,7 +667,7 @@ def pick_case(rng):
 
 def fault_case(rng):
     """(text, indices, number, place): every number, places around every edge."""
-    text, indices = rng.choice((valid_label, damaged_label, mixed_label, mixed_label))(rng)
+    text, indices = rng.choice((valid_label, damaged_label, mixed_label, mixed_label, tail_label))(rng)
     answer = labels.read(text, indices)
     if answer[0] == 'no' and rng.random() < .4:
         return text, indices, *answer[1:]
@@ -592,9 +691,10 @@ def around(rng, needed, step):
 # ---- Kinds, with their weights -----------------------------------------------------------------------
 
 LABEL_KINDS = {'valid': (30, valid_label), 'damaged': (25, damaged_label), 'mixed': (30, mixed_label),
-               'numbers': (8, number_label), 'rounded': (8, rounded_label), 'utf8': (7, utf8_label),
+               'numbers': (8, number_label), 'rounded': (8, rounded_label), 'utf8': (7, utf8_label), 'tails': (12, tail_label),
                'large': (.05, large_label)}
-RUN_KINDS = {'sound': (15, sound_run), 'nearly': (30, nearly_run), 'random': (10, random_run), 'large-runs': (.05, large_run)}
+RUN_KINDS = {'sound': (15, sound_run), 'nearly': (30, nearly_run), 'random': (10, random_run), 'tail-runs': (5, tail_run),
+             'tail-nearly': (12, nearly_tail_run), 'tail-random': (8, random_tail_run), 'large-runs': (.05, large_run)}
 PICK_KINDS = {'picks': (25, pick_case)}
 FAULT_KINDS = {'faults': (20, fault_case)}
 RAW_KINDS = {'raw': (8, valid_raw), 'raw-damaged': (8, damaged_raw), 'raw-mixed': (10, mixed_raw), 'raw-numbers': (8, number_raw),

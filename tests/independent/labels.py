@@ -2,6 +2,9 @@
 
 A plain reference to test other implementations with; each function quotes the words it implements.
 An answer is ('ok', ...) or ('no', number, place).
+
+CR 4 of document 02 changes document 01 in the unwritten tail, in soundness and in what the normal writing drops.
+Words quoted behind "CR 4" are its own.
 """
 
 import re
@@ -153,7 +156,8 @@ def above_limits(number):
 def inside_pair(units, end):
     return 0 < end < len(units) and 0xDC00 <= units[end] <= 0xDFFF
 
-# "entry by entry 7 to 13 in number order; then 14, then 13 for the tail, 15"
+# "entry by entry 7 to 13 in number order; then 14, [...] 15". CR 4: "An entry without a map at a pair is still
+# refused with 13, which the tail no longer gives."
 def walk(units, entries):
     clusters, glyphs = [], []
     used = lacking = opener = 0     # units in clusters so far; glyphs that the open cluster lacks; its entry
@@ -183,11 +187,12 @@ def walk(units, entries):
         glyphs.append((FONT if entry.index is None else entry.index, thousandths(advance) if advance else FONT,
                        thousandths(u) if u else 0, thousandths(v) if v else 0))
     refuse_if(lacking, 14, opener)
-    # "When entries end before the text, each unit left is a 1:1 cluster, all chosen by the font"
-    for end in range(used + 1, len(units) + 1):
-        refuse_if(inside_pair(units, end), 13, end)
-        clusters.append((1, 1))
+    # "When entries end before the text, each unit left is a 1:1 cluster, all chosen by the font: this is the
+    # unwritten tail." CR 4: "Now a pair in the tail is one cluster of 2 units and 1 glyph, wholly the font's."
+    while used < len(units):
+        clusters.append((2, 1) if inside_pair(units, used + 1) else (1, 1))
         glyphs.append(WHOLLY_FONT)
+        used += clusters[-1][0]
     refuse_if(len(glyphs) > Limits.GLYPHS, 15)
     return clusters, glyphs
 
@@ -255,6 +260,7 @@ def characters_of(units):
 # "It is sound when it obeys every rule above: the lengths are whole clusters and glyphs, units are well-formed
 # XML characters, counts add up, limits hold, it is not empty, and some label that this paper accepts reads as it."
 # The normal writing of what passes here is below 180,000 bytes, so the two limits on bytes add nothing.
+# CR 4, of a pair wholly the font's: it "is sound only where nothing but clusters wholly the font's follows".
 def sound(units, cluster_numbers, glyph_numbers):
     if len(cluster_numbers) % 2 or len(glyph_numbers) % 4:
         return False
@@ -269,11 +275,16 @@ def sound(units, cluster_numbers, glyph_numbers):
         if not (FONT <= index <= Limits.INDEX and FONT <= advance <= Limits.THOUSANDTHS
                 and abs(u) <= Limits.THOUSANDTHS and abs(v) <= Limits.THOUSANDTHS):
             return False
-    used = first = 0
+    if any(units and (a < 1 or b < 1) or not units and (a, b) != (0, 1) for a, b in clusters):
+        return False
+    used, first, in_tail = 0, 0, False      # units and glyphs in clusters so far; whether such a pair is among these
     for a, b in clusters:
-        if units and (a < 1 or b < 1) or not units and (a, b) != (0, 1):
+        wholly_font = b == 1 and glyphs[first] == WHOLLY_FONT
+        font_pair = wholly_font and a == 2 and inside_pair(units, used + 1)
+        in_tail = in_tail or font_pair
+        if in_tail and not wholly_font:
             return False
-        if (a, b) != (1, 1) and any(glyph[0] == FONT for glyph in glyphs[first:first + b]):
+        if (a, b) != (1, 1) and not font_pair and any(glyph[0] == FONT for glyph in glyphs[first:first + b]):
             return False
         used, first = used + a, first + b
         if inside_pair(units, used):
@@ -298,15 +309,16 @@ def write_entry(cluster, glyph):
     return ','.join(fields).rstrip(',')
 
 # "Text: the units in UTF-8, with `{}` before them exactly when the first is `{`. Indices: the clusters' glyphs in
-# order, joined by `;`"; "Trailing 1:1 entries that are wholly the font's drop."
+# order, joined by `;`"; "Trailing 1:1 entries that are wholly the font's drop." CR 4, of a pair wholly the font's:
+# "the normal writing drops it like them". In a sound run no other 2:1 cluster is wholly the font's.
 def normal_writing(units, clusters, glyphs):
     text = ('{}' if units[:1] == [ord('{')] else '') + ''.join(map(chr, characters_of(units)))
     entries = []
     for cluster in clusters:
         for k in range(cluster[1]):
             entries.append(write_entry((1, 1) if k else cluster, glyphs[len(entries)]))
-    for cluster in reversed(clusters):
-        if cluster != (1, 1) or entries[-1]:
+    for cluster, glyph in zip(reversed(clusters), reversed(glyphs)):
+        if cluster not in ((1, 1), (2, 1)) or glyph != WHOLLY_FONT:
             break
         entries.pop()
     return text.encode('utf-8'), ';'.join(entries).encode('ascii')

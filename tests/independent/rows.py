@@ -4,10 +4,10 @@
     rows.py --raw [--seed N] [--count N]    raw attribute values with what they resolve to, and bytes with what they are escaped to
     rows.py --sheets [--seed N] [--count N] files of sheets, the room of an answer list, and the answers
 
-About a third of the labels are accepted, as many with no rounded field as with one and with more; the others share the
-refusals that labels below 60 bytes can reach. Of the raw values, those that each show one thing come first; then each group
-of edges and each random kind has its share of those accepted and of those refused. Every fifth row is one of escaping. Of the
-files, about half are accepted; the others share 25, 26 and 27.
+About a third of the labels are accepted: as many with pairs in the unwritten tail as, of the others, with no rounded field,
+with one and with more; the rest share the refusals that labels below 60 bytes can reach. Of the raw values, those that each
+show one thing come first; then each group of edges and each random kind has its share of those accepted and of those refused.
+Every fifth row is one of escaping. Of the files, about half are accepted; the others share 25, 26 and 27.
 """
 
 import argparse
@@ -35,13 +35,29 @@ def row(text, indices, answer):
         said = {'units': units, 'clusters': clusters, 'glyphs': glyphs, 'text': normal[1].hex(), 'indices': normal[2].hex()}
     return json.dumps({'text': text.hex(), 'indices': indices.hex(), 'answer': said, 'rounded': labels.rounded(indices, answer)})
 
+def has_tail_pair(run):
+    """Whether the tail of a run that was read has a pair. From the end to there, every cluster has one glyph."""
+    for cluster, glyph in zip(reversed(run.clusters), reversed(run.glyphs)):
+        if cluster not in ((1, 1), (2, 1)) or glyph != labels.WHOLLY_FONT:
+            return False
+        if cluster == (2, 1):
+            return True
+    return False
+
+def outcome_of(label, answer):
+    """What the label counts as among the rows."""
+    if answer[0] == 'no':
+        return answer[1]
+    return 'tail' if has_tail_pair(answer[1]) else ('ok', min(labels.rounded(label[1], answer), 2))
+
 def rows(seed, count):
     """Distinct rows, as many of each outcome as its share."""
     rng = Random(seed)
     share = {number: max(1, 2 * count // (3 * len(REACHED))) for number in REACHED}
     share[6] = min(share[6], 2)                             # `` and `{}` are all there are
     accepted = max(0, count - sum(share.values()))
-    share.update({('ok', rounded): (accepted + rounded) // 3 for rounded in range(3)})
+    share['tail'] = (accepted + 3) // 4
+    share.update({('ok', rounded): (accepted + rounded) // 4 for rounded in range(3)})
     fixed = [label for label in edges.label_edges() if sum(map(len, label)) < BYTES]
     rng.shuffle(fixed)
     draw = generate.chooser(rng, {kind: made for kind, made in generate.LABEL_KINDS.items() if kind != 'large'})
@@ -50,7 +66,7 @@ def rows(seed, count):
         if len(seen) == count:
             return
         answer = labels.read(*label)
-        outcome = answer[1] if answer[0] == 'no' else ('ok', min(labels.rounded(indices=label[1], answer=answer), 2))
+        outcome = outcome_of(label, answer)
         if sum(map(len, label)) < BYTES and label not in seen and share[outcome]:
             seen.add(label)
             share[outcome] -= 1

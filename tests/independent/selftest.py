@@ -77,13 +77,14 @@ def paper_labels():
     refused(g, 'AB', '(2:2)5', 14, 0)
     refused(g, 'AB', '(2:2)5;', 11, 1)
     refused(g, 'AB', '(0)5', 10)
-    refused(g, GRIN, '', 13, 1)
+    accepted(g, GRIN, '', [(2, 1)], [FONT], (GRIN, ''))                 # document 02: "Label 10 without indices is accepted."
     accepted(g, GRIN, '(2)9', [(2, 1)], named(9), (GRIN, '(2)9'))
     accepted(g, '', '5;6', [(0, 1)] * 2, named(5, 6), '5;6')
     for stdin, stdout in (
             (b'{}flow\n(2:1)192;07,+55.50,,0', b'ok 4 3 3\nflow\n(2)192;7,55.5\n'), (b'A\n;', b'no 12 1\n'), (b'', b'no 6 0\n'),
-            (b'A', b'ok 1 1 1\nA\n\n'), (b'\n5', b'ok 0 1 1\n\n5\n'), (b'A\r\n5', b'ok 2 2 2\nA\r\n5\n'), (b'A\n5\r', b'no 7 0\n'),
-            (b'\xff\n' + b'5' * 32769, b'no 1 0\n'), (b'\xff\n' + b'5' * 32768, b'no 2 0\n'), (b'A' * 16385, b'no 1 0\n'),
+            (b'A', b'ok 1 1 1\nA\n\n'), (b'A\xf0\x9f\x98\x80', b'ok 3 2 2\nA\xf0\x9f\x98\x80\n\n'),
+            (b'A\xf0\x9f\x98\x80\n;', b'no 13 2\n'), (b'\n5', b'ok 0 1 1\n\n5\n'), (b'A\r\n5', b'ok 2 2 2\nA\r\n5\n'),
+            (b'A\n5\r', b'no 7 0\n'), (b'\xff\n' + b'5' * 32769, b'no 1 0\n'), (b'\xff\n' + b'5' * 32768, b'no 2 0\n'), (b'A' * 16385, b'no 1 0\n'),
             (b'A\n' + b'0' * 32767 + b'5', b'ok 1 1 1\nA\n5\n'), (b'A\n' + b'0' * 32768 + b'5', b'no 1 0\n')):
         for more in ((b'', b'\n', b'\nthird', b'\n\n\n') if b'\n' in stdin else (b'', b'\n', b'\n\n', b'\n\nthird')):
             check('relabel', labels.relabel(stdin + more) == stdout, stdin[:40], more, labels.relabel(stdin + more), stdout)
@@ -169,7 +170,8 @@ def choices_of_rounding():
             ('ABC', ';,.0005;', 1), ('ABCD', '5,.0005;6,1;,,.0005', 2),
             # a cluster's further glyphs count
             ('A', '(1:3)5,.0005;6,1e-4,1.0000;7,,.0004,-.0005', 4), ('A', '(1:2)5;6,.0005', 1), ('AB', '(2:2)5,1;6,1,.0005', 1),
-            ('', '5,.0005;6,1;7,.0001', 2), (GRIN, '(2)5,.0005', 1), ('A' * 4096, ';'.join(['5,.0001,.0001,.0001'] * 4096), 12288)):
+            ('', '5,.0005;6,1;7,.0001', 2), (GRIN, '(2)5,.0005', 1), ('A' + GRIN, '5,.0005', 1), (GRIN * 2, '(2)5,1,.0005,1e-4', 2),
+            (GRIN, '', 0), ('A' * 4096, ';'.join(['5,.0001,.0001,.0001'] * 4096), 12288)):
         counted(text, indices, count)
     for number, text, indices in (
             (1, 'A' * 16385, '5,.0005'), (2, b'\xff', '5,.0005'), (3, '\1', '5,.0005'), (4, '{A', '5,.0005'), (5, 'A' * 4097, '5,.0005'),
@@ -177,7 +179,7 @@ def choices_of_rounding():
             (9, 'A', '5,1000000.0005'), (9, 'A', '5,.0005,1000000.0005'), (9, 'A', '5,1000000.0005,.0005'), (9, 'A', '5,1000000.0004,,-1e7'),
             (9, 'AB', '5,.0005;6,1e99'), (9, 'A', '5,1e-100'), (9, 'A', '5,.' + '0' * 18 + '1'), (9, 'A', '5,1e-4,1e-004'), (10, 'A', '(0)5,.0005'),
             (10, 'AB', '5,.0005;(1:0)5'), (11, 'A', '(1:2)5,.0005;,.0005'), (11, '', ',.0005'), (12, 'A', '5,.0005;6,.0005'),
-            (12, 'A', '(2)5,.0005'), (13, GRIN, '5,.0005'), (13, 'A' + GRIN, '5,.0005'), (14, 'A', '(1:2)5,.0005'),
+            (12, 'A', '(2)5,.0005'), (13, GRIN, '5,.0005'), (13, 'A' + GRIN, '5,.0005;'), (14, 'A', '(1:2)5,.0005'),
             (15, '', ';'.join(['5,.0005'] * 4097))):
         counted(text, indices, 0, number)
     indices = b'5,.0005,,1e-4;6,1.0005'
@@ -204,6 +206,137 @@ def choices_of_runs():
         check(g, labels.write(*run) == ('no', 19, 0), run)
     for sizes, answer in (((1, 1), ('ok', b'A', b'5')), ((0, 1), ('no', 20, 1)), ((1, 0), ('no', 21, 1)), ((0, 0), ('no', 20, 1))):
         check(g, labels.write_into([0x41], [1, 1], five, *sizes) == answer, sizes)
+
+def choices_of_tails():
+    """Pairs in the unwritten tail, and entries at a pair; `_` stands for a pair."""
+    g, one, pair = 'choices: tails', (1, 1), (2, 1)
+    for text, indices, clusters, glyphs, normal in (
+            # at the start, in the middle and at the end; pairs alone
+            ('__', '', [pair] * 2, [FONT] * 2, ''), ('_A', '', [pair, one], [FONT] * 2, ''), ('A_', '', [one, pair], [FONT] * 2, ''),
+            ('A_B', '', [one, pair, one], [FONT] * 3, ''), ('_A_', '', [pair, one, pair], [FONT] * 3, ''),
+            ('_' * 2048, '', [pair] * 2048, [FONT] * 2048, ''),
+            ('A' + '_' * 2047 + 'B', '5', [one] + [pair] * 2047 + [one], named(5) + [FONT] * 2048, '5'),
+            # entries that end exactly before a pair
+            ('A_', '5', [one, pair], named(5) + [FONT], '5'), ('A_', ',', [one, pair], [FONT] * 2, ''),
+            ('A_', ',40', [one, pair], [(-1, 40000, 0, 0), FONT], ',40'),
+            ('A_', ',,,-1', [one, pair], [(-1, -1, 0, -1000), FONT], ',,,-1'), ('AB_', ';', [one, one, pair], [FONT] * 3, ''),
+            ('AB_C_', ';5', [one, one, pair, one, pair], [FONT] + named(5) + [FONT] * 3, ';5'),
+            # named pairs, and other clusters, before pairs
+            ('__', '(2)9', [pair] * 2, named(9) + [FONT], '(2)9'), ('__', '(2)9;(2)8', [pair] * 2, named(9, 8), '(2)9;(2)8'),
+            ('___', '(2)9;(2:2)8;7', [pair, (2, 2), pair], named(9, 8, 7) + [FONT], '(2)9;(2:2)8;7'),
+            ('A__', '(3:1)9', [(3, 1), pair], named(9) + [FONT], '(3)9'), ('___', '(4)9', [(4, 1), pair], named(9) + [FONT], '(4)9'),
+            ('\u0e33_', '(1:2)124;181', [(1, 2), pair], named(124, 181) + [FONT], '(1:2)124;181'),
+            ('_A_', '(2)9;', [pair, one, pair], named(9) + [FONT] * 2, '(2)9'),
+            # the mark; characters of two and three bytes; the first and the last pair
+            ('{}_', '', [pair], [FONT], (GRIN, '')), ('{}{_', '', [one, pair], [FONT] * 2, ('{}{' + GRIN, '')),
+            ('_{', '', [pair, one], [FONT] * 2, (GRIN + '{', '')), ('\u0451_\u0e33', '', [one, pair, one], [FONT] * 3, ''),
+            ('\U00010000\U0010FFFF', '', [pair] * 2, [FONT] * 2, ''), ('\uFFFD\U00010000\uE000', '', [one, pair, one], [FONT] * 3, ''),
+            # a pair of the tail counts one glyph
+            ('_' * 2048, '(2:2049)9' + ';8' * 2048, [(2, 2049)] + [pair] * 2047, named(9) + named(8) * 2048 + [FONT] * 2047, None),
+            ('A_', '(1:4095)9' + ';8' * 4094, [(1, 4095), pair], None, None)):
+        accepted(g, text.replace('_', GRIN), indices, clusters, glyphs, normal)
+    check(g, labels.read(GRIN.encode() + b'A', b'')[1].units == [0xD83D, 0xDE00, 0x41])
+    for text, indices, number, place in (
+            # "An entry without a map at a pair is still refused with 13"
+            ('A_', ';', 13, 2), ('_', ';', 13, 1), ('_', ',', 13, 1), ('_', '5', 13, 1), ('_', ',40', 13, 1), ('_', '5;', 13, 1),
+            ('A_', '5;', 13, 2), ('A_', '5;6', 13, 2), ('A_', ';,', 13, 2), ('AB_', ';;', 13, 3), ('AB_', '5;;', 13, 3),
+            ('__', '(2)9;', 13, 3), ('_A_', '(2)9;;', 13, 4), ('{}_', ';', 13, 1), ('A_', '5;;x', 13, 2),
+            ('_' * 2048, '(2)9;' * 2047, 13, 4095),
+            # maps of clusters that end inside a pair
+            ('_', '(1)5', 13, 1), ('_', '(1:2)5;6', 13, 1), ('A_', '(2)9', 13, 2), ('A_', '(2:2)9;8', 13, 2), ('__', '(3)9', 13, 3),
+            ('__', '(2)9;(1:2)8;7', 13, 3), ('_A_', '(4:2)9;8', 13, 4),
+            # other numbers near a pair
+            ('_', '(2)', 7, 0), ('_', '(2),40', 7, 0), ('A_', ';(2)', 7, 1), ('A_', '5;x', 7, 1), ('A_', '5;65536', 8, 1),
+            ('A_', '5;(0)9', 10, 1), ('A_', '(1:2)5;', 11, 1), ('_', '(2)9;', 12, 1), ('_', '(3)9', 12, 0), ('A_', '(1:2)5', 14, 0),
+            ('__', '(2:2)9', 14, 0), ('{_', '', 4, 0), ('_' * 2049, '', 5, 0), ('A' + '_' * 2048, '', 5, 0),
+            ('_' * 2048, '(2:2050)9' + ';8' * 2049, 15, 0), ('A_', '(1:4096)9' + ';8' * 4095, 15, 0)):
+        refused(g, text.replace('_', GRIN), indices, number, place)
+    for sizes, answer in (((3, 4, 8), 'ok'), ((2, 4, 8), ('no', 16, 3)), ((3, 3, 8), ('no', 17, 2)), ((3, 4, 7), ('no', 18, 2))):
+        got = labels.read_into(GRIN.encode() + b'A', b'', *sizes)
+        check(g, answer in (got, got[0]), sizes, got)
+
+def choices_of_tail_runs():
+    """Runs handed in with clusters of two units that are wholly the font's, or nearly."""
+    g, pair, font, five = 'choices: tail runs', [0xD83D, 0xDE00], [-1, -1, 0, 0], [5, -1, 0, 0]
+    given, right, left, up, down = [-1, 0, 0, 0], [-1, -1, 1, 0], [-1, -1, -1, 0], [-1, -1, 0, 1], [-1, -1, 0, -1]
+    for run, indices in (
+            ((pair, [2, 1], font), ''), ((pair * 2, [2, 1] * 2, font * 2), ''), (([0x41, *pair], [1, 1, 2, 1], font * 2), ''),
+            (([*pair, 0x41], [2, 1, 1, 1], font * 2), ''), ((pair * 2048, [2, 1] * 2048, font * 2048), ''),
+            (([*pair, 0x41, *pair, 0x42, 0x43], [2, 1, 1, 1, 2, 1, 1, 1, 1, 1], font * 5), ''),
+            # behind anything
+            (([0x41, *pair], [1, 1, 2, 1], five + font), '5'), (([0x41, *pair], [1, 1, 2, 1], given + font), ',0'),
+            (([0x41, *pair], [1, 1, 2, 1], right + font), ',,.001'), (([0x41, *pair], [1, 1, 2, 1], down + font), ',,,-.001'),
+            ((pair * 2, [2, 1] * 2, five + font), '(2)5'), ((pair * 2, [2, 2, 2, 1], five * 2 + font), '(2:2)5;5'),
+            (([0x41, 0x42, *pair], [2, 1, 2, 1], five + font), '(2)5'), (([0x41, *pair, *pair], [3, 1, 2, 1], five + font), '(3)5'),
+            (([0x41, *pair], [1, 2, 2, 1], five * 2 + font), '(1:2)5;5'),
+            (([0x41, 0x42, 0x43, *pair], [1, 1] * 3 + [2, 1], font + five + font * 2), ';5'),
+            ((pair * 2048, [2, 2049] + [2, 1] * 2047, five * 2049 + font * 2047), '(2:2049)5' + ';5' * 2048)):
+        text = ''.join(map(chr, labels.characters_of(run[0])))
+        check(g, labels.write(*run) == ('ok', text.encode(), indices.encode()), run, labels.write(*run))
+    for run in (
+            # "only where nothing but clusters wholly the font's follows"
+            *(([*pair, 0x41], [2, 1, 1, 1], font + record) for record in (five, given, right, left, up, down, [5, 0, 0, 0])),
+            *(([*pair, 0x41, 0x42], [2, 1, 1, 1, 1, 1], font * 2 + record) for record in (five, given, right, left, up, down)),
+            (pair * 2, [2, 1] * 2, font + five), (pair * 3, [2, 1] * 3, font + five + font),
+            ([*pair, 0x41, *pair], [2, 1, 1, 1, 2, 1], font * 2 + five), ([*pair, 0x41], [2, 1, 1, 2], font + five * 2),
+            ([*pair, 0x41, 0x42], [2, 1, 2, 1], font + five), (pair * 2048, [2, 1] * 2048, font * 2047 + five),
+            # not wholly the font's
+            *((pair, [2, 1], record) for record in (given, [-1, 7, 0, 0], right, left, up, down, [-1, -2, 0, 0], [-2, -1, 0, 0])),
+            *((pair * 2, [2, 1] * 2, record + font) for record in (given, right, down)),
+            *((pair * 2, [2, 1] * 2, font + record) for record in (given, right, down)),
+            # not over the two halves of one pair
+            ([0x41, 0x42], [2, 1], font), ([0x41, 0x42, *pair], [2, 1, 2, 1], font * 2), ([*pair, 0x41, 0x42], [2, 1, 2, 1], font * 2),
+            (pair * 2, [1, 1, 2, 1, 1, 1], font * 3), (pair * 2, [1, 1, 2, 1, 1, 1], five + font * 2),
+            ([0x41, *pair, 0x42], [2, 1, 2, 1], font * 2), (pair[::-1], [2, 1], font), (pair[:1] * 2, [2, 1], font),
+            (pair[1:] * 2, [2, 1], font), ([0xD83D, 0x41], [2, 1], font), ([0x41, 0xDE00], [2, 1], font),
+            # other counts
+            (pair, [2, 2], font * 2), (pair, [2, 2], five + font), (pair, [2, 2], font + five), (pair, [2, 0], []), (pair, [1, 1], font),
+            (pair, [1, 1, 1, 1], font * 2), (pair * 2, [4, 1], font), (pair * 2, [4, 2], font * 2), ([*pair, 0x41], [3, 1], font),
+            ([0x41, *pair], [3, 1], font), ([0x41], [1, 2], font * 2), ([*pair, 0x41], [2, 1, 1, 2], font * 3),
+            (pair, [2, 1, 0, 1], font * 2), ([], [0, 1], font),
+            # limits
+            (pair * 2049, [2, 1] * 2049, font * 2049), (pair * 2048, [2, 2050] + [2, 1] * 2047, five * 2050 + font * 2047)):
+        check(g, labels.write(*run) == ('no', 19, 0), run, labels.write(*run))
+    run = [0x41, *pair], [1, 1, 2, 1], five + font
+    for sizes, answer in (((5, 1), ('ok', b'A' + GRIN.encode(), b'5')), ((4, 1), ('no', 20, 5)), ((5, 0), ('no', 21, 1))):
+        check(g, labels.write_into(*run, *sizes) == answer, sizes, labels.write_into(*run, *sizes))
+
+def choices_of_tail_picks():
+    g, pair, font = 'choices: picks of tails', [0xD83D, 0xDE00], [-1, -1, 0, 0]
+    run = [0x41, *pair, 0x42, *pair], [1, 1, 2, 1, 1, 1, 2, 1], font * 4            # units 0 | 1 2 | 3 | 4 5
+    unsound = [*pair, 0x41], [2, 1, 1, 1], font + [5, -1, 0, 0]
+    for pick, cases in (
+            (labels.units_of, ((0, 1, 0, 1), (1, 2, 1, 3), (2, 3, 3, 4), (3, 4, 4, 6), (0, 2, 0, 3), (1, 4, 1, 6), (0, 4, 0, 6))),
+            (labels.glyphs_of, ((0, 1, 0, 1), (1, 2, 1, 2), (2, 3, 1, 2), (1, 3, 1, 2), (0, 2, 0, 2), (2, 4, 1, 3), (2, 5, 1, 4),
+                                (3, 6, 2, 4), (5, 6, 3, 4), (0, 6, 0, 4)))):
+        for first, end, *given in cases:
+            check(g, pick(*run, first, end) == ('ok', *given), pick.__name__, first, end, pick(*run, first, end))
+        for first, end in ((0, 7), (6, 7), (2, 2), (3, 2)):
+            check(g, pick(*run, first, end) == ('no', 22, 0), pick.__name__, first, end, pick(*run, first, end))
+        for first, end in ((0, 1), (1, 2), (0, 0), (0, 9)):
+            check(g, pick(*unsound, first, end) == ('no', 19, 0), pick.__name__, first, end, pick(*unsound, first, end))
+    check(g, labels.units_of(*run, 0, 5) == ('no', 22, 0) == labels.units_of(*run, 4, 5))
+
+def choices_of_equality():
+    """Indices in groups: within one the runs are equal and so are the normal writings, across groups neither are; `_` is a pair."""
+    g = 'choices: equal runs, equal bytes'
+    for text, *groups in (
+            ('AB_', ['', ';', ',', ';,', ',;', ',,;,,,', ',,-0;,,.0004'], ['5', '5;', '05;,', '(1)5;', '5,,0'],
+             [';5', ',;5', ';(1:1)5,,'], [',0', ',.0004;'], [';,0'], [',,.0005', ',,.001;'], [';;(2)9', ',;,;(2:1)09'], [';(3)9'],
+             ['(2)9'], ['(4)9'], ['5;6;(2)9']),
+            ('_', [''], ['(2)9', '(2:1)9', '(02)09,,,'], ['(2)9,0'], ['(2:2)9;9'], ['(2)0']),
+            ('__', [''], ['(2)9', '(2)9,'], ['(2)9;(2)9'], ['(4)9'], ['(2:2)9;9']),
+            ('_A', [''], ['(2)9', '(2)9;', '(2)9;,,'], ['(2)9;5'], ['(2)9;,0'], ['(3)9']),
+            ('A_B', ['', ',', ',,'], ['5', '(1)5'], [';(2)9', ',;(2)9;', ';(2)9;,'], [';(2)9;5'])):
+        read = []
+        for at, group in enumerate(groups):
+            for mark, indices in itertools.product(('', '{}'), group):
+                answer = labels.read((mark + text.replace('_', GRIN)).encode(), indices.encode())
+                check(g, answer[0] == 'ok', text, indices, answer)
+                if answer[0] == 'ok':
+                    read.append((at, answer[1], labels.write(*labels.flat(answer[1]))))
+        for (at, run, written), (other_at, other_run, other) in itertools.combinations(read, 2):
+            check(g, (run == other_run, written == other) == (at == other_at,) * 2, text, run, other_run)
 
 def choices_of_writing():
     for text, indices, normal in (
@@ -299,6 +432,7 @@ def choices_of_raw_labels():
             ('&#123;a', '', ('no', 4, 0)), ('&#123;&#125;a', '', [0x61]), ('{&#125;a', '', [0x61]), ('&#123;}&#123;', '', [0x7B]),
             ('A', ' 5', ('no', 7, 0)), ('A', '\n5', ('no', 7, 0)), ('A', '5&#59;6', ('no', 12, 1)), ('A', '&#53;', [0x41]),
             ('A', '&#x28;1:2&#x29;5&#x3B;6', [0x41]), ('A&#10;\n', '', [0x41, 10, 32]), ('&#x1F600;', '(2)9', [0xD83D, 0xDE00]),
+            ('&#x1F600;', '', [0xD83D, 0xDE00]), ('&#x1F600;', '&#59;', ('no', 13, 1)),
             (b'\xff', '', ('no', 2, 0)), ('\x01', '', ('no', 3, 0)), ('&#1;', '', ('no', 23, 0)), ('', '', ('no', 6, 0)),
             ('A&lt', '<', ('no', 23, 1)), ('A', '5<', ('no', 23, 1)), (b'\xff', '<', ('no', 23, 0)),
             ('A' * 16385, '5&', ('no', 23, 1)), ('&amp;' * 4096, '', [0x26] * 4096), ('&amp;' * 4097, '', ('no', 5, 0)),
@@ -375,7 +509,9 @@ def choices_of_answers():
              '06 00 00 00  00 00 00 00   00 00 00 00  00 00 00 00   02 00 00 00  01 00 00 00'),
             ('2D 01 00 00 00 00' + '41' * 300 + '80', [2, 300], '02 00 00 00  2C 01 00 00'),
             ('00 00 05 02 02 00' + '35 3B' * 65794 + '78', [7, 65794], '07 00 00 00  02 01 01 00'),
-            ('04 00 00 00 00 00 F0 9F 98 80', [13, 1], '0D 00 00 00  01 00 00 00'),
+            ('04 00 01 00 00 00 F0 9F 98 80 35', [13, 1], '0D 00 00 00  01 00 00 00'),
+            ('04 00 00 00 00 00 F0 9F 98 80' + '05 00 01 00 00 00 41 F0 9F 98 80 3B', [0, 0, 13, 2],
+             '00' * 8 + '0D 00 00 00  02 00 00 00'),
             ('FF FF 00 00 00 00' + '41' * 65535 + '01 00 00 00 00 00 7B', [1, 0, 4, 0],
              '01 00 00 00  00 00 00 00   04 00 00 00  00 00 00 00')):
         file, given = bytes.fromhex(SLB + records), bytes.fromhex(given)
@@ -473,8 +609,17 @@ def reads_back(run):
     answer = labels.read(*written)
     return answer[0] == 'ok' and labels.flat(answer[1]) == run
 
+def tail_by_decoder(run, entries):
+    """The units, clusters and glyphs behind those of the entries, and the clusters that Python's decoder makes of these units:
+    one a character."""
+    glyphs = at = used = 0
+    while glyphs < entries:
+        used, glyphs, at = used + run.clusters[at][0], glyphs + run.clusters[at][1], at + 1
+    text = struct.pack(f'<{len(run.units) - used}H', *run.units[used:]).decode('utf-16-le')
+    return run.clusters[at:], run.glyphs[entries:], [(1 if character <= '\uFFFF' else 2, 1) for character in text]
+
 def round_trips(rng, count):
-    draw = generate.chooser(rng, generate.LABEL_KINDS)
+    draw, bytes_of, run_of = generate.chooser(rng, generate.LABEL_KINDS), {}, {}
     for text, indices in itertools.chain(edges.label_edges(), (draw()[1] for _ in range(count))):
         answer = labels.read(text, indices)
         checks['labels accepted' if answer[0] == 'ok' else f'labels refused with {answer[1]:2}'] += 1
@@ -485,23 +630,52 @@ def round_trips(rng, count):
             check('rounded fields against digits', rounded == sum(map(has_lower_digit, numbers)), text, indices, rounded)
             counts = sum(a for a, b in run.clusters), sum(b for a, b in run.clusters)
             check('every unit and glyph in one cluster', counts == (len(run.units), len(run.glyphs)), text, indices)
+            tail, glyphs, characters = tail_by_decoder(run, len(labels.split_entries(indices)))
+            checks['labels accepted, with pairs in the tail'] += (2, 1) in tail
+            check("tail against Python's decoder", tail == characters and set(glyphs) <= {FONT}, text, indices, run)
             normal = labels.write(*labels.flat(run))
+            if len(text + indices) < 200:
+                key = str(run)
+                checks['labels with the run of one before'] += key in bytes_of
+                check('equal runs, equal bytes', bytes_of.setdefault(key, normal) == normal, text, indices, normal)
+                check('equal bytes, equal runs', run_of.setdefault(normal, key) == key, text, indices, normal)
             check('written, read back', normal[0] == 'ok' and labels.read(*normal[1:]) == answer, text, indices, normal)
             check('nothing rounded in a normal writing', labels.rounded(normal[2], answer) == 0, text, indices, normal)
             check('written back unchanged', labels.write(*labels.flat(labels.read(*normal[1:])[1])) == normal, text, indices)
     for _ in range(count):
-        run = generate.sound_run(rng)
+        run = rng.choice((generate.sound_run, generate.sound_run, generate.tail_run))(rng)
         check('written any way, read as the run', labels.flat(labels.read(*generate.spelled_label(rng, run))[1]) == run, run)
-    makers = generate.sound_run, generate.nearly_run, generate.random_run
-    for run in itertools.chain(edges.run_edges(), (rng.choice(makers)(rng) for _ in range(2 * count))):
+    makers = (generate.sound_run, generate.nearly_run, generate.nearly_run, generate.random_run, generate.tail_run,
+              generate.nearly_tail_run, generate.random_tail_run)
+    drawn = (rng.choice(makers)(rng) for _ in range(2 * count))
+    for run in itertools.chain(edges.run_edges(), edges.tail_runs(), drawn):
         sound = labels.sound(*run)
         checks['runs sound' if sound else 'runs not sound'] += 1
         check('sound exactly when its writing reads back', sound == reads_back(run), run)
 
+def short_runs():
+    """"some label that this paper accepts reads as it": all runs of up to three clusters of some counts and records, against
+    what all labels of up to three such entries read as."""
+    counts, records = ((1, 1), (2, 1), (3, 1), (2, 2), (1, 2)), (*named(5), FONT, (-1, 0, 0, 0), (-1, -1, 0, -1000))
+    entries = ['', '5', ',0', ',,,-1'] + [f'({a}:{b})5' for a, b in counts[1:]]
+    for text in (''.join(pieces) for count in (1, 2, 3) for pieces in itertools.product('A' + GRIN, repeat=count)):
+        read, units = set(), generate.utf16(text)
+        for listed in (listed for count in range(4) for listed in itertools.product(entries, repeat=count)):
+            answer = labels.read(text.encode(), ';'.join(listed).encode())
+            if answer[0] == 'ok':
+                read.add((tuple(answer[1].clusters), tuple(answer[1].glyphs)))
+        for clusters in (c for count in (1, 2, 3) for c in itertools.product(counts + ((2, 0), (0, 1)), repeat=count)):
+            glyphs = sum(b for a, b in clusters)
+            if sum(a for a, b in clusters) == len(units) and glyphs <= 3:
+                for chosen in itertools.product(records, repeat=glyphs):
+                    sound = labels.sound(units, [n for pair in clusters for n in pair], [n for record in chosen for n in record])
+                    checks['short runs, sound'] += sound
+                    check('sound exactly when some label reads as it', sound == ((clusters, chosen) in read), text, clusters, chosen)
+
 def picks(rng, count):
     """Picks against the list of owners: which cluster each unit and each glyph is in."""
-    for _ in range(count):
-        run, first, end = generate.pick_case(rng)
+    tails = ((run, *sorted(rng.sample(range(7), 2))) for run in edges.tail_runs())
+    for run, first, end in itertools.chain(tails, (generate.pick_case(rng) for _ in range(count))):
         owners = [[k for k, n in enumerate(run[1][side::2]) for _ in range(min(n, 5000))] for side in (0, 1)]
         for pick, source, target in ((labels.units_of, 1, 0), (labels.glyphs_of, 0, 1)):
             if not labels.sound(*run):
@@ -687,8 +861,9 @@ def main():
     options = parser.parse_args()
     rng = Random(options.seed)
     for part in (paper_labels, standard_examples, choices_of_text, choices_of_entries, choices_of_rounding, choices_of_runs,
-                 choices_of_writing, choices_of_calls, choices_of_resolving, choices_of_raw_labels, choices_of_escaping,
-                 choices_of_files, choices_of_answers, utf8, grammar, fixed_sheet):
+                 choices_of_tails, choices_of_tail_runs, choices_of_tail_picks, choices_of_equality, choices_of_writing,
+                 choices_of_calls, choices_of_resolving, choices_of_raw_labels, choices_of_escaping, choices_of_files,
+                 choices_of_answers, utf8, grammar, short_runs, fixed_sheet):
         part()
     for part in (rounding, round_trips, picks, faults, resolving, escaping, files, whole_sheets):
         part(rng, options.count)

@@ -6,10 +6,10 @@ Like labels.py, each function quotes the words it implements. A sheet is a list 
 bytes. An answer is ('ok', ...) or ('no', number, place).
 
 The fixed sheet has 400 labels, the same in every run: those of documents 01 and 02, the examples of ECMA-388, the slips
-listed at the end of document 01, pairs of different labels with equal runs, labels refused with each number 1 to 15, and
-generated ones below 60 bytes, accepted and refused. They stand in random order, but that the first and the last are refused
-and an empty record is second. A text above 16,384 bytes, texts of 4,096 and 4,097 units and above 4,096 glyphs are among
-them. sheet.answers has exactly two numbers a label, 3,200 bytes.
+listed at the end of document 01, pairs of different labels with equal runs, pairs in the unwritten tail, labels refused with
+each number 1 to 15, and generated ones below 60 bytes, accepted and refused. They stand in random order, but that the first
+and the last are refused and an empty record is second. A text above 16,384 bytes, texts of 4,096 and 4,097 units and above
+4,096 glyphs are among them. sheet.answers has exactly two numbers a label, 3,200 bytes.
 """
 
 import os
@@ -117,7 +117,7 @@ def fixed_sheet():
     import trials
     rng, first, second, last = Random(3), (b'A\xff', b'5'), (b'', b''), (b'A', b';')
     found = [*trials.PAPER, *edges.LATER_PAPER, *trials.STANDARD, *edges.slips(), *chain(*trials.EQUAL), edges.ANSWERED[1][0]]
-    found += [label for label in chain(*edges.ANSWERED.values()) if sum(map(len, label)) < 5_000]
+    found += [label for label in [*trials.TAILS, *chain(*edges.ANSWERED.values())] if sum(map(len, label)) < 5_000]
     found = dict.fromkeys(label for label in found if label not in (first, second, last))
     makers = [make for kind, (_, make) in generate.LABEL_KINDS.items() if kind != 'large']
     while len(found) < FIXED_LABELS - 3:

@@ -3,7 +3,7 @@
     trials.py FOLDER    writes FOLDER/stdin and FOLDER/stdout
 
 The labels: those of document 01, the examples of ECMA-388, the slips listed at its end, the limits from both sides, pairs of different labels with equal runs, accepted labels in
-Latin and Thai, and some generated ones.
+Latin and Thai, labels with pairs in the unwritten tail or at an entry without a map (CR 4 of document 02), and some generated ones.
 """
 
 import os
@@ -34,6 +34,13 @@ EQUAL = [
     ((b'AB', b'5;6'), (b'{}AB', b'05;(1:1)6')), ((b'A', b'5,55.5'), (b'A', b'5,+55.50,,0')), ((b'A', b'5,,-0'), (b'A', b'5')),
     ((b'ABC', b'5'), (b'ABC', b'5;;')), ((b'fl', b'(2)192'), (b'{}fl', b'(02:001)0192,,,')), ((b'A', b'5,1.5e1'), (b'A', b'5,150E-1')),
     (('\u0e01\u0e33'.encode(), b'9;(1:2)124;181'), (b'{}' + '\u0e01\u0e33'.encode(), b'09;(1:2)124,;181,,')), ((b'', b'5;6'), (b'{}', b'05;06')),
+    ((b'AB' + GRIN, b''), (b'{}AB' + GRIN, b';')), ((b'AB' + GRIN + b'C', b'5'), (b'AB' + GRIN + b'C', b'5;,')), ((GRIN * 2, b'(2)9'), (GRIN * 2, b'(02:1)9,')),
+]
+TAILS = [
+    (b'A' + GRIN, b''), (b'A' + GRIN, b'5'), (b'A' + GRIN, b';'), (b'A' + GRIN, b'5;'), (b'A' + GRIN, b'5;6'), (b'A' + GRIN, b'5;(2)'), (GRIN, b';'), (GRIN, b','), (GRIN, b'5'),
+    (GRIN + b'A', b''), (GRIN + b'A', b';'), (GRIN * 2, b''), (GRIN * 2, b'(2)9'), (GRIN * 2, b'(2)9;'), (GRIN * 2, b'(3)9'), (GRIN * 2, b'(2:2)9;8'), (GRIN * 2, b'(2)9;(2)8'),
+    ('\u0e01'.encode() + GRIN + '\u0e33'.encode(), b',40'), (b'{}{' + GRIN, b''), (b'{}' + GRIN, b''), (b'AB' + GRIN + b'C' + GRIN, b'(2)192'), (b'AB' + GRIN, b'(3)9'),
+    ('\U00010000\U0010ffff'.encode(), b''), (b'A' + GRIN * 2047 + b'B', b'5'), (GRIN * 2048 + b'A', b''), (GRIN * 2048, b'(2:2049)9' + b';8' * 2048),
 ]
 
 
@@ -43,7 +50,7 @@ def on_lines(label):
 
 def all_labels():
     rng = Random(20)
-    found = PAPER + STANDARD + LIMITS + [label for pair in EQUAL for label in pair] + [case[:2] for case in edges.slips()]
+    found = PAPER + STANDARD + LIMITS + [label for pair in EQUAL for label in pair] + TAILS + [case[:2] for case in edges.slips()]
     # of the edges those of the base, so that the kept labels stay
     found += rng.sample([case[:2] for case in edges.base_edges() if len(case[0]) + len(case[1]) < 300], 300)
     for make in (generate.valid_label, generate.damaged_label, generate.mixed_label, generate.number_label, generate.utf8_label):
