@@ -206,6 +206,16 @@ static void measure(const char *name, int n)
     printf("%-34s %9.0f %9.0f %6.2f   %9.0f %9.0f %6.2f\n", name, a, b, b / a, c, d, d / c);
 }
 
+/* n of this character without indices, all left to the font; the plain loop has no such label. */
+static void measure_font(const char *name, int n, const char *character)
+{
+    make(n, "%d", character);
+    indices[0] = 0;
+    double b = best(1, n, 500), d = best(3, n, 500);
+    if (last.number || last.glyphs != (uint32_t)n) { printf("%s: not one glyph each\n", name); exit(1); }
+    printf("%-34s %9s %9.0f %6s   %9s %9.0f\n", name, "", b, "", "", d);
+}
+
 /* ── resolving, and escaped writing ── */
 
 /* n characters: four letters, then one of these, and so on. */
@@ -499,6 +509,8 @@ int main(void)
     measure("1,000 glyphs, long fields, 3 bytes", 1000);
     make(1000, "%d,1234567890123e-10,-12345678901234567.8e-12,.000000000000000012e+17", "A");
     measure("1,000 glyphs, worst numbers", 1000);
+    measure_font("1,000 letters left to the font", 1000, "A");
+    measure_font("1,000 pairs left to the font", 1000, "\xf0\x9f\x98\x80");
     make(100, "%d,55.5,-1.25,.5", "A");
     measure("100 glyphs, all fields", 100);
     double small = reading_ns;

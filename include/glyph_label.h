@@ -31,7 +31,8 @@
  *
  * Each number of clusters and glyphs is 4 bytes in two's complement. Advances and offsets are in thousandths of the
  * standard's unit, which is a hundredth of an em. Each cluster holds the units and the glyphs next after those of the
- * clusters before it.
+ * clusters before it. The code units behind the last entry, the tail, are left to the font: a pair of surrogates is one
+ * cluster of 2 units and 1 glyph, every other unit one of 1 and 1.
  *
  * ANSWERS. `number` is 0 where the call did what it was asked. Else it is the number of a refusal, `place` is its
  * place, the other fields are 0, and no byte of any buffer has changed. A call that succeeds changes exactly the
@@ -52,7 +53,7 @@
  *         10  a count of the map is 0                                 number of the entry
  *         11  a map or a missing index where none may be              number of the entry
  *         12  the cluster passes the end of the text                  number of the entry
- *         13  the cluster, or the tail, ends inside a pair            number of the code unit, the pair's low half
+ *         13  the cluster ends inside a pair                          number of the code unit, the pair's low half
  *         14  the last cluster lacks glyphs                           number of the entry that opened it
  *         15  above 4,096 glyphs, the tail included                   0
  *         16  units has too little room                               code units needed
@@ -68,12 +69,11 @@
  *         26  the file ends inside a record                           number of the record
  *         27  answers has too little room                             labels in the file
  *
- * Bytes, entries, code units, clusters, glyphs and records are numbered from 0. The checks are made in this order, but
- * for 14, which comes before the tail's 13; entries are checked one by one, each from 7 to 13. The first that fails
- * gives the answer. 23 and 24, in this order, come before 1: resolving is a call of its own, made before a reading,
- * for the text and then for the indices. 25 to 27 are of a sheet's file and are checked before any of its labels. A
- * place above 4,294,967,295, which only a raw value of 4 GiB or a file of 24 GiB can have, is given as
- * 4,294,967,295. */
+ * Bytes, entries, code units, clusters, glyphs and records are numbered from 0. The checks are made in this order;
+ * entries are checked one by one, each from 7 to 13. The first that fails gives the answer. 23 and 24, in this order,
+ * come before 1: resolving is a call of its own, made before a reading, for the text and then for the indices. 25 to 27
+ * are of a sheet's file and are checked before any of its labels. A place above 4,294,967,295, which only a raw value
+ * of 4 GiB or a file of 24 GiB can have, is given as 4,294,967,295. */
 #ifndef GLYPH_LABEL_H
 #define GLYPH_LABEL_H
 
@@ -150,8 +150,9 @@ glyph_label_reading glyph_label_read(const uint8_t *text, size_t text_len, const
 glyph_label_filled glyph_label_sheet(const uint8_t *file, size_t file_len, uint8_t *answers, size_t answers_len);
 
 /* Writes a run's normal writing into text and indices. The three sizes of the run are exactly those of its numbers,
- * so a left-over byte makes it unsound. Refusals 19 to 21. Buffers of 16,384 and 262,144 bytes are large enough for
- * every run. */
+ * so a left-over byte makes it unsound. A cluster of 2 units and 1 glyph may leave its index to the font only where the
+ * units are one pair, and this glyph and all behind it are wholly the font's: -1, -1, 0, 0. Refusals 19 to 21. Buffers
+ * of 16,384 and 262,144 bytes are large enough for every run. */
 glyph_label_writing glyph_label_write(const uint8_t *units, size_t units_len, const uint8_t *clusters,
                                       size_t clusters_len, const uint8_t *glyphs, size_t glyphs_len, uint8_t *text,
                                       size_t text_len, uint8_t *indices, size_t indices_len);

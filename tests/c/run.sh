@@ -24,6 +24,10 @@ checked=$(valgrind -q --error-exitcode=9 "$out/test_calls" "$out/sheet.slb" "$ou
 "$out/plotter" '{}flow' '(2:1)192;07,+55.50,,0' 1 2 > "$out/plotter.out"
 "$out/plotter" A '5,.0005,1.5,-1e-4' >> "$out/plotter.out"
 "$out/plotter" AB '(2:2)5' >> "$out/plotter.out" && exit 1
+# U+1F600, a pair: left to the font it is one cluster; an entry without a map is refused at it
+pair=$(printf '\360\237\230\200')
+"$out/plotter" "A${pair}B$pair" 5 1 2 >> "$out/plotter.out"
+"$out/plotter" "A${pair}B$pair" '5;' >> "$out/plotter.out" && exit 1
 "$out/plotter" --raw "$(printf '&lt;\r\n&#9;&#x42;')" '&#53;;6,1' 0 1 >> "$out/plotter.out"
 "$out/plotter" --raw 'a&nbsp;b' '<' >> "$out/plotter.out" && exit 1
 "$out/plotter" --raw '&amp;' '5;<6' >> "$out/plotter.out" && exit 1

@@ -1,6 +1,7 @@
 /* Tests of the calls of glyph_label.h: labels with their runs and normal writings, refusals that must change nothing,
- * sizes one byte short, left-over bytes, picks, faults, raw values, escaped writings, sheets, and runs, labels, raw
- * values and files from random bytes. Every label that a test reads is also put into a sheet.
+ * sizes one byte short, left-over bytes, picks, faults, raw values, escaped writings, sheets, pairs left to the
+ * font, and runs, labels, raw values and files from random bytes. Every label that a test reads is also put into a
+ * sheet, and every run that is tried is judged by a plain model too.
  *
  *     test_calls SHEET ANSWERS [ROUNDS]     a sheet's file and the answers that it must get; how many random cases of
  *                                           each kind: with fewer than 200,000 the exhaustive ones are thinned out
@@ -156,6 +157,77 @@ static int is_filled(glyph_label_filled f, uint32_t number, uint32_t place, size
 
 static int is_part(glyph_label_part p, uint32_t in_indices, size_t start, size_t length) {
     return p.in_indices == in_indices && p.start == start && p.length == length;
+}
+
+/* ---- A plain model of soundness ---- */
+
+static int xml_char(double c) {
+    return c == 0x9 || c == 0xA || c == 0xD || (c >= 0x20 && c <= 0xD7FF) || (c >= 0xE000 && c <= 0xFFFD) || (c >= 0x10000 && c <= 0x10FFFF);
+}
+
+static unsigned unit_at(const run *r, size_t i) { return 2 * i < r->units_len ? r->units[2 * i] | (unsigned)r->units[2 * i + 1] << 8 : 0; }
+
+static int is_low(unsigned unit) { return 0xDC00 <= unit && unit <= 0xDFFF; }
+
+static int pair_at(const run *r, size_t i) { return 0xD800 <= unit_at(r, i) && unit_at(r, i) <= 0xDBFF && is_low(unit_at(r, i + 1)); }
+
+/* The units are those of characters that XML 1.0 allows, so that no half stands alone. */
+static int model_units(const run *r) {
+    for (size_t i = 0; 2 * i < r->units_len; i++) {
+        if (pair_at(r, i))
+            i++;
+        else if (!xml_char(unit_at(r, i)))
+            return 0;
+    }
+    return 1;
+}
+
+static int within(int32_t v, int32_t least, int32_t most) { return least <= v && v <= most; }
+
+static int model_glyph(const uint8_t *g) {
+    const int32_t most = 1000000000;
+    return within(get_number(g), -1, 65535) && within(get_number(g + 4), -1, most) && within(get_number(g + 8), -most, most)
+           && within(get_number(g + 12), -most, most);
+}
+
+/* The first glyph from which on all are wholly the font's. */
+static size_t font_from(const run *r) {
+    static const uint8_t font[16] = {255, 255, 255, 255, 255, 255, 255, 255};
+    size_t g = r->glyphs_len / 16;
+    while (g > 0 && memcmp(r->glyphs + 16 * (g - 1), font, 16) == 0)
+        g--;
+    return g;
+}
+
+/* A cluster a:b with its glyphs, at unit `at` and glyph g. Its first glyph names an index; or it is 1:1; or it is a pair and all from there on is
+ * the font's. */
+static int model_cluster(const run *r, size_t at, size_t g, int32_t a, int32_t b, size_t font) {
+    size_t n = r->units_len / 2;
+    if (a < (n > 0) || (size_t)a > n - at || b < 1 || (size_t)b > r->glyphs_len / 16 - g || is_low(unit_at(r, at + (size_t)a)))
+        return 0;
+    for (size_t k = g + 1; k < g + (size_t)b; k++)
+        if (get_number(r->glyphs + 16 * k) < 0)
+            return 0;
+    if (get_number(r->glyphs + 16 * g) >= 0)
+        return n > 0 || b == 1;
+    return b == 1 && (a == 1 || (a == 2 && pair_at(r, at) && g >= font));
+}
+
+static int model_sound(const run *r) {
+    size_t at = 0, g = 0, font = font_from(r);
+    if (r->units_len % 2 || r->clusters_len % 8 || r->glyphs_len % 16 || r->units_len > 2 * 4096 || r->glyphs_len > 16 * 4096 || !model_units(r))
+        return 0;
+    for (size_t k = 0; k < r->glyphs_len; k += 16)
+        if (!model_glyph(r->glyphs + k))
+            return 0;
+    for (size_t k = 0; k < r->clusters_len; k += 8) {
+        int32_t a = get_number(r->clusters + k), b = get_number(r->clusters + k + 4);
+        if (!model_cluster(r, at, g, a, b, font))
+            return 0;
+        at += (size_t)a;
+        g += (size_t)b;
+    }
+    return g > 0 && 2 * at == r->units_len && 16 * g == r->glyphs_len;
 }
 
 /* ---- Files of sheets ---- */
@@ -423,16 +495,21 @@ static void try_escaped(const char *what, const run *r, glyph_label_writing w, c
     free(i);
 }
 
-/* A run from any hand: it is written, escaped too, and read back as it was; or it is refused with 19, by the picks too. A sound one has at most 3
- * bytes of text a unit, and 57 of indices a glyph. */
+/* A run from any hand: it is written, escaped too, and read back as it was; or it is refused with 19, by the picks too, whatever the room and the
+ * stretch. The model says which. A sound one has at most 3 bytes of text a unit, and 57 of indices a glyph. */
 static int try_run(const char *what, const run *r) {
     uint8_t *text, *indices;
     glyph_label_writing w = write_into(what, r, 2 * r->units_len + 2, 4 * r->glyphs_len, &text, &indices);
     glyph_label_stretch to_units = glyph_label_units_of(RUN(*r), 0, 1), to_glyphs = glyph_label_glyphs_of(RUN(*r), 0, 1);
+    int sound = model_sound(r);
     try_escaped(what, r, w, text, indices);
+    check((w.number == 0) == sound, "%s: %u of a run that is %ssound", what, w.number, sound ? "" : "not ");
     if (w.number != 0) {
         check(is_writing(w, 19, 0, 0, 0), "%s: refused with %u %u", what, w.number, w.place);
+        check(is_writing(write_into(what, r, 0, 0, NULL, NULL), 19, 0, 0, 0), "%s: 19 before 20", what);
         check(is_stretch(to_units, 19, 0, 0) && is_stretch(to_glyphs, 19, 0, 0), "%s: a pick of an unsound run", what);
+        to_units = glyph_label_units_of(RUN(*r), 1, 0), to_glyphs = glyph_label_glyphs_of(RUN(*r), 0, SIZE_MAX);
+        check(is_stretch(to_units, 19, 0, 0) && is_stretch(to_glyphs, 19, 0, 0), "%s: 19 before 22", what);
     } else {
         run back;
         glyph_label_reading a = read_into(what, text, w.text, indices, w.indices, r->units_len, r->clusters_len, r->glyphs_len, &back);
@@ -460,6 +537,7 @@ typedef struct {
 
 #define FLAT(i) i, -1, 0, 0
 #define FONT -1, -1, 0, 0
+#define GRIN "\xF0\x9F\x98\x80" /* U+1F600, a pair */
 
 static const row rows[] = {
     {"fl", "(2:1)192", 0, 0, "fl", "(2)192", 2, 1, 1, {0x66, 0x6C}, {2, 1}, {FLAT(192)}},
@@ -482,13 +560,42 @@ static const row rows[] = {
     {"AB", "(2:2)5", 14, 0, 0, 0, 0, 0, 0, {0}, {0}, {0}},
     {"AB", "(2:2)5;", 11, 1, 0, 0, 0, 0, 0, {0}, {0}, {0}},
     {"AB", "(0)5", 10, 0, 0, 0, 0, 0, 0, {0}, {0}, {0}},
-    {"\xF0\x9F\x98\x80", "", 13, 1, 0, 0, 0, 0, 0, {0}, {0}, {0}},
-    {"\xF0\x9F\x98\x80", "(2)9", 0, 0, "\xF0\x9F\x98\x80", "(2)9", 2, 1, 1, {0xD83D, 0xDE00}, {2, 1}, {FLAT(9)}},
+    {GRIN, "", 0, 0, GRIN, "", 2, 1, 1, {0xD83D, 0xDE00}, {2, 1}, {FONT}},
+    {GRIN, "(2)9", 0, 0, GRIN, "(2)9", 2, 1, 1, {0xD83D, 0xDE00}, {2, 1}, {FLAT(9)}},
     {"", "5;6", 0, 0, "", "5;6", 0, 2, 2, {0}, {0, 1, 0, 1}, {FLAT(5), FLAT(6)}},
     {"A", ",,-1000000,+.5", 0, 0, "A", ",,-1000000,.5", 1, 1, 1, {0x41}, {1, 1}, {-1, -1, -1000000000, 500}},
     {"a\xE1\x80" "A", "5", 2, 1, 0, 0, 0, 0, 0, {0}, {0}, {0}},
     {"ab\x01", "5", 3, 2, 0, 0, 0, 0, 0, {0}, {0}, {0}},
     {"\xEF\xBF\xBE", "5", 3, 0, 0, 0, 0, 0, 0, {0}, {0}, {0}},
+    /* Pairs in the tail, and entries without a map at a pair. */
+    {GRIN, ";", 13, 1, 0, 0, 0, 0, 0, {0}, {0}, {0}},
+    {GRIN, "9", 13, 1, 0, 0, 0, 0, 0, {0}, {0}, {0}},
+    {GRIN, ",", 13, 1, 0, 0, 0, 0, 0, {0}, {0}, {0}},
+    {GRIN, "(1:2)9", 13, 1, 0, 0, 0, 0, 0, {0}, {0}, {0}},
+    {GRIN, "(2)", 7, 0, 0, 0, 0, 0, 0, {0}, {0}, {0}},
+    {GRIN, "(2)9;", 12, 1, 0, 0, 0, 0, 0, {0}, {0}, {0}},
+    {GRIN, "(2:2)9", 14, 0, 0, 0, 0, 0, 0, {0}, {0}, {0}},
+    {"A" GRIN, "", 0, 0, "A" GRIN, "", 3, 2, 2, {0x41, 0xD83D, 0xDE00}, {1, 1, 2, 1}, {FONT, FONT}},
+    {"A" GRIN, ",", 0, 0, "A" GRIN, "", 3, 2, 2, {0x41, 0xD83D, 0xDE00}, {1, 1, 2, 1}, {FONT, FONT}},
+    {"A" GRIN, "5", 0, 0, "A" GRIN, "5", 3, 2, 2, {0x41, 0xD83D, 0xDE00}, {1, 1, 2, 1}, {FLAT(5), FONT}},
+    {"A" GRIN, ",7", 0, 0, "A" GRIN, ",7", 3, 2, 2, {0x41, 0xD83D, 0xDE00}, {1, 1, 2, 1}, {-1, 7000, 0, 0, FONT}},
+    {"A" GRIN, ";(2)9", 0, 0, "A" GRIN, ";(2)9", 3, 2, 2, {0x41, 0xD83D, 0xDE00}, {1, 1, 2, 1}, {FONT, FLAT(9)}},
+    {"A" GRIN, "(1:2)5;6", 0, 0, "A" GRIN, "(1:2)5;6", 3, 2, 3, {0x41, 0xD83D, 0xDE00}, {1, 2, 2, 1}, {FLAT(5), FLAT(6), FONT}},
+    {"A" GRIN, ";", 13, 2, 0, 0, 0, 0, 0, {0}, {0}, {0}},
+    {"A" GRIN, "5;,7", 13, 2, 0, 0, 0, 0, 0, {0}, {0}, {0}},
+    {"A" GRIN, "(2)9", 13, 2, 0, 0, 0, 0, 0, {0}, {0}, {0}},
+    {"A" GRIN, "(1:3)5;6", 14, 0, 0, 0, 0, 0, 0, {0}, {0}, {0}},
+    {"AB" GRIN, ";", 0, 0, "AB" GRIN, "", 4, 3, 3, {0x41, 0x42, 0xD83D, 0xDE00}, {1, 1, 1, 1, 2, 1}, {FONT, FONT, FONT}},
+    {"AB" GRIN, "(2)9", 0, 0, "AB" GRIN, "(2)9", 4, 2, 2, {0x41, 0x42, 0xD83D, 0xDE00}, {2, 1, 2, 1}, {FLAT(9), FONT}},
+    {"AB" GRIN, ";;", 13, 3, 0, 0, 0, 0, 0, {0}, {0}, {0}},
+    {"A" GRIN "B", "", 0, 0, "A" GRIN "B", "", 4, 3, 3, {0x41, 0xD83D, 0xDE00, 0x42}, {1, 1, 2, 1, 1, 1}, {FONT, FONT, FONT}},
+    {GRIN "AB", "(2)9;;,,0", 0, 0, GRIN "AB", "(2)9", 4, 3, 3, {0xD83D, 0xDE00, 0x41, 0x42}, {2, 1, 1, 1, 1, 1}, {FLAT(9), FONT, FONT}},
+    {GRIN GRIN, "", 0, 0, GRIN GRIN, "", 4, 2, 2, {0xD83D, 0xDE00, 0xD83D, 0xDE00}, {2, 1, 2, 1}, {FONT, FONT}},
+    {GRIN GRIN, "(2)9", 0, 0, GRIN GRIN, "(2)9", 4, 2, 2, {0xD83D, 0xDE00, 0xD83D, 0xDE00}, {2, 1, 2, 1}, {FLAT(9), FONT}},
+    {GRIN GRIN, "(2:3)9;8;7", 0, 0, GRIN GRIN, "(2:3)9;8;7", 4, 2, 4, {0xD83D, 0xDE00, 0xD83D, 0xDE00}, {2, 3, 2, 1},
+     {FLAT(9), FLAT(8), FLAT(7), FONT}},
+    {GRIN GRIN, "(2)9;", 13, 3, 0, 0, 0, 0, 0, {0}, {0}, {0}},
+    {GRIN GRIN, "(3)9", 13, 3, 0, 0, 0, 0, 0, {0}, {0}, {0}},
 };
 
 static run row_run(const row *w) {
@@ -640,10 +747,12 @@ static run read_run(const char *text, const char *indices) {
 }
 
 static void test_picks(void) {
-    static const char *const labels[][2] = {{"ABCDEFG\xF0\x9F\x98\x80HI", "1;(2:3)2;3;4;;(1:2)5;6;(2)7;(2)8;(2:2)9;10"}, {"", "5;6;7"}, {"A", "5"}};
-    for (size_t k = 0; k < 3; k++) {
+    static const char *const labels[][2] = {{"ABCDEFG" GRIN "HI", "1;(2:3)2;3;4;;(1:2)5;6;(2)7;(2)8;(2:2)9;10"}, {"", "5;6;7"}, {"A", "5"},
+                                            {GRIN, ""}, {GRIN "A" GRIN GRIN "B", ""}, {"ABC" GRIN "D" GRIN, "1;(2:3)2;3;4"},
+                                            {GRIN GRIN "A" GRIN, "(2:2)9;8"}};
+    for (size_t k = 0; k < sizeof labels / sizeof labels[0]; k++) {
         run r = read_run(labels[k][0], labels[k][1]);
-        size_t n = r.glyphs_len / 16 + 2;
+        size_t n = r.units_len / 2 + r.glyphs_len / 16 + 2;
         for (size_t first = 0; first <= n; first++)
             for (size_t end = 0; end <= n; end++)
                 test_pick(&r, first, end);
@@ -755,6 +864,8 @@ static const rounded_row rounded_rows[] = {
     {"A", "5,1000000.0005", 9, 0},
     {"A", "5,.0005;6", 12, 0},
     {"", "5,.0005;6,12345e-5", 0, 2},
+    {"A" GRIN, "5,.0005", 0, 1},
+    {"A" GRIN, "5,.0005;", 13, 0},
 };
 
 static void test_rounded(void) {
@@ -767,7 +878,7 @@ static void test_rounded(void) {
         check(a.number == w->number && a.rounded == w->rounded, "%s: %u, %u rounded", w->indices, a.number, a.rounded);
         if (w->number == 0) {
             if (tn != 0)
-                check(read_into(w->indices, t, tn, i, in, 2 * tn - 1, 64, 64, NULL).number == 16, "%s: 16", w->indices);
+                check(read_into(w->indices, t, tn, i, in, 1, 64, 64, NULL).number == 16, "%s: 16", w->indices);
             check(read_into(w->indices, t, tn, i, in, 64, 7, 64, NULL).number == 17, "%s: 17", w->indices);
             check(read_into(w->indices, t, tn, i, in, 64, 64, 15, NULL).number == 18, "%s: 18", w->indices);
         }
@@ -791,10 +902,6 @@ static void test_all_rounded(size_t n) {
 }
 
 /* ---- A plain model of resolving ---- */
-
-static int xml_char(double c) {
-    return c == 0x9 || c == 0xA || c == 0xD || (c >= 0x20 && c <= 0xD7FF) || (c >= 0xE000 && c <= 0xFFFD) || (c >= 0x10000 && c <= 0x10FFFF);
-}
 
 static size_t put_utf8(uint8_t *p, uint32_t c) {
     size_t n = c < 0x80 ? 1 : c < 0x800 ? 2 : c < 0x10000 ? 3 : 4;
@@ -1042,7 +1149,10 @@ static const page_row page_rows[] = {
     {"\r&#10;", "", 0, 0, 0, " &#10;", ""},
     {"&amp;lt;", "", 0, 0, 0, "&amp;lt;", ""},
     {"f&#x6C;", "&#40;2:1)192", 0, 0, 0, "fl", "(2)192"},
-    {"&#x1F600;", "(2)9", 0, 0, 0, "\xF0\x9F\x98\x80", "(2)9"},
+    {"&#x1F600;", "(2)9", 0, 0, 0, GRIN, "(2)9"},
+    {"&#x1F600;", "", 0, 0, 0, GRIN, ""},
+    {"&lt;&#128512;&amp;" GRIN, "5,1;", 3, 13, 2, 0, 0},
+    {"&lt;&#128512;&amp;" GRIN, "5,1&#x2C;", 0, 0, 0, "&lt;" GRIN "&amp;" GRIN, "5,1"},
     {"", "&#53;;6", 0, 0, 0, "", "5;6"},
     {"&#123;&#125;a", "5", 0, 0, 0, "a", "5"},
     {"{}&#123;&lt;", "", 0, 0, 0, "{}{&lt;", ""},
@@ -1186,7 +1296,9 @@ static const sheet_row sheet_rows[] = {
     ANSWERED(HEAD "\2\0\0\0\0\0" "{a", "\4\0\0\0\0\0\0\0"),
     ANSWERED(HEAD "\2\0\7\0\0\0" "AB(2:2)5;", "\13\0\0\0\1\0\0\0"),
     ANSWERED(HEAD "\2\0\6\0\0\0" "AB(2:2)5", "\16\0\0\0\0\0\0\0"),
-    ANSWERED(HEAD "\4\0\0\0\0\0" "\xF0\x9F\x98\x80", "\15\0\0\0\1\0\0\0"),
+    ANSWERED(HEAD "\4\0\0\0\0\0" GRIN, "\0\0\0\0\0\0\0\0"),
+    ANSWERED(HEAD "\4\0\1\0\0\0" GRIN ";", "\15\0\0\0\1\0\0\0"),
+    ANSWERED(HEAD "\5\0\1\0\0\0" "A" GRIN ";", "\15\0\0\0\2\0\0\0"),
     /* References are resolved already: here `&` is itself. */
     ANSWERED(HEAD "\7\0\0\0\0\0" "A&#66;C", "\0\0\0\0\0\0\0\0"),
     ANSWERED(HEAD "\1\0\5\0\0\0" "A&#53;", "\7\0\0\0\0\0\0\0"),
@@ -1358,7 +1470,7 @@ static void add_long(sheet *s, const char *text, size_t texts, const char *text_
     free(i);
 }
 
-/* 1, 5 and 15, limits that are just kept, and places of two and three bytes. */
+/* 1, 5 and 15, limits that are just kept, and places of two and three bytes; and as much with pairs. */
 static sheet long_sheet(void) {
     sheet s = new_sheet();
     add_long(&s, "A", 16384, "", "", 0, "", 5, 0);
@@ -1379,6 +1491,19 @@ static sheet long_sheet(void) {
     add_long(&s, "A", 1, "", "0", 262143, "5", 0, 0);
     add_long(&s, "A", 1, "", "0", 262144, "5", 1, 0);
     add_long(&s, "{", 1, "", "x", 262145, "", 1, 0);
+    /* A pair of the tail is two units and one glyph. */
+    add_long(&s, GRIN, 2048, "", "", 0, "", 0, 0);
+    add_long(&s, GRIN, 2047, "AB", "", 0, "", 0, 0);
+    add_long(&s, GRIN, 2048, "A", "", 0, "", 5, 0);
+    add_long(&s, GRIN, 2049, "", "", 0, "", 5, 0);
+    add_long(&s, GRIN, 4096, "", "", 0, "", 5, 0);
+    add_long(&s, GRIN, 4097, "", "", 0, "", 1, 0);
+    add_long(&s, GRIN, 2048, "", "(2)9;", 2046, "(2)9", 0, 0);
+    add_long(&s, GRIN, 2048, "", "(2)9;", 2047, "", 13, 4095);
+    add_long(&s, GRIN, 2048, "", "(2:3)9;8;7;", 1023, "(2:3)9;8;7", 0, 0);
+    add_long(&s, GRIN, 2048, "", "(2:3)9;8;7;", 1023, "(2:4)9;8;7;6", 15, 0);
+    add_long(&s, "A", 2048, GRIN GRIN, ";", 2047, "", 0, 0);
+    add_long(&s, "A", 2048, GRIN GRIN, ";", 2048, "", 13, 2049);
     return s;
 }
 
@@ -1550,10 +1675,422 @@ static void test_sheets(int full) {
     test_long_sheet();
 }
 
+/* ---- Pairs left to the font ---- */
+
+/* Texts of these tests are spelled in letters, each one character: `P`, `Q` and `R` are pairs, `D` and `E` are the units next to all halves, the
+ * others are themselves or, for `e`, of two bytes. */
+static uint32_t letter(char c) {
+    return c == 'P' ? 0x1F600 : c == 'Q' ? 0x10000 : c == 'R' ? 0x10FFFF : c == 'D' ? 0xD7FF : c == 'E' ? 0xE000 : c == 'e' ? 0xE9 : (uint32_t)c;
+}
+
+static size_t letter_units(char c) { return letter(c) > 0xFFFF ? 2 : 1; }
+
+/* In UTF-8, at most 8 characters. */
+static uint8_t *spelled_text(const char *letters, size_t *size) {
+    uint8_t text[32];
+    for (*size = 0; *letters; letters++)
+        *size += put_utf8(text + *size, letter(*letters));
+    return new_input(text, *size);
+}
+
+static void add_unit(run *r, uint32_t unit) {
+    r->units = grown(r->units, r->units_len + 2);
+    r->units[r->units_len++] = (uint8_t)unit, r->units[r->units_len++] = (uint8_t)(unit >> 8);
+}
+
+/* A run of these letters, without clusters and glyphs. */
+static run spelled_units(const char *letters) {
+    run r = {NULL, NULL, NULL, 0, 0, 0};
+    for (; *letters; letters++) {
+        uint32_t c = letter(*letters);
+        if (c > 0xFFFF)
+            add_unit(&r, 0xD800 + (c - 0x10000) / 1024), c = 0xDC00 + c % 1024;
+        add_unit(&r, c);
+    }
+    return r;
+}
+
+/* A cluster of a units behind those of the run. Its glyphs are spelled too: font; named; font with advance 0 or 7; with a u offset of 1 or -1
+ * thousandths; with a v offset; named with everything; and two that no label has. */
+static void add_cluster(run *r, int32_t a, const char *glyphs) {
+    static const char letters[] = "fnzauUvVNxy";
+    static const int32_t numbers[][4] = {{FONT}, {FLAT(9)}, {-1, 0, 0, 0}, {-1, 7000, 0, 0}, {-1, -1, 1, 0}, {-1, -1, -1, 0}, {-1, -1, 0, 1}, {-1, -1, 0, -1},
+                                         {65535, 0, -1000000000, 1000000000}, {-2, -1, 0, 0}, {-1, -2, 0, 0}};
+    size_t b = strlen(glyphs);
+    r->clusters = grown(r->clusters, r->clusters_len + 8);
+    put_number(r->clusters + r->clusters_len, a);
+    put_number(r->clusters + r->clusters_len + 4, (int32_t)b);
+    r->clusters_len += 8;
+    if (b > 0)
+        r->glyphs = grown(r->glyphs, r->glyphs_len + 16 * b);
+    for (; *glyphs; glyphs++)
+        for (int k = 0; k < 4; k++, r->glyphs_len += 4)
+            put_number(r->glyphs + r->glyphs_len, numbers[strchr(letters, *glyphs) - letters][k]);
+}
+
+/* Clusters are spelled as their count of units and their glyphs, with a blank between them. */
+static run spelled_run(const char *letters, const char *clusters) {
+    run r = spelled_units(letters);
+    while (*clusters) {
+        char glyphs[8] = "";
+        size_t b = strcspn(clusters + 1, " ");
+        memcpy(glyphs, clusters + 1, b);
+        add_cluster(&r, *clusters - '0', glyphs);
+        clusters += 1 + b + (clusters[1 + b] == ' ');
+    }
+    return r;
+}
+
+/* Sound runs with their normal indices: font pairs at the end, behind anything. */
+static const char *const sound_rows[][3] = {
+    {"P", "2f", ""}, {"R", "2f", ""}, {"PQ", "2f 2f", ""}, {"PA", "2f 1f", ""}, {"PQRAB", "2f 2f 2f 1f 1f", ""}, {"PAQB", "2f 1f 2f 1f", ""},
+    {"EQD", "1f 2f 1f", ""}, {"{P", "1f 2f", ""}, {"P{}", "2f 1f 1f", ""}, {"&P<", "1f 2f 1f", ""}, {"AP", "1f 2f", ""}, {"AP", "1n 2f", "9"},
+    {"AP", "1z 2f", ",0"}, {"AP", "1a 2f", ",7"}, {"AP", "1U 2f", ",,-.001"}, {"AP", "1v 2f", ",,,.001"}, {"AP", "1N 2f", "65535,0,-1000000,1000000"},
+    {"AP", "1nn 2f", "(1:2)9;9"}, {"ABP", "1f 1n 2f", ";9"}, {"ABP", "2n 2f", "(2)9"}, {"DEP", "2n 2f", "(2)9"}, {"PP", "2n 2f", "(2)9"},
+    {"PP", "2nn 2f", "(2:2)9;9"}, {"PAP", "2n 1f 2f", "(2)9"}, {"PAQ", "3n 2f", "(3)9"}, {"PQR", "4n 2f", "(4)9"}, {"APQ", "1n 2n 2f", "9;(2)9"},
+    {"APBQ", "1f 2n 1a 2f", ";(2)9;,7"},
+};
+
+static const char *const unsound_rows[][2] = {
+    /* A font pair before something that is not wholly the font's. */
+    {"PA", "2f 1n"}, {"PA", "2f 1z"}, {"PA", "2f 1a"}, {"PA", "2f 1u"}, {"PA", "2f 1U"}, {"PA", "2f 1v"}, {"PA", "2f 1V"}, {"PA", "2f 1N"}, {"PA", "2f 1nn"},
+    {"PQ", "2f 2n"}, {"PQ", "2f 2nn"}, {"PAB", "2f 2n"}, {"PAB", "2f 1f 1n"}, {"PAB", "2f 1f 1V"}, {"PABC", "2f 1f 1f 1z"}, {"PQR", "2f 2f 2n"},
+    {"PQR", "2n 2f 2n"}, {"PQA", "2f 2f 1u"}, {"PAQ", "2f 1n 2f"}, {"APBQ", "1f 2f 1a 2f"},
+    /* With something of its own. */
+    {"P", "2z"}, {"P", "2a"}, {"P", "2u"}, {"P", "2U"}, {"P", "2v"}, {"P", "2V"}, {"P", "2x"}, {"P", "2y"}, {"AP", "1n 2z"}, {"PQ", "2f 2a"}, {"PA", "2f 1x"},
+    {"PA", "2f 1y"}, {"AP", "1x 2f"}, {"AP", "1y 2f"},
+    /* Over units that are not one pair. */
+    {"AB", "2f"}, {"DE", "2f"}, {"ED", "2f"}, {"ABP", "2f 2f"}, {"PAB", "2f 2f"}, {"APA", "1f 2f"}, {"AP", "2f 1f"}, {"PA", "1f 2f"}, {"PQ", "1f 2f 1f"},
+    {"PQ", "1n 2f 1f"}, {"PQ", "1n 2n 1n"}, {"P", "1f 1f"}, {"P", "1n 1n"}, {"P", "1f"},
+    /* Of other counts. */
+    {"P", "2ff"}, {"P", "2nf"}, {"P", "2fn"}, {"PQ", "2ff 2f"}, {"PQ", "2f 2ff"}, {"A", "1ff"}, {"A", "1fn"}, {"A", "1nf"}, {"PA", "3f"}, {"AP", "3f"},
+    {"ABC", "3f"}, {"PQ", "4f"}, {"PQ", "4ff"}, {"PQ", "3f 1f"}, {"PQ", "1f 3f"}, {"PAB", "4f"}, {"", "0f"}, {"P", "0f 2f"}, {"P", "2f 0f"}, {"P", "2f 0n"},
+    {"P", "2"}, {"PQ", "2f 2"},
+    /* Units or glyphs that are too few or left over. */
+    {"", "2f"}, {"A", "2f"}, {"P", "3f"}, {"P", "4f"}, {"P", "2f 1f"}, {"P", "2f 2f"}, {"PQ", "2f"}, {"PA", "2f"}, {"AP", "1f"},
+};
+
+/* The label reads as the run, whatever the buffer of units holds: a half behind the run is no part of it. */
+static void test_stale(const uint8_t *text, size_t text_len, const char *indices, const run *r) {
+    static const unsigned stale[] = {0xDC00, 0xDE00, 0xDFFF, 0xD800, 0xD83D, 0xDBFF};
+    for (size_t k = 0; k < sizeof stale / sizeof stale[0]; k++)
+        for (size_t more = 0; more < 6; more++) {
+            output us = new_output(r->units_len + more), cs = new_output(r->clusters_len + 8 * more), gs = new_output(r->glyphs_len + 16 * more);
+            for (size_t i = 0; i < us.size; i++)
+                us.bytes[i] = us.before[GUARD + i] = (uint8_t)(i % 2 ? stale[k] >> 8 : stale[k]);
+            glyph_label_reading a =
+                glyph_label_read(text, text_len, (const uint8_t *)indices, strlen(indices), us.bytes, us.size, cs.bytes, cs.size, gs.bytes, gs.size);
+            run got = {us.bytes, cs.bytes, gs.bytes, 2 * (size_t)a.units, 8 * (size_t)a.clusters, 16 * (size_t)a.glyphs};
+            int stays = stays_behind(&us, r->units_len) && stays_behind(&cs, r->clusters_len) && stays_behind(&gs, r->glyphs_len);
+            check(a.number == 0 && stays && same_run(r, &got), "%s %s read over %04X, %zu bytes more: %u %u", shown(text, text_len), indices, stale[k], more,
+                  a.number, a.place);
+            free_output(&us);
+            free_output(&cs);
+            free_output(&gs);
+        }
+}
+
+/* A sound run: its writing, which has `{}` before a `{`, its reading, all its picks. */
+static void test_sound_run(const char *letters, const char *normal, const run *r) {
+    size_t tn, mark = *letters == '{' ? 2 : 0, in = strlen(normal), n = r->units_len / 2 + 2;
+    uint8_t *want = spelled_text(letters, &tn), *text, *indices;
+    glyph_label_writing w = write_into(letters, r, mark + tn, in, &text, &indices);
+    int right = is_writing(w, 0, 0, (uint32_t)(mark + tn), (uint32_t)in) && text && same_bytes(text, "{}", mark) && same_bytes(text + mark, want, tn)
+                && same_bytes(indices, normal, in);
+    check(right, "%s is written with %s", letters, normal);
+    if (right)
+        test_stale(text, mark + tn, normal, r);
+    for (size_t first = 0; first < n; first++)
+        for (size_t end = 0; end < n; end++)
+            test_pick(r, first, end);
+    test_left_over(r);
+    free(want);
+    free(text);
+    free(indices);
+}
+
+static void test_run_rows(void) {
+    for (size_t k = 0; k < sizeof sound_rows / sizeof sound_rows[0]; k++) {
+        run r = spelled_run(sound_rows[k][0], sound_rows[k][1]);
+        check(try_run(sound_rows[k][1], &r), "%s %s is sound", sound_rows[k][0], sound_rows[k][1]);
+        test_sound_run(sound_rows[k][0], sound_rows[k][2], &r);
+        free_run(&r);
+    }
+    for (size_t k = 0; k < sizeof unsound_rows / sizeof unsound_rows[0]; k++) {
+        run r = spelled_run(unsound_rows[k][0], unsound_rows[k][1]);
+        check(!try_run(unsound_rows[k][1], &r), "%s %s is not sound", unsound_rows[k][0], unsound_rows[k][1]);
+        free_run(&r);
+    }
+}
+
+/* All runs that begin like this one: every way to divide the units left into clusters, with every choice of glyphs for each. */
+static void test_divisions(run *r, size_t at) {
+    static const char *const glyphs[] = {"f", "n", "z", "u", "V", "nn", "ff"};
+    size_t n = r->units_len / 2;
+    if (at == n)
+        try_run("division", r);
+    for (size_t a = 1; a <= n - at; a++)
+        for (size_t k = 0; k < sizeof glyphs / sizeof glyphs[0]; k++) {
+            size_t c = r->clusters_len, g = r->glyphs_len;
+            add_cluster(r, (int32_t)a, glyphs[k]);
+            test_divisions(r, at + a);
+            r->clusters_len = c, r->glyphs_len = g;
+        }
+}
+
+/* All texts of up to `left` more units. */
+static void test_small_runs(char *letters, size_t n, size_t left) {
+    static const char some[] = "AP";
+    for (size_t k = 0; k < sizeof some - 1; k++) {
+        if (letter_units(some[k]) > left)
+            continue;
+        letters[n] = some[k], letters[n + 1] = 0;
+        run r = spelled_units(letters);
+        test_divisions(&r, 0);
+        free_run(&r);
+        test_small_runs(letters, n + 1, left - letter_units(some[k]));
+    }
+}
+
+/* The entries of one cluster, in normal writing, and its spelling. */
+typedef struct {
+    const char *entries;
+    int32_t a;
+    const char *glyphs;
+} piece;
+
+static const piece some_pieces[] = {{"", 1, "f"}, {"9", 1, "n"}, {",7", 1, "a"}, {",,,-.001", 1, "V"}, {"(2)9", 2, "n"}, {"(1:2)9;9", 1, "nn"},
+                                    {"(3)9", 3, "n"}};
+
+enum { PIECES = sizeof some_pieces / sizeof some_pieces[0] };
+
+/* The first `count` pieces, joined. */
+static void join_pieces(const size_t *which, size_t count, char *indices) {
+    *indices = 0;
+    for (size_t k = 0; k < count; k++) {
+        strcat(indices, k ? ";" : "");
+        strcat(indices, some_pieces[which[k]].entries);
+    }
+}
+
+/* What a text with these pieces reads as: 12 or 13 of a piece; or its clusters, and behind them one of the font's for each character left. */
+static glyph_label_reading model_pieces(const char *letters, const size_t *which, size_t count, run *r) {
+    size_t at = 0, unit = 0, n = r->units_len / 2;
+    uint32_t entry = 0;
+    for (size_t k = 0; k < count; k++) {
+        const piece *p = &some_pieces[which[k]];
+        if (at + (size_t)p->a > n)
+            return (glyph_label_reading){12, entry, 0, 0, 0, 0};
+        if (at + (size_t)p->a < n && is_low(unit_at(r, at + (size_t)p->a)))
+            return (glyph_label_reading){13, (uint32_t)at + (uint32_t)p->a, 0, 0, 0, 0};
+        add_cluster(r, p->a, p->glyphs);
+        at += (size_t)p->a;
+        entry += (uint32_t)strlen(p->glyphs);
+    }
+    for (; *letters; unit += letter_units(*letters++))
+        if (unit >= at)
+            add_cluster(r, (int32_t)letter_units(*letters), "f");
+    return (glyph_label_reading){0, 0, (uint32_t)n, (uint32_t)(r->clusters_len / 8), (uint32_t)(r->glyphs_len / 16), 0};
+}
+
+/* The normal writing of an accepted label of pieces has all of them up to the last that has bytes; each glyph and each unit is picked. */
+static void test_piece_run(const char *letters, const size_t *which, size_t count, const run *r) {
+    char normal[64];
+    size_t tn, in;
+    uint8_t *text = spelled_text(letters, &tn), *t, *i;
+    while (count > 0 && which[count - 1] == 0)
+        count--;
+    join_pieces(which, count, normal);
+    in = strlen(normal);
+    glyph_label_writing w = write_into("pieces", r, tn, in, &t, &i);
+    check(is_writing(w, 0, 0, (uint32_t)tn, (uint32_t)in) && same_bytes(t, text, tn) && same_bytes(i, normal, in), "%s is written with %s", letters, normal);
+    check(try_run("pieces", r), "the run of %s %s is sound", letters, normal);
+    for (size_t k = 0; 2 * k < r->units_len || 16 * k < r->glyphs_len; k++)
+        test_pick(r, k, k + 1);
+    free(text);
+    free(t);
+    free(i);
+}
+
+static void test_pieces(const char *letters, const size_t *which, size_t count) {
+    char joined[64];
+    size_t tn, in;
+    run want = spelled_units(letters), got;
+    glyph_label_reading m = model_pieces(letters, which, count, &want);
+    join_pieces(which, count, joined);
+    in = strlen(joined);
+    uint8_t *text = spelled_text(letters, &tn), *indices = new_input(joined, in);
+    glyph_label_reading a = read_into("pieces", text, tn, indices, in, 2 * (size_t)m.units, 8 * (size_t)m.clusters, 16 * (size_t)m.glyphs, &got);
+    check(is_reading(a, m.number, m.place, m.units, m.clusters, m.glyphs), "%s %s: %u %u, not %u %u", letters, joined, a.number, a.place, m.number, m.place);
+    if (m.number == 0) {
+        check(same_run(&want, &got), "the run of %s %s", letters, joined);
+        test_piece_run(letters, which, count, &want);
+    }
+    free(text);
+    free(indices);
+    free_run(&want);
+    free_run(&got);
+}
+
+/* A text with up to n pieces. One piece without bytes is no entry, as none is. */
+static void test_all_pieces(const char *letters, size_t n) {
+    for (size_t count = 0, total = 1; count <= n; count++, total *= PIECES)
+        for (size_t number = count == 1; number < total; number++) {
+            size_t which[4], rest = number;
+            for (size_t k = 0; k < count; k++, rest /= PIECES)
+                which[k] = rest % PIECES;
+            test_pieces(letters, which, count);
+        }
+}
+
+/* All texts of up to `most` characters of an alphabet, each with up to n pieces. */
+static void test_small_texts(const char *alphabet, size_t most, size_t n) {
+    size_t count = strlen(alphabet), total = 1;
+    for (size_t size = 1; size <= most; size++) {
+        total *= count;
+        for (size_t number = 0; number < total; number++) {
+            char letters[8] = "";
+            size_t rest = number;
+            for (size_t k = 0; k < size; k++, rest /= count)
+                letters[k] = alphabet[rest % count];
+            test_all_pieces(letters, n);
+        }
+    }
+}
+
+/* n pairs, of which the first ones have an entry and the others none. */
+static void test_pairs(size_t n, size_t named) {
+    size_t tn, in;
+    uint8_t *text = repeated(GRIN, n, "", &tn), *indices = repeated("(2)9;", named ? named - 1 : 0, named ? "(2)9" : "", &in), *t, *i;
+    run want = new_run(4 * n, 8 * n, 16 * n), got;
+    for (size_t k = 0; k < n; k++) {
+        memcpy(want.units + 4 * k, "\x3D\xD8\x00\xDE", 4);
+        put_number(want.clusters + 8 * k, 2);
+        put_number(want.clusters + 8 * k + 4, 1);
+        put_number(want.glyphs + 16 * k, k < named ? 9 : -1);
+        put_number(want.glyphs + 16 * k + 4, -1);
+    }
+    uint32_t count = (uint32_t)n;
+    size_t u = 4 * n, c = 8 * n, g = 16 * n;
+    glyph_label_reading a = read_into("pairs", text, tn, indices, in, u, c, g, &got);
+    check(is_reading(a, 0, 0, 2 * count, count, count) && same_run(&want, &got), "%zu pairs, %zu named: %u %u", n, named, a.number, a.place);
+    check(is_reading(read_into("pairs", text, tn, indices, in, u - 1, c, g, NULL), 16, 2 * count, 0, 0, 0), "16 of %zu pairs", n);
+    check(is_reading(read_into("pairs", text, tn, indices, in, u, c - 1, g, NULL), 17, count, 0, 0, 0), "17 of %zu pairs", n);
+    check(is_reading(read_into("pairs", text, tn, indices, in, u, c, g - 1, NULL), 18, count, 0, 0, 0), "18 of %zu pairs", n);
+    check(is_writing(write_into("pairs", &want, tn, in, &t, &i), 0, 0, (uint32_t)tn, (uint32_t)in) && same_bytes(t, text, tn) && same_bytes(i, indices, in),
+          "%zu pairs, %zu named, are written", n, named);
+    check(try_run("pairs", &want), "%zu pairs, %zu named, are sound", n, named);
+    if (named == 0)
+        test_stale(text, tn, "", &want);
+    test_pick(&want, 0, n);
+    test_pick(&want, n - 1, n);
+    test_pick(&want, n / 2, n / 2 + 1);
+    test_pick(&want, 2 * n - 1, 2 * n);
+    put_number(want.glyphs + 16 * (n - 1) + 12, 1);
+    check(try_run("pairs", &want) == (named == n), "%zu pairs, %zu named, and an offset at the end", n, named);
+    free(text);
+    free(indices);
+    free(t);
+    free(i);
+    free_run(&want);
+    free_run(&got);
+}
+
+static void test_pair_sizes(void) {
+    static const size_t sizes[] = {1, 15, 16, 17, 31, 32, 33, 127, 128, 129, 255, 256, 257, 511, 512, 513, 1023, 1024, 1025, 2047, 2048};
+    for (size_t k = 0; k < sizeof sizes / sizeof sizes[0]; k++) {
+        test_pairs(sizes[k], 0);
+        test_pairs(sizes[k], 1);
+        test_pairs(sizes[k], sizes[k] - 1);
+        test_pairs(sizes[k], sizes[k]);
+    }
+    size_t tn;
+    uint8_t *text = repeated(GRIN, 2049, "", &tn);
+    check(is_reading(read_into("pairs", text, tn, NULL, 0, 4 * 2049, 8 * 2049, 16 * 2049, NULL), 5, 0, 0, 0, 0), "2,049 pairs");
+    check(is_reading(read_into("pairs", text, tn, NULL, 0, 0, 0, 0, NULL), 5, 0, 0, 0, 0), "2,049 pairs, no room");
+    free(text);
+}
+
+/* Labels of the same kind read as the same run; no others do. */
+typedef struct {
+    int kind;
+    const char *letters, *indices;
+} kind_row;
+
+static const kind_row kind_rows[] = {
+    {0, "ABP", ""}, {0, "ABP", ";"}, {0, "ABP", ","}, {0, "ABP", ",,;,,,0"}, {0, "ABP", ",,-0,.0004;,,+.0"}, {1, "ABP", ";;(2)9"},
+    {1, "ABP", ",;;(2:1)009,,0e5"}, {2, "ABP", "5"}, {2, "ABP", "5;"}, {2, "ABP", "(1)5;,,,"}, {3, "ABP", ";5"}, {3, "ABP", ",,0;(01:1)5"},
+    {4, "ABP", "(2)9"}, {4, "ABP", "(2)9,,,-.0"}, {5, "ABP", "(4)9"}, {6, "ABP", ",0"}, {6, "ABP", ",0;"}, {7, "ABP", ";;(2)9,0"}, {8, "ABQ", ""},
+    {8, "ABQ", ";"}, {9, "P", ""}, {9, "{}P", ""}, {10, "P", "(2)9"}, {10, "P", "(02)9"}, {11, "PP", ""}, {12, "PP", "(2)9"}, {12, "PP", "(2:1)09"},
+    {13, "PP", "(2)9;(2)9"}, {14, "PP", "(4)9"}, {15, "PA", ""}, {16, "PA", "(2)9"}, {16, "PA", "(2)9;"}, {16, "PA", "(2)9;,"}, {17, "PA", "(2)9;,0"},
+    {18, "PAP", "(2)9"}, {18, "PAP", "(2)9;"}, {19, "PAP", "(2)9;;(2)9"}, {20, "{}{P", ""}, {20, "{}{P", ","}, {21, "AP", ""}, {22, "AB", ""},
+};
+
+enum { KINDS = sizeof kind_rows / sizeof kind_rows[0] };
+
+/* Equal runs and equal bytes of the normal writing go together. */
+static void test_kinds(void) {
+    run r[KINDS];
+    uint8_t *text[KINDS], *indices[KINDS];
+    glyph_label_writing w[KINDS];
+    for (size_t k = 0; k < KINDS; k++) {
+        const kind_row *row = &kind_rows[k];
+        size_t tn;
+        uint8_t *t = spelled_text(row->letters, &tn);
+        int read = read_into("kinds", t, tn, (const uint8_t *)row->indices, strlen(row->indices), 64, 64, 128, &r[k]).number == 0;
+        check(read && try_run("kinds", &r[k]), "%s %s is read, and sound", row->letters, row->indices);
+        w[k] = write_into("kinds", &r[k], 64, 64, &text[k], &indices[k]);
+        free(t);
+    }
+    for (size_t k = 0; k < KINDS; k++)
+        for (size_t j = 0; j < KINDS; j++) {
+            const kind_row *a = &kind_rows[k], *b = &kind_rows[j];
+            int same = a->kind == b->kind, bytes = w[k].text == w[j].text && w[k].indices == w[j].indices && same_bytes(text[k], text[j], w[k].text)
+                                                   && same_bytes(indices[k], indices[j], w[k].indices);
+            check(same_run(&r[k], &r[j]) == same && bytes == same, "%s %s and %s %s", a->letters, a->indices, b->letters, b->indices);
+        }
+    for (size_t k = 0; k < KINDS; k++) {
+        free_run(&r[k]);
+        free(text[k]);
+        free(indices[k]);
+    }
+}
+
+static void test_tail_pairs(int full) {
+    char letters[16];
+    test_run_rows();
+    test_small_runs(letters, 0, full ? 5 : 3);
+    test_small_texts("AePQ", full ? 4 : 2, full ? 3 : 2);
+    test_small_texts("ADEQR", full ? 3 : 2, 1);
+    test_pair_sizes();
+    test_kinds();
+}
+
 /* ---- Random cases ---- */
+
+/* A run of a few characters with a cluster each, the last ones left to the font; half of them with a bit changed somewhere. */
+static run random_pairs(void) {
+    static const char *const glyphs[] = {"f", "n", "n", "nn", "a", "z", "u", "V"};
+    char letters[8] = "";
+    size_t n = 1 + random_below(5), first = random_below(2) ? 0 : random_below((uint32_t)n);
+    for (size_t k = 0; k < n; k++)
+        letters[k] = "APQ"[random_below(3)];
+    run r = spelled_units(letters);
+    for (size_t k = 0; k < n; k++)
+        add_cluster(&r, (int32_t)letter_units(letters[k]), k < first ? glyphs[random_below(sizeof glyphs / sizeof glyphs[0])] : "f");
+    if (random_below(2)) {
+        uint32_t which = random_below(3);
+        uint8_t *bytes = which == 0 ? r.units : which == 1 ? r.clusters : r.glyphs;
+        size_t size = which == 0 ? r.units_len : which == 1 ? r.clusters_len : r.glyphs_len;
+        bytes[random_below((uint32_t)size)] ^= (uint8_t)(1 << random_below(8));
+    }
+    return r;
+}
 
 /* A run of small numbers, most of them plausible, some of them any. */
 static run random_run(void) {
+    if (random_below(3) == 0)
+        return random_pairs();
     size_t u = random_below(6), c = random_below(5), g = random_below(6);
     static const uint16_t some[] = {0x41, 0x7B, 0x7D, 0xE33, 0xD83D, 0xDE00, 0x20, 0xFFFD, 0x9, 0x26, 0x3C, 0x22, 0xD};
     if (random_below(4))
@@ -1574,22 +2111,29 @@ static run random_run(void) {
     return r;
 }
 
-/* A run from random bytes, many of them 0, of sizes that need not be whole. */
+/* A run from random bytes, many of them 0, of sizes that need not be whole; some of them end in pairs left to the font. */
 static run wild_run(void) {
-    size_t n = 1 + random_below(3), more = random_below(3) ? 0 : 1;
-    run r = new_run(2 * n + more * random_below(4), 8 * n + more * random_below(9), 16 * n + more * random_below(17));
+    size_t n = 1 + random_below(3), more = random_below(3) ? 0 : 1, pairs = random_below(2) ? 0 : random_below((uint32_t)n + 1);
+    run r = new_run(2 * (n + pairs) + more * random_below(4), 8 * n + more * random_below(9), 16 * n + more * random_below(17));
     for (size_t k = 0; k < r.units_len; k++)
         r.units[k] = (uint8_t)(random_below(20) == 0 ? random_below(256) : k % 2 == 0 ? 0x20 + random_below(90) : 0);
     for (size_t k = 0; k < r.clusters_len; k++)
         r.clusters[k] = (uint8_t)(random_below(60) == 0 ? random_below(256) : k % 4 == 0);
     for (size_t k = 0; k < r.glyphs_len; k++)
         r.glyphs[k] = (uint8_t)(random_below(3) == 0 && k % 4 != 3 ? random_below(256) : 0);
+    for (size_t k = n - pairs; k < n; k++) {
+        memcpy(r.units + 2 * (2 * k - (n - pairs)), "\x3D\xD8\x00\xDE", 4);
+        memcpy(r.clusters + 8 * k, "\2\0\0\0\1\0\0\0", 8);
+        for (size_t i = 0; i < 16; i++)
+            r.glyphs[16 * k + i] = (uint8_t)(random_below(200) == 0 ? random_below(256) : i < 8 ? 255 : 0);
+    }
     return r;
 }
 
 /* A label from pieces, a text of up to 63 bytes and indices of up to 255. */
 static void random_pieces(char *text, char *indices) {
-    static const char *const texts[] = {"", "A", "AB", "{}", "{}{", "{", "\xF0\x9F\x98\x80", "fl", "ow", "\xE0\xB8\xB3", "\xC3", "\x01", "ABCDEFGH"};
+    static const char *const texts[] = {"", "A", "AB", "{}", "{}{", "{", GRIN, "\xF0\x90\x80\x80", "AB" GRIN "C", "AB" GRIN GRIN, "fl", "ow",
+                                        "\xE0\xB8\xB3", "\xC3", "\x01", "ABCDEFGH"};
     static const char *const pieces[] = {"5", ";", ";", ";", ",", "(2)", "(1:2)", "(2:3)7;8;9", "65535", "70000", ".5", "-1", "12.25", "1e3", "1e-4", ".00050", "e", "(0)", "6,1,2,3", "x"};
     *text = *indices = 0;
     for (uint32_t k = random_below(4); k > 0; k--)
@@ -1668,6 +2212,7 @@ static void test_known(int full) {
     test_long_raw();
     test_escapes(full);
     test_sheets(full);
+    test_tail_pairs(full);
 }
 
 static void test_random(unsigned long rounds) {
