@@ -2,7 +2,7 @@
 -- Assumes nothing.
 use Prim.Native.Nat.{ℕ, suc, _≤_, _<_}
 use native.Mathlib.Omega.{arith}
-use mathlib.Core.Path.{_≡_, refl, sym, ap}
+use mathlib.Core.Path.{_≡_, refl, sym, ap, _∙_}
 use mathlib.Core.Bool.{Bool, true, false, cond, not, _&&_, and-false}
 use mathlib.Core.List.{List, [], _∷_, _++_, append-nil, append-assoc}
 use borrow.Author.Tests.{eq-eqb, not-true, not-false, le-leb, leb-true, eqb-true}
@@ -21,8 +21,9 @@ use Rattle.label.specs.declared.Index.the-variants.{Named, Font}
 use Rattle.label.specs.declared.Advance.{Advance}
 use Rattle.label.specs.declared.Advance.the-variants.{Given, Own}
 use Rattle.label.specs.declared.Glyph.{Glyph}
-use Rattle.label.proofs.Basics.{and-l, and-r, clash, cases}
-use Rattle.label.proofs.Splits.{none, free, allFree, none-append, parts-joined, length-joined, join-free, free-trim, total, join-total, total-trim, joined-first}
+use Rattle.label.proofs.Basics.{and-l, and-r, cases}
+use Rattle.label.proofs.Splits.{none, free, allFree, none-append, parts-joined, length-joined, join-free, free-trim, total, join-total, total-trim}
+use Rattle.label.proofs.Outputs.{empty-is-font}
 use Rattle.label.proofs.Decimals.{value-decimal, all-decimal, empty-decimal, length-decimal, digits-decimal, digits-none, cut-none, cut-found}
 use Rattle.label.proofs.Values.{digit-not, head-digit, Writes, value-writes}
 
@@ -310,14 +311,4 @@ module _ (a b : ℕ) (g : Glyph) (m : glyphFits g ≡ true) where
 
 -- an entry that names its index has bytes
 pub entry-full : (a b : ℕ) (g : Glyph) → named (g .index) ≡ true → empty (entryBytes a b g) ≡ false
-unfolding entryBytes
-entry-full a b g h =
-    joined-first 44 (indexBytes a b (g .index)) (advanceBytes (g .advance) ∷ offsetBytes (g .u) ∷ offsetBytes (g .v) ∷ []) (full (g .index) h)
-  where
-    full : (i : Index) → named i ≡ true → empty (indexBytes a b i) ≡ false
-    full (Named n) h = unfold indexBytes in (behind (mapBytes a b) n)
-      where
-        behind : (m : List ℕ) (n : ℕ) → empty (m ++ decimal n) ≡ false
-        behind [] n = empty-decimal n
-        behind (x ∷ m) n = refl
-    full Font h = clash false h refl
+entry-full a b g h = empty-is-font a b g ∙ rw h

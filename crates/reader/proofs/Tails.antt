@@ -60,23 +60,24 @@ module _ (us : List ℕ) (c₀ g₀ : List ℤ) (n k : ℕ) (cs gs : List ℤ) (
     more : tail (drop j us) ≡ before true (cluster a 1) fontGlyph (tail (drop (j + a) us))
     more = tail-first (drop j us) a some (sym e) ∙ ap (λ (r : List ℕ). before true (cluster a 1) fontGlyph (tail r)) (drop-drop a j us)
 
+    one-cluster : length (tail (drop j us) .clusters) ≡ suc (length (tail (drop (j + a) us) .clusters))
+    one-cluster = ap (λ (p : Parts). length (p .clusters)) more
+
+    one-glyph : length (tail (drop j us) .glyphs) ≡ suc (length (tail (drop (j + a) us) .glyphs))
+    one-glyph = ap (λ (p : Parts). length (p .glyphs)) more
+
     pub storing-room : (2 * c + 1 < length cs) × (4 * g + 3 < length gs)
-    storing-room =
-        let x : length (tail (drop j us) .clusters) ≡ suc (length (tail (drop (j + a) us) .clusters)) = ap (λ (p : Parts). length (p .clusters)) more in
-        let y : length (tail (drop j us) .glyphs) ≡ suc (length (tail (drop (j + a) us) .glyphs)) = ap (λ (p : Parts). length (p .glyphs)) more in
-        omega (arith, x, y, s .room-clusters, s .room-glyphs, s .same-clusters, s .same-glyphs)
+    storing-room = omega (arith, one-cluster, one-glyph, s .room-clusters, s .room-glyphs, s .same-clusters, s .same-glyphs)
 
     pub storing-next : (cs′ gs′ : List ℤ) → cs′ ≡ sets cs (2 * c) (clusterPlaces (cluster a 1)) → gs′ ≡ sets gs (4 * g) (glyphPlaces fontGlyph)
         → Storing us c₀ g₀ n k cs′ gs′ (j + a) (c + 1) (g + 1)
     storing-next cs′ gs′ ec eg =
-        let x : length (tail (drop j us) .clusters) ≡ suc (length (tail (drop (j + a) us) .clusters)) = ap (λ (p : Parts). length (p .clusters)) more in
-        let y : length (tail (drop j us) .glyphs) ≡ suc (length (tail (drop (j + a) us) .glyphs)) = ap (λ (p : Parts). length (p .glyphs)) more in
         record {
           inside = inside-next .2;
           same-clusters = ap length ec ∙ length-sets cs (2 * c) (clusterPlaces (cluster a 1)) ∙ s .same-clusters;
           same-glyphs = ap length eg ∙ length-sets gs (4 * g) (glyphPlaces fontGlyph) ∙ s .same-glyphs;
-          room-clusters = omega (arith, x, s .room-clusters);
-          room-glyphs = omega (arith, y, s .room-glyphs);
+          room-clusters = omega (arith, one-cluster, s .room-clusters);
+          room-glyphs = omega (arith, one-glyph, s .room-glyphs);
           clusters =
               one-stored flatClusters clusterPlaces 2 clusters-flatten (cluster a 1) (tail (drop (j + a) us) .clusters) cs cs′ _ c ec
               (subst (λ (p : Parts). sets cs (2 * c) (flatClusters (p .clusters)) ≡ sets c₀ (2 * n) (flatClusters (tail us .clusters))) more (s .clusters));

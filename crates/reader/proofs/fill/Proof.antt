@@ -156,9 +156,9 @@ part-fill-tail-end c = omega (arith, c .before .before .before .before .before .
 fill-tail-requires : tie.Need-fill-tail-requires Inv-loop μ-loop
 fill-tail-requires c κs =
     let a = c .before .before .before .before .before .before .before .before .before .before .before .before .before .before .before .before in
-    let f = label (c .before .before .before .before .before .before .before .before .before .before .before .before .before .before .before .before) in
+    let f = label a in
     let l = c .before .before .before .before .before .before .loop .inv in
-    let e = units-left _ (c .before .before .before .before .before .before .before .before .before .before .before .before .before .before .before .before .args .units .now) _ _ (c .before .before .before .before .before .before .loop .at .unit) (f .text .count) (omega (arith, c .before .before .before .before .before .before .loop .inv .ready .inside, f .text .count)) (c .before .before .before .before .before .before .before .before .before .before .fill-units .ensures ∙ ap (λ (b : ℕ). filled (unitsFrom (c .before .before .before .before .before .before .before .before .before .before .before .before .before .before .before .before .args .text .now) b) (c .before .before .before .before .before .before .before .before .before .before .before .before .before .before .before .before .args .units .now)) (c .before .before .before .before .before .before .before .before .before .before .before .before .units-start .ensures)) in
+    let e = units-left _ (a .args .units .now) _ _ (c .before .before .before .before .before .before .loop .at .unit) (f .text .count) (omega (arith, l .ready .inside, f .text .count)) (c .before .before .before .before .before .before .before .before .before .before .fill-units .ensures ∙ ap (λ (b : ℕ). filled (unitsFrom (a .args .text .now) b) (a .args .units .now)) (c .before .before .before .before .before .before .before .before .before .before .before .before .units-start .ensures)) in
     let cs = end-clusters _ _ (f .all) (f .walked) _ _ _ (l .stands) (l .ready) (c .before .before .before .before .if1 .left) _ e in
     let gs = end-glyphs _ _ (f .all) (f .walked) _ _ _ (l .stands) (l .ready) (c .before .before .before .before .if1 .left) _ e in
     omega (arith, cs, gs, f .clusters-are, f .glyphs-are, l .clusters .same, l .glyphs .same, a .pre .1 .1, a .pre .1 .2)
@@ -175,10 +175,10 @@ same-length-6 c = c .before .before .fill-tail .kept .1 .1 .1 .1 .0 ∙ c .befor
 returns-2 : tie.Need-returns-2 Inv-loop μ-loop
 returns-2 c =
     let a = c .before .before .before .before .before .before .before .before .before .before .before .before .before .before .before .before .before .before .before in
-    let f = label (c .before .before .before .before .before .before .before .before .before .before .before .before .before .before .before .before .before .before .before) in
+    let f = label a in
     let l = c .before .before .before .before .before .before .before .before .before .loop .inv in
-    let u = (c .before .before .before .before .before .before .before .before .before .before .before .before .before .fill-units .ensures ∙ ap (λ (b : ℕ). filled (unitsFrom (c .before .before .before .before .before .before .before .before .before .before .before .before .before .before .before .before .before .before .before .args .text .now) b) (c .before .before .before .before .before .before .before .before .before .before .before .before .before .before .before .before .before .before .before .args .units .now)) (c .before .before .before .before .before .before .before .before .before .before .before .before .before .before .before .units-start .ensures)) in
-    let e = units-left _ (c .before .before .before .before .before .before .before .before .before .before .before .before .before .before .before .before .before .before .before .args .units .now) _ _ (c .before .before .before .before .before .before .before .before .before .loop .at .unit) (f .text .count) (omega (arith, c .before .before .before .before .before .before .before .before .before .loop .inv .ready .inside, f .text .count)) (c .before .before .before .before .before .before .before .before .before .before .before .before .before .fill-units .ensures ∙ ap (λ (b : ℕ). filled (unitsFrom (c .before .before .before .before .before .before .before .before .before .before .before .before .before .before .before .before .before .before .before .args .text .now) b) (c .before .before .before .before .before .before .before .before .before .before .before .before .before .before .before .before .before .before .before .args .units .now)) (c .before .before .before .before .before .before .before .before .before .before .before .before .before .before .before .units-start .ensures)) in (
+    let u = (c .before .before .before .before .before .before .before .before .before .before .before .before .before .fill-units .ensures ∙ ap (λ (b : ℕ). filled (unitsFrom (a .args .text .now) b) (a .args .units .now)) (c .before .before .before .before .before .before .before .before .before .before .before .before .before .before .before .units-start .ensures)) in
+    let e = units-left _ (a .args .units .now) _ _ (c .before .before .before .before .before .before .before .before .before .loop .at .unit) (f .text .count) (omega (arith, l .ready .inside, f .text .count)) u in (
       units-filled _ _ _ f _ _ u,
       (
         clusters-filled _ _ _ f _ _ (clusters-end _ _ (f .all) (f .walked) _ _ _ (l .stands) (l .ready) (c .before .before .before .before .before .before .before .if1 .left) _ e _ _ _ (l .clusters) (c .before .before .fill-tail .ensures .0) (omega (arith, f .clusters-are, a .pre .1 .1))),
