@@ -18,14 +18,10 @@ use Rattle.label.specs.declared.Advance.{Advance}
 use Rattle.label.specs.declared.Advance.the-variants.{Given, Own}
 use Rattle.label.specs.declared.Glyph.{Glyph}
 use Rattle.label.proofs.Basics.{and-l, and-r, clash, cases}
-use Rattle.label.proofs.Splits.{empty-nil, trim-nil, trim-empty, joined-empty}
+use Rattle.label.proofs.Splits.{empty-nil, empty-behind, trim-nil, trim-empty, joined-empty}
 use Rattle.label.proofs.Decimals.{empty-decimal}
 
 -- ── which fields have bytes ──
-
-empty-behind : (x y : List ℕ) → empty y ≡ false → empty (x ++ y) ≡ false
-empty-behind [] y h = h
-empty-behind (b ∷ x) y h = refl
 
 value-full : (n : ℕ) → empty (valueBytes n) ≡ false
 unfolding valueBytes
