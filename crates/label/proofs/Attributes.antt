@@ -16,8 +16,8 @@ use Rattle.label.specs.Bytes.{ascii, empty, cut, isDigit, allDigits, dig
 use Rattle.label.specs.Text.{within, xmlChar}
 use Rattle.label.specs.Write.{utf8}
 use Rattle.label.specs.Attribute.{same, predefined, digitValue, allOf, valueBehind, numbered, referred, body, isClosed, isReference, isGood, spaced, gives, further, resolveFrom, escapeByte, escape}
-use Rattle.label.proofs.Basics.{and-l, and-r, clash, cases, need-ok, bind-ok}
-use Rattle.label.proofs.Texts.{within-lo, within-hi, utf8-short}
+use Rattle.label.proofs.Basics.{and-l, and-r, clash, cases, need-ok, bind-ok, within-lo, within-hi}
+use Rattle.label.proofs.Rows.{utf8-size}
 use Rattle.label.proofs.Walks.{ok-path}
 use Rattle.label.proofs.Cursors.{onto}
 
@@ -189,7 +189,7 @@ module _ (b : ℕ) (bs : List ℕ) (g : isGood b bs ≡ true) where
   gives-within =
       cases (eqb b 38)
       (λ e. let l = referred-long (body bs) (and-r (isClosed bs) (xmlChar (referred (body bs))) (reference-is e)) in
-      rw e (omega (arith, utf8-short (referred (body bs)))))
+      rw e (omega (arith, utf8-size (referred (body bs)) .1)))
       (λ e. rw e (omega arith))
 
 pub resolved-within : (bs : List ℕ) (k at : ℕ) (r : List ℕ) → resolveFrom k at bs ≡ ok r → length r ≤ length bs - k

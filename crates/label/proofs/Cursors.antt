@@ -13,7 +13,7 @@ use lib.ListN.{length, getD, take, drop, length-drop, drop-of-length-le}
 use lib.Seq.{take-all, drop-cons, drop-drop}
 use Rattle.label.specs.Outcome.{Outcome, ok, no, _>>=_}
 use Rattle.label.specs.Bytes.{split}
-use Rattle.label.specs.Text.{lead, starts, scalar, xmlChar, unitsOf, decode}
+use Rattle.label.specs.Text.{following, starts, scalar, xmlChar, unitsOf, decode}
 use Rattle.label.specs.Entry.{Entry}
 use Rattle.label.specs.Run.{Parts, State, opens, takes, cluster, before, next, step, walk}
 use Rattle.label.specs.declared.Glyph.{Glyph}
@@ -54,20 +54,20 @@ decode-skip (suc k) at (b ∷ s) = decode-skip k (suc at) s ∙ rw (add-suc at k
 
 -- a well-formed XML character at the cursor
 pub decode-good : (s : List ℕ) (i : ℕ) → i < length s → starts (getD s i 0) (drop (suc i) s) ≡ true
-    → xmlChar (scalar (lead (getD s i 0) .more) (getD s i 0) (drop (suc i) s)) ≡ true
-    → decode 0 i (drop i s) ≡ onto (unitsOf (scalar (lead (getD s i 0) .more) (getD s i 0) (drop (suc i) s)))
-    (decode 0 (suc i + lead (getD s i 0) .more) (drop (suc i + lead (getD s i 0) .more) s))
+    → xmlChar (scalar (following (getD s i 0) (drop (suc i) s)) (getD s i 0) (drop (suc i) s)) ≡ true
+    → decode 0 i (drop i s) ≡ onto (unitsOf (scalar (following (getD s i 0) (drop (suc i) s)) (getD s i 0) (drop (suc i) s)))
+    (decode 0 (suc i + following (getD s i 0) (drop (suc i) s)) (drop (suc i + following (getD s i 0) (drop (suc i) s)) s))
 unfolding decode
 decode-good s i h t x =
-    let b = getD s i 0 in
-    rw (drop-cons s i 0 h, t, x, decode-skip (lead b .more) (suc i) (drop (suc i) s), drop-drop (lead b .more) (suc i) s)
+    let n = following (getD s i 0) (drop (suc i) s) in
+    rw (drop-cons s i 0 h, t, x, decode-skip n (suc i) (drop (suc i) s), drop-drop n (suc i) s)
 
 pub decode-ill : (s : List ℕ) (i : ℕ) → i < length s → starts (getD s i 0) (drop (suc i) s) ≡ false → decode 0 i (drop i s) ≡ no 2 i
 unfolding decode
 decode-ill s i h t = rw (drop-cons s i 0 h, t)
 
 pub decode-outside : (s : List ℕ) (i : ℕ) → i < length s → starts (getD s i 0) (drop (suc i) s) ≡ true
-    → xmlChar (scalar (lead (getD s i 0) .more) (getD s i 0) (drop (suc i) s)) ≡ false → decode 0 i (drop i s) ≡ no 3 i
+    → xmlChar (scalar (following (getD s i 0) (drop (suc i) s)) (getD s i 0) (drop (suc i) s)) ≡ false → decode 0 i (drop i s) ≡ no 3 i
 unfolding decode
 decode-outside s i h t x = rw (drop-cons s i 0 h, t, x)
 

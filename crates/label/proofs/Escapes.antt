@@ -26,6 +26,7 @@ use Rattle.label.specs.declared.Advance.the-variants.{Given, Own}
 use Rattle.label.specs.declared.Glyph.{Glyph}
 use Rattle.label.specs.declared.Cluster.{Cluster}
 use Rattle.label.proofs.Basics.{and-l, and-r, or-l, or-r, clash, cases}
+use Rattle.label.proofs.Texts.{unit-short}
 use Rattle.label.proofs.Splits.{none, allNone, none-append, none-trim, join-free}
 use Rattle.label.proofs.Decimals.{all-decimal, digits-none}
 use Rattle.label.proofs.Sounds.{sound-parts}
@@ -115,15 +116,11 @@ byte-most b =
     (cond-most (eqb b 10) _ _ (omega arith)
     (cond-most (eqb b 13) _ _ (omega arith) (omega arith))))))
 
-utf8-most : (c : ℕ) → length (utf8 c) ≤ 6
-unfolding utf8
-utf8-most c = cond-most (leb c 127) _ _ (omega arith) (cond-most (leb c 2047) _ _ (omega arith) (cond-most (leb c 65535) _ _ (omega arith) (omega arith)))
-
 unit-most : (u v : ℕ) → length (escape (unitBytes u v)) ≤ 6
 unit-most u v =
     cases (leb u 127)
     (λ a. rw (unit-ascii u v (leb-true u 127 a)) (byte-most u))
-    (λ a. rw (escape-stays (unitBytes u v) (unit-none u v (leb-false u 127 a))) (unfold unitBytes in (cond-most (isLow u) _ _ (omega arith) (cond-most (isHigh u) _ _ (utf8-most (paired u v)) (utf8-most u)))))
+    (λ a. rw (escape-stays (unitBytes u v) (unit-none u v (leb-false u 127 a))) (omega (arith, unit-short u v)))
 
 units-most : (us : List ℕ) → length (escape (unitsBytes us)) ≤ 6 * length us
 unfolding unitsBytes

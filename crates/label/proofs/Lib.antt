@@ -4,6 +4,7 @@ pub mod Decimals
 pub mod Values
 pub mod Outputs
 pub mod Entries
+pub mod Rows
 pub mod Texts
 pub mod Tails
 pub mod Walks
@@ -22,3 +23,4 @@ pub mod Restoring
 pub mod Places
 pub mod Sheets
 pub mod Answering
+pub mod Encoding

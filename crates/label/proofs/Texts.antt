@@ -2,55 +2,24 @@
 -- Assumes nothing.
 use Prim.Native.Nat.{ℕ, zero, suc, _+_, _*_, _-_, _/_, _%_, _≤_, _<_}
 use native.Mathlib.Omega.{arith}
-use native.Mathlib.Nat.{div-div-eq-div-mul}
 use mathlib.Core.Path.{_≡_, refl, _∙_, ap}
 use mathlib.Core.Logic.{_⊎_, inl, inr, ⊎-elim}
-use mathlib.Core.Bool.{Bool, true, false, not, _&&_, _||_, and-false}
+use mathlib.Core.Bool.{Bool, true, false, not, _&&_, _||_}
 use mathlib.Core.List.{List, [], _∷_, _++_}
-use borrow.Author.Tests.{not-true, ltb-true, ltb-false, le-leb, lt-leb, leb-true, leb-false, eqb-true}
-use lib.Dec.{eqb, ltb, leb}
+use borrow.Author.Tests.{not-true, le-leb, lt-leb, leb-true, eqb-true}
+use lib.Dec.{eqb, leb}
 use lib.ListN.{length, getD, drop, length-append}
-use Rattle.label.specs.Outcome.{ok}
-use Rattle.label.specs.Text.{within, row, lead, trail, starts, scalar, xmlChar, isHigh, isLow, isPair, unitsOf, decode, braced, marked, unmarked}
+use lib.Seq.{drop-append-seam}
+use Rattle.label.specs.Outcome.{ok, need, _>>_}
+use Rattle.label.specs.Text.{within, table, rowFits, fitting, starts, moreBytes, following, scalar, xmlChar, isHigh, isLow, isPair, unitsOf, decode, braced, marked, unmarked}
 use Rattle.label.specs.Write.{utf8, paired, unitBytes, unitsBytes, textOf}
 use Rattle.label.specs.Sound.{properUnits}
-use Rattle.label.proofs.Basics.{and-l, and-r, clash, cases}
+use Rattle.label.specs.Encoding.{isScalar}
+use Rattle.label.proofs.Basics.{and-l, and-r, clash, cases, or-cases, within-is, within-lo, within-hi, above-range}
+use Rattle.label.proofs.Cursors.{onto, decode-skip}
+use Rattle.label.proofs.Rows.{low-scalar, high-scalar, utf8-size, read-at}
 
--- ── characters: one, two, three, four bytes ──
-
-decode-1 : (c at : ℕ) (rest us : List ℕ) → lead c ≡ row 0 0 0 → xmlChar c ≡ true → decode 0 (suc at) rest ≡ ok us → decode 0 at (c ∷ rest) ≡ ok (unitsOf c ++ us)
-unfolding decode starts trail scalar
-decode-1 c at rest us l x h = rw (l, x, h)
-
-decode-2 : (c b b1 lo hi at : ℕ) (rest us : List ℕ) → lead b ≡ row 1 lo hi → within lo hi b1 ≡ true → b % 32 * 64 + b1 % 64 ≡ c → xmlChar c ≡ true
-    → decode 0 (suc (suc at)) rest ≡ ok us → decode 0 at (b ∷ b1 ∷ rest) ≡ ok (unitsOf c ++ us)
-unfolding decode starts trail scalar
-decode-2 c b b1 lo hi at rest us l w e x h = rw (l, w, e, x, h)
-
-decode-3 : (c b b1 b2 lo hi at : ℕ) (rest us : List ℕ) → lead b ≡ row 2 lo hi → within lo hi b1 ≡ true → within 128 191 b2 ≡ true
-    → b % 16 * 4096 + b1 % 64 * 64 + b2 % 64 ≡ c → xmlChar c ≡ true
-    → decode 0 (suc (suc (suc at))) rest ≡ ok us → decode 0 at (b ∷ b1 ∷ b2 ∷ rest) ≡ ok (unitsOf c ++ us)
-unfolding decode starts trail scalar
-decode-3 c b b1 b2 lo hi at rest us l w w2 e x h = rw (l, w, w2, e, x, h)
-
-decode-4 : (c b b1 b2 b3 lo hi at : ℕ) (rest us : List ℕ) → lead b ≡ row 3 lo hi → within lo hi b1 ≡ true → within 128 191 b2 ≡ true → within 128 191 b3 ≡ true
-    → b % 8 * 262144 + b1 % 64 * 4096 + b2 % 64 * 64 + b3 % 64 ≡ c → xmlChar c ≡ true
-    → decode 0 (suc (suc (suc (suc at)))) rest ≡ ok us → decode 0 at (b ∷ b1 ∷ b2 ∷ b3 ∷ rest) ≡ ok (unitsOf c ++ us)
-unfolding decode starts trail scalar
-decode-4 c b b1 b2 b3 lo hi at rest us l w w2 w3 e x h = rw (l, w, w2, w3, e, x, h)
-
-pub within-is : (lo hi b : ℕ) → lo ≤ b → b ≤ hi → within lo hi b ≡ true
-within-is lo hi b h k = rw (le-leb lo b h, le-leb b hi k)
-
-pub within-lo : (lo hi b : ℕ) → within lo hi b ≡ true → lo ≤ b
-within-lo lo hi b h = leb-true lo b (and-l (leb lo b) (leb b hi) h)
-
-pub within-hi : (lo hi b : ℕ) → within lo hi b ≡ true → b ≤ hi
-within-hi lo hi b h = leb-true b hi (and-r (leb lo b) (leb b hi) h)
-
-pub or-cases : (a b : Bool) → (a || b) ≡ true → (a ≡ true) ⊎ (b ≡ true)
-or-cases true b h = inl refl
-or-cases false b h = inr h
+-- ── characters ──
 
 -- an XML character is no surrogate and at most U+10FFFF
 pub xml-range : (c : ℕ) → xmlChar c ≡ true → (c ≤ 55295) ⊎ ((57344 ≤ c) × (c ≤ 1114111))
@@ -70,122 +39,23 @@ xml-range c h =
     (λ k. inr (omega (arith, within-lo 65536 1114111 c k, within-hi 65536 1114111 c k)))
     (or-cases (eqb c 9 || eqb c 10 || eqb c 13 || within 32 55295 c || within 57344 65533 c) (within 65536 1114111 c) h)
 
--- the tests of a range
-pub above-range : (lo hi b : ℕ) → hi < b → within lo hi b ≡ false
-above-range lo hi b h = rw (lt-leb b hi h, and-false (leb lo b))
+xml-scalar : (c : ℕ) → xmlChar c ≡ true → isScalar c ≡ true
+xml-scalar c h = ⊎-elim (λ k. low-scalar c k) (λ k. high-scalar c (k .0) (k .1)) (xml-range c h)
 
--- the nine rows by their first bytes
-pub row-1 : (b : ℕ) → 0 ≤ b → b ≤ 127 → lead b ≡ row 0 0 0
-unfolding lead
-row-1 b h k = rw (within-is 0 127 b h k)
-
-pub row-2 : (b : ℕ) → 194 ≤ b → b ≤ 223 → lead b ≡ row 1 128 191
-unfolding lead
-row-2 b h k = rw (above-range 0 127 b (omega arith), within-is 194 223 b h k)
-
-pub row-3 : (b : ℕ) → 224 ≤ b → b ≤ 224 → lead b ≡ row 2 160 191
-unfolding lead
-row-3 b h k = rw (above-range 0 127 b (omega arith), above-range 194 223 b (omega arith), within-is 224 224 b h k)
-
-pub row-4 : (b : ℕ) → 225 ≤ b → b ≤ 236 → lead b ≡ row 2 128 191
-unfolding lead
-row-4 b h k = rw (above-range 0 127 b (omega arith), above-range 194 223 b (omega arith), above-range 224 224 b (omega arith), within-is 225 236 b h k)
-
-pub row-5 : (b : ℕ) → 237 ≤ b → b ≤ 237 → lead b ≡ row 2 128 159
-unfolding lead
-row-5 b h k = rw (above-range 0 127 b (omega arith), above-range 194 223 b (omega arith), above-range 224 224 b (omega arith), above-range 225 236 b (omega arith), within-is 237 237 b h k)
-
-pub row-6 : (b : ℕ) → 238 ≤ b → b ≤ 239 → lead b ≡ row 2 128 191
-unfolding lead
-row-6 b h k = rw (above-range 0 127 b (omega arith), above-range 194 223 b (omega arith), above-range 224 224 b (omega arith), above-range 225 236 b (omega arith), above-range 237 237 b (omega arith), within-is 238 239 b h k)
-
-pub row-7 : (b : ℕ) → 240 ≤ b → b ≤ 240 → lead b ≡ row 3 144 191
-unfolding lead
-row-7 b h k = rw (above-range 0 127 b (omega arith), above-range 194 223 b (omega arith), above-range 224 224 b (omega arith), above-range 225 236 b (omega arith), above-range 237 237 b (omega arith), above-range 238 239 b (omega arith), within-is 240 240 b h k)
-
-pub row-8 : (b : ℕ) → 241 ≤ b → b ≤ 243 → lead b ≡ row 3 128 191
-unfolding lead
-row-8 b h k = rw (above-range 0 127 b (omega arith), above-range 194 223 b (omega arith), above-range 224 224 b (omega arith), above-range 225 236 b (omega arith), above-range 237 237 b (omega arith), above-range 238 239 b (omega arith), above-range 240 240 b (omega arith), within-is 241 243 b h k)
-
-pub row-9 : (b : ℕ) → 244 ≤ b → b ≤ 244 → lead b ≡ row 3 128 143
-unfolding lead
-row-9 b h k = rw (above-range 0 127 b (omega arith), above-range 194 223 b (omega arith), above-range 224 224 b (omega arith), above-range 225 236 b (omega arith), above-range 237 237 b (omega arith), above-range 238 239 b (omega arith), above-range 240 240 b (omega arith), above-range 241 243 b (omega arith), within-is 244 244 b h k)
+-- where the UTF-8 of a scalar value starts, it is read, and then what is behind it
+pub decode-start : (c at : ℕ) (s rest : List ℕ) → isScalar c ≡ true → s ≡ utf8 c ++ rest
+    → decode 0 at s ≡ (need (xmlChar c) 3 at >> onto (unitsOf c) (decode 0 (at + length (utf8 c)) rest))
+unfolding decode
+decode-start c at [] rest k e = absurd (omega (arith, ap length e ∙ length-append (utf8 c) rest, utf8-size c .0))
+decode-start c at (b ∷ bs) rest k e =
+    let r = read-at c b bs rest k e in
+    let d : drop (following b bs) bs ≡ rest = ap (λ (t : List ℕ). drop (suc (following b bs)) t) e ∙ rw (r .size) (drop-append-seam (utf8 c) rest) in
+    let n : suc at + following b bs ≡ at + length (utf8 c) = omega (arith, r .size) in
+    rw (r .start, r .number, decode-skip (following b bs) (suc at) bs, d, n)
 
 -- a character's UTF-8 is read as the character
-sum-3 : (c : ℕ) → c ≤ 65535 → (224 + c / 4096) % 16 * 4096 + (128 + c / 64 % 64) % 64 * 64 + (128 + c % 64) % 64 ≡ c
-sum-3 c h = omega (arith, div-div-eq-div-mul c 64 64)
-
-low-six : (x : ℕ) → (128 + x % 64) % 64 ≡ x % 64
-low-six x = omega arith
-
-whole-4 : (c : ℕ) → c / 262144 * 262144 + c / 4096 % 64 * 4096 + c / 64 % 64 * 64 + c % 64 ≡ c
-whole-4 c = omega (arith, div-div-eq-div-mul c 64 64, div-div-eq-div-mul c 4096 64)
-
-sum-4 : (c : ℕ) → c ≤ 1114111 → (240 + c / 262144) % 8 * 262144 + (128 + c / 4096 % 64) % 64 * 4096 + (128 + c / 64 % 64) % 64 * 64 + (128 + c % 64) % 64 ≡ c
-sum-4 c h =
-    let a : (240 + c / 262144) % 8 ≡ c / 262144 = omega arith in
-    rw (a, low-six (c / 4096), low-six (c / 64), low-six c) (whole-4 c)
-
-module _ (c at : ℕ) (rest us : List ℕ) (x : xmlChar c ≡ true) (h : (at : ℕ) → decode 0 at rest ≡ ok us) where
-  three : (lo hi : ℕ) → c ≤ 65535 → lead (224 + c / 4096) ≡ row 2 lo hi → lo ≤ 128 + c / 64 % 64 → 128 + c / 64 % 64 ≤ hi
-      → decode 0 at ((224 + c / 4096) ∷ (128 + c / 64 % 64) ∷ (128 + c % 64) ∷ rest) ≡ ok (unitsOf c ++ us)
-  three lo hi m l a b =
-      decode-3 c (224 + c / 4096) (128 + c / 64 % 64) (128 + c % 64) lo hi at rest us l (within-is lo hi (128 + c / 64 % 64) a b)
-      (within-is 128 191 (128 + c % 64) (omega arith) (omega arith)) (sum-3 c m) x (h (suc (suc (suc at))))
-
-  four : (lo hi : ℕ) → c ≤ 1114111 → lead (240 + c / 262144) ≡ row 3 lo hi → lo ≤ 128 + c / 4096 % 64 → 128 + c / 4096 % 64 ≤ hi
-      → decode 0 at ((240 + c / 262144) ∷ (128 + c / 4096 % 64) ∷ (128 + c / 64 % 64) ∷ (128 + c % 64) ∷ rest) ≡ ok (unitsOf c ++ us)
-  four lo hi m l a b =
-      decode-4 c (240 + c / 262144) (128 + c / 4096 % 64) (128 + c / 64 % 64) (128 + c % 64) lo hi at rest us l (within-is lo hi (128 + c / 4096 % 64) a b)
-      (within-is 128 191 (128 + c / 64 % 64) (omega arith) (omega arith)) (within-is 128 191 (128 + c % 64) (omega arith) (omega arith)) (sum-4 c m) x (h (suc (suc (suc (suc at)))))
-
-  by-three : 2048 ≤ c → c ≤ 65535 → decode 0 at ((224 + c / 4096) ∷ (128 + c / 64 % 64) ∷ (128 + c % 64) ∷ rest) ≡ ok (unitsOf c ++ us)
-  by-three lo hi =
-      cases (ltb c 4096)
-      (λ t. let l : c < 4096 = ltb-true c 4096 t in
-      let e : 224 + c / 4096 ≡ 224 = omega arith in
-      three 160 191 hi (ap lead e ∙ row-3 224 (omega arith) (omega arith)) (omega arith) (omega arith))
-      (λ t. let g : 4096 ≤ c = ltb-false c 4096 t in
-      cases (ltb c 53248)
-      (λ t1. let l : c < 53248 = ltb-true c 53248 t1 in
-      three 128 191 hi (row-4 (224 + c / 4096) (omega arith) (omega arith)) (omega arith) (omega arith))
-      (λ t1. let g1 : 53248 ≤ c = ltb-false c 53248 t1 in
-      ⊎-elim
-      (λ k. let e : 224 + c / 4096 ≡ 237 = omega arith in
-      three 128 159 hi (ap lead e ∙ row-5 237 (omega arith) (omega arith)) (omega arith) (omega arith))
-      (λ k. three 128 191 hi (row-6 (224 + c / 4096) (omega (arith, k .0)) (omega arith)) (omega arith) (omega arith))
-      (xml-range c x)))
-
-  by-four : 65536 ≤ c → c ≤ 1114111 → decode 0 at ((240 + c / 262144) ∷ (128 + c / 4096 % 64) ∷ (128 + c / 64 % 64) ∷ (128 + c % 64) ∷ rest) ≡ ok (unitsOf c ++ us)
-  by-four lo hi =
-      cases (ltb c 262144)
-      (λ t. let l : c < 262144 = ltb-true c 262144 t in
-      let e : 240 + c / 262144 ≡ 240 = omega arith in
-      four 144 191 hi (ap lead e ∙ row-7 240 (omega arith) (omega arith)) (omega arith) (omega arith))
-      (λ t. let g : 262144 ≤ c = ltb-false c 262144 t in
-      cases (ltb c 1048576)
-      (λ t1. let l : c < 1048576 = ltb-true c 1048576 t1 in
-      four 128 191 hi (row-8 (240 + c / 262144) (omega arith) (omega arith)) (omega arith) (omega arith))
-      (λ t1. let g1 : 1048576 ≤ c = ltb-false c 1048576 t1 in
-      let e : 240 + c / 262144 ≡ 244 = omega arith in
-      four 128 143 hi (ap lead e ∙ row-9 244 (omega arith) (omega arith)) (omega arith) (omega arith)))
-
-  pub decode-utf8 : decode 0 at (utf8 c ++ rest) ≡ ok (unitsOf c ++ us)
-  unfolding utf8
-  decode-utf8 =
-      cases (leb c 127)
-      (λ t. rw t (decode-1 c at rest us (row-1 c (omega arith) (leb-true c 127 t)) x (h (suc at))))
-      (λ t. let g : 127 < c = leb-false c 127 t in
-      cases (leb c 2047)
-      (λ t1. let l : c ≤ 2047 = leb-true c 2047 t1 in
-      rw (t, t1)
-      (decode-2 c (192 + c / 64) (128 + c % 64) 128 191 at rest us (row-2 (192 + c / 64) (omega arith) (omega arith))
-      (within-is 128 191 (128 + c % 64) (omega arith) (omega arith)) (omega arith) x (h (suc (suc at)))))
-      (λ t1. let g1 : 2047 < c = leb-false c 2047 t1 in
-      cases (leb c 65535)
-      (λ t2. rw (t, t1, t2) (by-three g1 (leb-true c 65535 t2)))
-      (λ t2. let g2 : 65535 < c = leb-false c 65535 t2 in
-      rw (t, t1, t2) (by-four g2 (⊎-elim (λ k. omega arith) (λ k. k .1) (xml-range c x))))))
+decode-utf8 : (c at : ℕ) (rest us : List ℕ) → xmlChar c ≡ true → ((at : ℕ) → decode 0 at rest ≡ ok us) → decode 0 at (utf8 c ++ rest) ≡ ok (unitsOf c ++ us)
+decode-utf8 c at rest us x h = decode-start c at (utf8 c ++ rest) rest (xml-scalar c x) refl ∙ rw (x, h (at + length (utf8 c)))
 
 -- ── units ──
 
@@ -311,18 +181,11 @@ pub record TextBack (us : List ℕ) : Type 0 where
   pub units : unmarked all ≡ us
   pub short : length us ≤ 4096 → length (textOf us) ≤ 16384
 
-pub utf8-short : (c : ℕ) → length (utf8 c) ≤ 4
-unfolding utf8
-utf8-short c =
-    cases (leb c 127) (λ t. rw t (omega arith))
-    (λ t. cases (leb c 2047) (λ t1. rw (t, t1) (omega arith))
-    (λ t1. cases (leb c 65535) (λ t2. rw (t, t1, t2) (omega arith)) (λ t2. rw (t, t1, t2) (omega arith))))
-
-unit-short : (u v : ℕ) → length (unitBytes u v) ≤ 4
+pub unit-short : (u v : ℕ) → length (unitBytes u v) ≤ 4
 unfolding unitBytes
 unit-short u v =
     cases (isLow u) (λ t. rw t (omega arith))
-    (λ t. cases (isHigh u) (λ t1. rw (t, t1) (utf8-short (paired u v))) (λ t1. rw (t, t1) (utf8-short u)))
+    (λ t. cases (isHigh u) (λ t1. rw (t, t1) (utf8-size (paired u v) .1)) (λ t1. rw (t, t1) (utf8-size u .1)))
 
 units-short : (us : List ℕ) → length (unitsBytes us) ≤ 4 * length us
 units-short [] = unfold unitsBytes in omega arith
@@ -339,7 +202,7 @@ braced-short (u ∷ us) h k =
     rw e (omega (arith, brace-first us, units-short us))
 
 braced-decoded : (us : List ℕ) → decode 0 2 (unitsBytes us) ≡ ok us → decode 0 0 (123 ∷ 125 ∷ unitsBytes us) ≡ ok (123 ∷ 125 ∷ us)
-unfolding decode starts lead trail scalar xmlChar unitsOf
+unfolding decode table rowFits fitting starts moreBytes following scalar xmlChar unitsOf
 braced-decoded us h = rw h
 
 pub text-back : (us : List ℕ) → properUnits false us ≡ true → TextBack us

@@ -20,11 +20,10 @@ use Rattle.label.specs.Write.{entryBytes, written, indicesOf}
 use Rattle.label.specs.Sound.{glyphFits, isFont, allFont, tailPair, mayOpen, fits}
 use Rattle.label.specs.declared.Glyph.{Glyph}
 use Rattle.label.specs.declared.Cluster.{Cluster}
-use Rattle.label.proofs.Basics.{and-l, and-r, clash, cases, bind-ok, need-ok}
+use Rattle.label.proofs.Basics.{and-l, and-r, or-cases, clash, cases, bind-ok, need-ok}
 use Rattle.label.proofs.Splits.{free, allFree, empty-nil, trim-nil, trim-gone, trim-kept, free-trim, joined-full, join-nil, join-cons, split-join, total, join-total, total-trim, joined-first}
 use Rattle.label.proofs.Outputs.{empty-is-font, font-is}
 use Rattle.label.proofs.Entries.{maps, mapped, back, entry-read, entry-semi, entry-short, entry-full}
-use Rattle.label.proofs.Texts.{or-cases}
 use Rattle.label.proofs.Tails.{wide, tail-nil, tail-first, plain-wide, font-cons, font-written}
 
 abbrev pub parts : List Cluster → List Glyph → Parts

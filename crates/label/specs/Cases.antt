@@ -1,5 +1,5 @@
 -- Edges of the calls, computed from the definitions: soundness and writing, picks, faults, the list of records, the calls over bytes, raw values,
--- escaped writings and sheets.
+-- escaped writings, sheets; and of UTF-8.
 -- Assumes nothing.
 use Prim.Native.Nat.{ℕ}
 use mathlib.Core.Path.{_≡_, refl}
@@ -9,7 +9,7 @@ use lib.IntN.{ℤ, pos, negsuc}
 use lib.ListN.{length, replicate}
 use Rattle.label.specs.Outcome.{Outcome, ok, no}
 use Rattle.label.specs.Bytes.{ascii, begins, split, cut, allDigits, valueFrom, joinRest, join, trim, decimalFrom, decimal}
-use Rattle.label.specs.Text.{lead, trail, starts, scalar, xmlChar, unitsOf, decode, textUnits}
+use Rattle.label.specs.Text.{table, rowFits, fitting, starts, moreBytes, following, scalar, xmlChar, unitsOf, decode, textUnits}
 use Rattle.label.specs.Entry.{unsigned, isDecimals, isNumber, mantissaDigits, fractionDigits, exponentDigits, nearest, scaled, thousandths, numberFits, isIndexPart, indexDigits, mapUnits, mapGlyphs, isAdvance, isOffset, wellFormed, fieldFits, indexOf, advanceOf, offsetOf, entryOf, entry, entries}
 use Rattle.label.specs.Rounded.{isWhole, isExact, roundedField, roundedEntry, roundedEntries, rounded, beside}
 use Rattle.label.specs.Run.{fontGlyph, tail, placed, step, walk, runFrom, read}
@@ -197,7 +197,7 @@ pub byte-readings : (counted (readBytes 1 8 16 (ascii "A") (ascii "5,,-1")) ≡ 
     × (unitBytesAfter (readBytes 3 8 17 (ascii "A") (ascii "5,,-1")) (7 ∷ 8 ∷ 9 ∷ []) ≡ 65 ∷ 0 ∷ 9 ∷ [])
     × (clusterBytesAfter (readBytes 3 8 17 (ascii "A") (ascii "5,,-1")) (replicate 8 7) ≡ 1 ∷ 0 ∷ 0 ∷ 0 ∷ 1 ∷ 0 ∷ 0 ∷ 0 ∷ [])
     × (glyphBytesAfter (readBytes 3 8 17 (ascii "A") (ascii "5,,-1")) (replicate 17 7) ≡ 5 ∷ 0 ∷ 0 ∷ 0 ∷ 255 ∷ 255 ∷ 255 ∷ 255 ∷ 24 ∷ 252 ∷ 255 ∷ 255 ∷ 0 ∷ 0 ∷ 0 ∷ 0 ∷ 7 ∷ [])
-unfolding ascii split cut allDigits valueFrom joinRest join trim decimalFrom decimal lead trail starts scalar xmlChar unitsOf decode textUnits unsigned isDecimals isNumber mantissaDigits fractionDigits exponentDigits nearest scaled thousandths numberFits isIndexPart indexDigits mapUnits mapGlyphs isAdvance isOffset wellFormed fieldFits indexOf advanceOf offsetOf entryOf entry entries tail placed step walk runFrom read readInto readBytes flatClusters flatGlyphs fromHalves fromWords
+unfolding ascii split cut allDigits valueFrom joinRest join trim decimalFrom decimal table rowFits fitting starts moreBytes following scalar xmlChar unitsOf decode textUnits unsigned isDecimals isNumber mantissaDigits fractionDigits exponentDigits nearest scaled thousandths numberFits isIndexPart indexDigits mapUnits mapGlyphs isAdvance isOffset wellFormed fieldFits indexOf advanceOf offsetOf entryOf entry entries tail placed step walk runFrom read readInto readBytes flatClusters flatGlyphs fromHalves fromWords
 byte-readings = (refl, refl, refl, refl, refl, refl, refl)
 
 -- U+1F600 left to the font, into bytes: 2 units, 1 cluster, 1 glyph
@@ -205,13 +205,13 @@ pub byte-tails : (counted (readBytes 4 8 16 grin []) ≡ ok (record { units = 2;
     × (counted (readBytes 4 7 16 grin []) ≡ no 17 1) × (counted (readBytes 4 8 15 grin []) ≡ no 18 1)
     × (clusterBytesAfter (readBytes 4 9 17 grin []) (replicate 9 7) ≡ 2 ∷ 0 ∷ 0 ∷ 0 ∷ 1 ∷ 0 ∷ 0 ∷ 0 ∷ 7 ∷ [])
     × (glyphBytesAfter (readBytes 4 9 17 grin []) (replicate 17 7) ≡ replicate 8 255 ++ (replicate 8 0 ++ (7 ∷ [])))
-unfolding lead trail starts scalar xmlChar unitsOf decode textUnits entries tail walk runFrom read readInto readBytes flatClusters flatGlyphs fromHalves fromWords
+unfolding table rowFits fitting starts moreBytes following scalar xmlChar unitsOf decode textUnits entries tail walk runFrom read readInto readBytes flatClusters flatGlyphs fromHalves fromWords
 byte-tails = (refl, refl, refl, refl, refl, refl)
 
 -- 15 counts a pair of the tail once
 pub tail-limit : (counted (readInto 4096 9_999 20_000 (replicate 4094 65 ++ grin) (ascii "(1:2)5;6")) ≡ ok (record { units = 4096; clusters = 4095; glyphs = 4096 }))
     × (counted (readInto 4096 9_999 20_000 (replicate 4094 65 ++ grin) (ascii "(1:3)5;6;7")) ≡ no 15 0)
-unfolding ascii split cut allDigits valueFrom lead trail starts scalar xmlChar unitsOf decode textUnits unsigned isDecimals isNumber mantissaDigits fractionDigits exponentDigits nearest scaled thousandths numberFits isIndexPart indexDigits mapUnits mapGlyphs isAdvance isOffset wellFormed fieldFits indexOf advanceOf offsetOf entryOf entry entries tail placed step walk runFrom read readInto
+unfolding ascii split cut allDigits valueFrom table rowFits fitting starts moreBytes following scalar xmlChar unitsOf decode textUnits unsigned isDecimals isNumber mantissaDigits fractionDigits exponentDigits nearest scaled thousandths numberFits isIndexPart indexDigits mapUnits mapGlyphs isAdvance isOffset wellFormed fieldFits indexOf advanceOf offsetOf entryOf entry entries tail placed step walk runFrom read readInto
 tail-limit = (refl, refl)
 
 -- the count of rounded fields beside `A` with `5,.0005`, "a refusal as 0" for 16, 17 and 18 too
@@ -220,7 +220,7 @@ finer = ascii "5,.0005"
 
 pub byte-counts : (beside (rounded finer) (readBytes 1 8 16 (ascii "A") finer) ≡ 0) × (beside (rounded finer) (readBytes 2 7 16 (ascii "A") finer) ≡ 0)
     × (beside (rounded finer) (readBytes 2 8 15 (ascii "A") finer) ≡ 0) × (beside (rounded finer) (readBytes 2 8 16 (ascii "A") finer) ≡ 1)
-unfolding ascii split cut allDigits valueFrom lead trail starts scalar xmlChar unitsOf decode textUnits unsigned isDecimals isNumber mantissaDigits fractionDigits exponentDigits nearest scaled thousandths numberFits isIndexPart indexDigits mapUnits mapGlyphs isAdvance isOffset wellFormed fieldFits indexOf advanceOf offsetOf entryOf entry entries isWhole isExact roundedField roundedEntry roundedEntries rounded tail placed step walk runFrom read readInto readBytes
+unfolding ascii split cut allDigits valueFrom table rowFits fitting starts moreBytes following scalar xmlChar unitsOf decode textUnits unsigned isDecimals isNumber mantissaDigits fractionDigits exponentDigits nearest scaled thousandths numberFits isIndexPart indexDigits mapUnits mapGlyphs isAdvance isOffset wellFormed fieldFits indexOf advanceOf offsetOf entryOf entry entries isWhole isExact roundedField roundedEntry roundedEntries rounded tail placed step walk runFrom read readInto readBytes
 byte-counts = (refl, refl, refl, refl)
 
 -- a run handed in as bytes: low byte first; a byte left over in any of the three is 19
@@ -281,5 +281,39 @@ pub sheet-bytes : (filledCount (sheetIntoBytes 16 far) ≡ ok 4) × (filledCount
     × (numberBytesAfter (sheetIntoBytes 21 far) (replicate 21 7) ≡ 6 ∷ 0 ∷ 0 ∷ 0 ∷ 0 ∷ 0 ∷ 0 ∷ 0 ∷ 2 ∷ 0 ∷ 0 ∷ 0 ∷ 44 ∷ 1 ∷ 0 ∷ 0 ∷ replicate 5 7)
     × (numberBytesAfter (sheetIntoBytes 15 far) (replicate 15 7) ≡ replicate 15 7)
     × (filledAfter (sheetInto 5 far) (replicate 5 (pos 7)) ≡ pos 6 ∷ pos 0 ∷ pos 2 ∷ pos 300 ∷ pos 7 ∷ [])
-unfolding header fromHalves fromWords textLength indicesLength recordLength isRecord recordLabel labelsFrom labelsOf answers sheetInto sheetIntoBytes begins ascii split cut allDigits valueFrom lead trail starts scalar xmlChar unitsOf decode textUnits unsigned isDecimals isNumber mantissaDigits fractionDigits exponentDigits nearest scaled thousandths numberFits isIndexPart indexDigits mapUnits mapGlyphs isAdvance isOffset wellFormed fieldFits indexOf advanceOf offsetOf entryOf entry entries tail placed step walk runFrom read
+unfolding header fromHalves fromWords textLength indicesLength recordLength isRecord recordLabel labelsFrom labelsOf answers sheetInto sheetIntoBytes begins ascii split cut allDigits valueFrom table rowFits fitting starts moreBytes following scalar xmlChar unitsOf decode textUnits unsigned isDecimals isNumber mantissaDigits fractionDigits exponentDigits nearest scaled thousandths numberFits isIndexPart indexDigits mapUnits mapGlyphs isAdvance isOffset wellFormed fieldFits indexOf advanceOf offsetOf entryOf entry entries tail placed step walk runFrom read
 sheet-bytes = (refl, refl, refl, refl, refl)
+
+-- ── UTF-8 ──
+
+-- the first and the last character of each row of Table 3-7; U+0000 and U+FFFF are well-formed, but no XML characters, so U+FFFD stands here as well
+pub row-ends : (decode 0 0 (0x00 ∷ []) ≡ no 3 0) × (decode 0 0 (0x7f ∷ []) ≡ ok (0x7f ∷ []))
+    × (decode 0 0 (0xc2 ∷ 0x80 ∷ []) ≡ ok (0x80 ∷ [])) × (decode 0 0 (0xdf ∷ 0xbf ∷ []) ≡ ok (0x7ff ∷ []))
+    × (decode 0 0 (0xe0 ∷ 0xa0 ∷ 0x80 ∷ []) ≡ ok (0x800 ∷ [])) × (decode 0 0 (0xe0 ∷ 0xbf ∷ 0xbf ∷ []) ≡ ok (0xfff ∷ []))
+    × (decode 0 0 (0xe1 ∷ 0x80 ∷ 0x80 ∷ []) ≡ ok (0x1000 ∷ [])) × (decode 0 0 (0xec ∷ 0xbf ∷ 0xbf ∷ []) ≡ ok (0xcfff ∷ []))
+    × (decode 0 0 (0xed ∷ 0x80 ∷ 0x80 ∷ []) ≡ ok (0xd000 ∷ [])) × (decode 0 0 (0xed ∷ 0x9f ∷ 0xbf ∷ []) ≡ ok (0xd7ff ∷ []))
+    × (decode 0 0 (0xee ∷ 0x80 ∷ 0x80 ∷ []) ≡ ok (0xe000 ∷ [])) × (decode 0 0 (0xef ∷ 0xbf ∷ 0xbd ∷ []) ≡ ok (0xfffd ∷ []))
+    × (decode 0 0 (0xef ∷ 0xbf ∷ 0xbf ∷ []) ≡ no 3 0) × (decode 0 0 (0xf0 ∷ 0x90 ∷ 0x80 ∷ 0x80 ∷ []) ≡ ok (0xd800 ∷ 0xdc00 ∷ []))
+    × (decode 0 0 (0xf0 ∷ 0xbf ∷ 0xbf ∷ 0xbf ∷ []) ≡ ok (0xd8bf ∷ 0xdfff ∷ [])) × (decode 0 0 (0xf1 ∷ 0x80 ∷ 0x80 ∷ 0x80 ∷ []) ≡ ok (0xd8c0 ∷ 0xdc00 ∷ []))
+    × (decode 0 0 (0xf3 ∷ 0xbf ∷ 0xbf ∷ 0xbf ∷ []) ≡ ok (0xdbbf ∷ 0xdfff ∷ [])) × (decode 0 0 (0xf4 ∷ 0x80 ∷ 0x80 ∷ 0x80 ∷ []) ≡ ok (0xdbc0 ∷ 0xdc00 ∷ []))
+    × (decode 0 0 (0xf4 ∷ 0x8f ∷ 0xbf ∷ 0xbf ∷ []) ≡ ok (0xdbff ∷ 0xdfff ∷ []))
+unfolding table rowFits fitting starts moreBytes following scalar xmlChar unitsOf decode
+row-ends = (refl, refl, refl, refl, refl, refl, refl, refl, refl, refl, refl, refl, refl, refl, refl, refl, refl, refl, refl)
+
+-- no well-formed character starts: the second byte just below or just above its row's range, a first or a later byte outside its range, a byte not there
+pub row-neighbours : map (λ s. decode 0 0 s)
+    ((0xc1 ∷ 0xbf ∷ []) ∷ (0xe0 ∷ 0x9f ∷ 0xbf ∷ []) ∷ (0xed ∷ 0xa0 ∷ 0x80 ∷ []) ∷ (0xf0 ∷ 0x8f ∷ 0xbf ∷ 0xbf ∷ []) ∷ (0xf4 ∷ 0x90 ∷ 0x80 ∷ 0x80 ∷ []) ∷ (0x80 ∷ [])
+    ∷ (0xf5 ∷ 0x80 ∷ 0x80 ∷ 0x80 ∷ []) ∷ (0xdf ∷ 0x7f ∷ []) ∷ (0xdf ∷ 0xc0 ∷ []) ∷ (0xe1 ∷ 0x7f ∷ 0x80 ∷ []) ∷ (0xec ∷ 0xc0 ∷ 0x80 ∷ []) ∷ (0xee ∷ 0x7f ∷ 0x80 ∷ [])
+    ∷ (0xef ∷ 0xc0 ∷ 0x80 ∷ []) ∷ (0xf1 ∷ 0x7f ∷ 0x80 ∷ 0x80 ∷ []) ∷ (0xf3 ∷ 0xc0 ∷ 0x80 ∷ 0x80 ∷ []) ∷ (0xe1 ∷ 0x80 ∷ 0x7f ∷ []) ∷ (0xe1 ∷ 0x80 ∷ 0xc0 ∷ []) ∷ (0xf1 ∷ 0x80 ∷ 0x80 ∷ 0x7f ∷ [])
+    ∷ (0xf1 ∷ 0x80 ∷ 0xc0 ∷ 0x80 ∷ []) ∷ (0xe0 ∷ 0xc0 ∷ 0x80 ∷ []) ∷ (0xed ∷ 0x7f ∷ 0x80 ∷ []) ∷ (0xf0 ∷ 0xc0 ∷ 0x80 ∷ 0x80 ∷ []) ∷ (0xf4 ∷ 0x7f ∷ 0x80 ∷ 0x80 ∷ [])
+    ∷ (0xdf ∷ []) ∷ (0xe1 ∷ 0x80 ∷ []) ∷ (0xf1 ∷ 0x80 ∷ 0x80 ∷ []) ∷ [])
+    ≡ replicate 26 (no 2 0)
+unfolding table rowFits fitting starts moreBytes following scalar xmlChar unitsOf decode
+row-neighbours = refl
+
+-- a place counts bytes: behind `a` a character that is cut by `A`; behind é a character that may not stand; behind A, é, € and U+1F600 a byte that starts none
+pub row-places : (decode 0 0 (0x61 ∷ 0xe1 ∷ 0x80 ∷ 0x41 ∷ []) ≡ no 2 1) × (decode 0 0 (0xc3 ∷ 0xa9 ∷ 0x01 ∷ []) ≡ no 3 2)
+    × (decode 0 0 (0x41 ∷ 0xc3 ∷ 0xa9 ∷ 0xe2 ∷ 0x82 ∷ 0xac ∷ grin) ≡ ok (0x41 ∷ 0xe9 ∷ 0x20ac ∷ pair))
+    × (decode 0 0 (0x41 ∷ 0xc3 ∷ 0xa9 ∷ 0xe2 ∷ 0x82 ∷ 0xac ∷ grin ++ (0xff ∷ [])) ≡ no 2 10)
+unfolding table rowFits fitting starts moreBytes following scalar xmlChar unitsOf decode
+row-places = (refl, refl, refl, refl)

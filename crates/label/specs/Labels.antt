@@ -9,7 +9,7 @@ use lib.IntN.{ℤ, pos}
 use lib.ListN.{take, replicate}
 use Rattle.label.specs.Outcome.{Outcome, ok, no}
 use Rattle.label.specs.Bytes.{ascii, begins, split, cut, allDigits, valueFrom, joinRest, join, trim, decimalFrom, decimal}
-use Rattle.label.specs.Text.{lead, trail, starts, scalar, xmlChar, unitsOf, decode, textUnits}
+use Rattle.label.specs.Text.{table, rowFits, fitting, starts, moreBytes, following, scalar, xmlChar, unitsOf, decode, textUnits}
 use Rattle.label.specs.Entry.{unsigned, isDecimals, isNumber, mantissaDigits, fractionDigits, exponentDigits, nearest, scaled, thousandths, numberFits, isIndexPart, indexDigits, mapUnits, mapGlyphs, isAdvance, isOffset, wellFormed, fieldFits, indexOf, advanceOf, offsetOf, entryOf, entry, entries}
 use Rattle.label.specs.Rounded.{isWhole, isExact, roundedField, roundedEntry, roundedEntries, rounded, beside}
 use Rattle.label.specs.Run.{Run, cluster, fontGlyph, tail, placed, step, walk, runFrom, read}
@@ -370,12 +370,12 @@ sheetRows =
 -- each row's label is answered as the row says
 pub labels : map (λ (r : LabelRow). said (read (r .text) (r .indices))) (documentRows ++ (standardRows ++ tailRows))
     ≡ map (λ (r : LabelRow). r .answer) (documentRows ++ (standardRows ++ tailRows))
-unfolding documentRows standardRows tailRows ascii split cut allDigits valueFrom joinRest join trim decimalFrom decimal lead trail starts scalar xmlChar unitsOf decode textUnits unsigned isDecimals isNumber mantissaDigits fractionDigits exponentDigits nearest scaled thousandths numberFits isIndexPart indexDigits mapUnits mapGlyphs isAdvance isOffset wellFormed fieldFits indexOf advanceOf offsetOf entryOf entry entries tail placed step walk runFrom read utf8 unitBytes unitsBytes textOf fraction valueBytes advanceBytes offsetBytes mapBytes indexBytes entryBytes written indicesOf
+unfolding documentRows standardRows tailRows ascii split cut allDigits valueFrom joinRest join trim decimalFrom decimal table rowFits fitting starts moreBytes following scalar xmlChar unitsOf decode textUnits unsigned isDecimals isNumber mantissaDigits fractionDigits exponentDigits nearest scaled thousandths numberFits isIndexPart indexDigits mapUnits mapGlyphs isAdvance isOffset wellFormed fieldFits indexOf advanceOf offsetOf entryOf entry entries tail placed step walk runFrom read utf8 unitBytes unitsBytes textOf fraction valueBytes advanceBytes offsetBytes mapBytes indexBytes entryBytes written indicesOf
 labels = refl
 
 -- each row's label has the count that the row says
 pub rounded-labels : map (λ (r : RoundedRow). beside (rounded (r .indices)) (read (r .text) (r .indices))) roundedRows ≡ map (λ (r : RoundedRow). r .count) roundedRows
-unfolding roundedRows isWhole isExact roundedField roundedEntry roundedEntries rounded ascii split cut allDigits valueFrom lead trail starts scalar xmlChar unitsOf decode textUnits unsigned isDecimals isNumber mantissaDigits fractionDigits exponentDigits nearest scaled thousandths numberFits isIndexPart indexDigits mapUnits mapGlyphs isAdvance isOffset wellFormed fieldFits indexOf advanceOf offsetOf entryOf entry entries tail placed step walk runFrom read
+unfolding roundedRows isWhole isExact roundedField roundedEntry roundedEntries rounded ascii split cut allDigits valueFrom table rowFits fitting starts moreBytes following scalar xmlChar unitsOf decode textUnits unsigned isDecimals isNumber mantissaDigits fractionDigits exponentDigits nearest scaled thousandths numberFits isIndexPart indexDigits mapUnits mapGlyphs isAdvance isOffset wellFormed fieldFits indexOf advanceOf offsetOf entryOf entry entries tail placed step walk runFrom read
 rounded-labels = refl
 
 -- each row's raw value resolves to what the row says
@@ -390,7 +390,7 @@ escaped-values = refl
 
 -- each row's file is answered as the row says
 pub sheets : map (λ (r : SheetRow). sheetInto (r .room) (r .file)) sheetRows ≡ map (λ (r : SheetRow). r .answer) sheetRows
-unfolding sheetRows header fromHalves textLength indicesLength recordLength isRecord recordLabel labelsFrom labelsOf answers sheetInto begins ascii split cut allDigits valueFrom lead trail starts scalar xmlChar unitsOf decode textUnits unsigned isDecimals isNumber mantissaDigits fractionDigits exponentDigits nearest scaled thousandths numberFits isIndexPart indexDigits mapUnits mapGlyphs isAdvance isOffset wellFormed fieldFits indexOf advanceOf offsetOf entryOf entry entries tail placed step walk runFrom read
+unfolding sheetRows header fromHalves textLength indicesLength recordLength isRecord recordLabel labelsFrom labelsOf answers sheetInto begins ascii split cut allDigits valueFrom table rowFits fitting starts moreBytes following scalar xmlChar unitsOf decode textUnits unsigned isDecimals isNumber mantissaDigits fractionDigits exponentDigits nearest scaled thousandths numberFits isIndexPart indexDigits mapUnits mapGlyphs isAdvance isOffset wellFormed fieldFits indexOf advanceOf offsetOf entryOf entry entries tail placed step walk runFrom read
 sheets = refl
 
 -- a list of labels to bytes, "low byte first": `A` with `5` and a label without bytes; the lengths 258 and 515
@@ -403,20 +403,20 @@ sheet-files = (refl, refl)
 pub raw-readings : (readRaw 9 9 (ascii "&#123;a") [] ≡ no 4 0) × (readRaw 9 9 (ascii "&#123;&#125;a") (ascii "&#53;") ≡ read (ascii "a") (ascii "5"))
     × (readRaw 9 9 (ascii "a") (ascii " 5") ≡ no 7 0) × (readRaw 9 9 (ascii "a<") (ascii "<") ≡ no 23 1) × (readRaw 1 9 (ascii "ab") (ascii "<") ≡ no 24 2)
     × (readRaw 9 0 (0xff ∷ []) (ascii "5") ≡ no 24 1)
-unfolding readRaw resolveInto ascii split cut allDigits valueFrom same predefined digitValue allOf valueBehind numbered referred body isClosed isReference isGood spaced gives further resolveFrom utf8 lead trail starts scalar xmlChar unitsOf decode textUnits unsigned isDecimals isNumber mantissaDigits fractionDigits exponentDigits nearest scaled thousandths numberFits isIndexPart indexDigits mapUnits mapGlyphs isAdvance isOffset wellFormed fieldFits indexOf advanceOf offsetOf entryOf entry entries tail placed step walk runFrom read
+unfolding readRaw resolveInto ascii split cut allDigits valueFrom same predefined digitValue allOf valueBehind numbered referred body isClosed isReference isGood spaced gives further resolveFrom utf8 table rowFits fitting starts moreBytes following scalar xmlChar unitsOf decode textUnits unsigned isDecimals isNumber mantissaDigits fractionDigits exponentDigits nearest scaled thousandths numberFits isIndexPart indexDigits mapUnits mapGlyphs isAdvance isOffset wellFormed fieldFits indexOf advanceOf offsetOf entryOf entry entries tail placed step walk runFrom read
 raw-readings = (refl, refl, refl, refl, refl, refl)
 
 -- "no part of the run, so two clients' runs compare as before": these two, with the counts 1 and 0, are one run
 pub same-run : read (ascii "A") (ascii "5,.0006") ≡ read (ascii "A") (ascii "5,.001")
-unfolding ascii split cut allDigits valueFrom lead trail starts scalar xmlChar unitsOf decode textUnits unsigned isDecimals isNumber mantissaDigits fractionDigits exponentDigits nearest scaled thousandths numberFits isIndexPart indexDigits mapUnits mapGlyphs isAdvance isOffset wellFormed fieldFits indexOf advanceOf offsetOf entryOf entry entries tail placed step walk runFrom read
+unfolding ascii split cut allDigits valueFrom table rowFits fitting starts moreBytes following scalar xmlChar unitsOf decode textUnits unsigned isDecimals isNumber mantissaDigits fractionDigits exponentDigits nearest scaled thousandths numberFits isIndexPart indexDigits mapUnits mapGlyphs isAdvance isOffset wellFormed fieldFits indexOf advanceOf offsetOf entryOf entry entries tail placed step walk runFrom read
 same-run = refl
 
 -- "From `{}flow` and `(2:1)192;07,+55.50,,0` it prints:"
 pub relabelled : relabel (ascii "{}flow\n(2:1)192;07,+55.50,,0\n") ≡ ascii "ok 4 3 3\nflow\n(2)192;7,55.5\n"
-unfolding relabel relabelRead ascii split cut allDigits valueFrom joinRest join trim decimalFrom decimal lead trail starts scalar xmlChar unitsOf decode textUnits unsigned isDecimals isNumber mantissaDigits fractionDigits exponentDigits nearest scaled thousandths numberFits isIndexPart indexDigits mapUnits mapGlyphs isAdvance isOffset wellFormed fieldFits indexOf advanceOf offsetOf entryOf entry entries tail placed step walk runFrom read utf8 unitBytes unitsBytes textOf fraction valueBytes advanceBytes offsetBytes mapBytes indexBytes entryBytes written indicesOf
+unfolding relabel relabelRead ascii split cut allDigits valueFrom joinRest join trim decimalFrom decimal table rowFits fitting starts moreBytes following scalar xmlChar unitsOf decode textUnits unsigned isDecimals isNumber mantissaDigits fractionDigits exponentDigits nearest scaled thousandths numberFits isIndexPart indexDigits mapUnits mapGlyphs isAdvance isOffset wellFormed fieldFits indexOf advanceOf offsetOf entryOf entry entries tail placed step walk runFrom read utf8 unitBytes unitsBytes textOf fraction valueBytes advanceBytes offsetBytes mapBytes indexBytes entryBytes written indicesOf
 relabelled = refl
 
 -- a pair that is left to the font: 2 units, 1 cluster, 1 glyph, no indices
 pub relabelled-pair : relabel (grin ++ (10 ∷ [])) ≡ ascii "ok 2 1 1\n" ++ (grin ++ ascii "\n\n")
-unfolding relabel relabelRead ascii split cut allDigits valueFrom joinRest join trim decimalFrom decimal lead trail starts scalar xmlChar unitsOf decode textUnits unsigned isDecimals isNumber mantissaDigits fractionDigits exponentDigits nearest scaled thousandths numberFits isIndexPart indexDigits mapUnits mapGlyphs isAdvance isOffset wellFormed fieldFits indexOf advanceOf offsetOf entryOf entry entries tail placed step walk runFrom read utf8 unitBytes unitsBytes textOf fraction valueBytes advanceBytes offsetBytes mapBytes indexBytes entryBytes written indicesOf
+unfolding relabel relabelRead ascii split cut allDigits valueFrom joinRest join trim decimalFrom decimal table rowFits fitting starts moreBytes following scalar xmlChar unitsOf decode textUnits unsigned isDecimals isNumber mantissaDigits fractionDigits exponentDigits nearest scaled thousandths numberFits isIndexPart indexDigits mapUnits mapGlyphs isAdvance isOffset wellFormed fieldFits indexOf advanceOf offsetOf entryOf entry entries tail placed step walk runFrom read utf8 unitBytes unitsBytes textOf fraction valueBytes advanceBytes offsetBytes mapBytes indexBytes entryBytes written indicesOf
 relabelled-pair = refl

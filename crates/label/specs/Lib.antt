@@ -20,3 +20,4 @@ pub mod Cases
 pub mod Demands
 pub mod Restoring
 pub mod Answering
+pub mod Encoding

@@ -6,51 +6,70 @@ use mathlib.Core.List.{List, [], _∷_, _++_}
 use lib.Dec.{leb, eqb}
 use lib.ListN.{length, getD, drop}
 use Rattle.label.specs.Limits.{maxUnits}
-use Rattle.label.specs.declared.Row.{Row}
 use Rattle.label.specs.Outcome.{Outcome, ok, need, _>>=_, _>>_}
 
 -- lo ≤ b ≤ hi
 abbrev pub within : ℕ → ℕ → ℕ → Bool
 within lo hi b = leb lo b && leb b hi
 
--- what a row of Table 3-7 says of the bytes after the first: how many there are, and the range of the second; `fits`: there is a row
-abbrev pub row : ℕ → ℕ → ℕ → Row
-row n l h = record { fits = true; more = n; lo = l; hi = h }
+-- a cell of the table: from lo to hi
+pub record Range : Type 0 where
+  pub lo : ℕ
+  pub hi : ℕ
 
-abbrev pub no-row : Row
-no-row = record { fits = false; more = 0; lo = 0; hi = 0 }
+-- as the table prints it: lo..hi, or one byte alone
+infixl 80 _‥_
+abbrev pub _‥_ : ℕ → ℕ → Range
+l ‥ h = record { lo = l; hi = h }
 
--- "Unicode's Table 3-7 decides UTF-8": its nine rows, each by the range of its first byte, with the range of its second byte
-unfoldable pub lead : ℕ → Row
-lead b =
-    -- U+0000..U+007F: 00..7F
-    cond (within 0x00 0x7f b) (row 0 0 0)
-    -- U+0080..U+07FF: C2..DF, 80..BF
-    (cond (within 0xc2 0xdf b) (row 1 0x80 0xbf)
-    -- U+0800..U+0FFF: E0, A0..BF, 80..BF
-    (cond (within 0xe0 0xe0 b) (row 2 0xa0 0xbf)
-    -- U+1000..U+CFFF: E1..EC, 80..BF, 80..BF
-    (cond (within 0xe1 0xec b) (row 2 0x80 0xbf)
-    -- U+D000..U+D7FF: ED, 80..9F, 80..BF
-    (cond (within 0xed 0xed b) (row 2 0x80 0x9f)
-    -- U+E000..U+FFFF: EE..EF, 80..BF, 80..BF
-    (cond (within 0xee 0xef b) (row 2 0x80 0xbf)
-    -- U+10000..U+3FFFF: F0, 90..BF, 80..BF, 80..BF
-    (cond (within 0xf0 0xf0 b) (row 3 0x90 0xbf)
-    -- U+40000..U+FFFFF: F1..F3, 80..BF, 80..BF, 80..BF
-    (cond (within 0xf1 0xf3 b) (row 3 0x80 0xbf)
-    -- U+100000..U+10FFFF: F4, 80..8F, 80..BF, 80..BF
-    (cond (within 0xf4 0xf4 b) (row 3 0x80 0x8f) no-row))))))))
+abbrev pub byte : ℕ → Range
+byte b = b ‥ b
 
--- the bytes after the first: so many, the second byte from lo to hi, the others from 80 to BF
-unfoldable pub trail : ℕ → ℕ → ℕ → List ℕ → Bool
-trail zero lo hi bs = true
-trail (suc n) lo hi [] = false
-trail (suc n) lo hi (b ∷ bs) = within lo hi b && trail n 0x80 0xbf bs
+-- a row of the table: its code points, and each of its bytes
+pub record Row : Type 0 where
+  pub codes : Range
+  pub bytes : List Range
 
--- a well-formed character starts here
+abbrev pub row : Range → List Range → Row
+row c bs = record { codes = c; bytes = bs }
+
+-- "Unicode's Table 3-7 decides UTF-8": its nine rows as they are printed, the code points, then the first byte, the second, the third, the fourth
+unfoldable pub table : List Row
+table =
+    row (0x0000 ‥ 0x007f) (0x00 ‥ 0x7f ∷ [])
+    ∷ row (0x0080 ‥ 0x07ff) (0xc2 ‥ 0xdf ∷ 0x80 ‥ 0xbf ∷ [])
+    ∷ row (0x0800 ‥ 0x0fff) (byte 0xe0 ∷ 0xa0 ‥ 0xbf ∷ 0x80 ‥ 0xbf ∷ [])
+    ∷ row (0x1000 ‥ 0xcfff) (0xe1 ‥ 0xec ∷ 0x80 ‥ 0xbf ∷ 0x80 ‥ 0xbf ∷ [])
+    ∷ row (0xd000 ‥ 0xd7ff) (byte 0xed ∷ 0x80 ‥ 0x9f ∷ 0x80 ‥ 0xbf ∷ [])
+    ∷ row (0xe000 ‥ 0xffff) (0xee ‥ 0xef ∷ 0x80 ‥ 0xbf ∷ 0x80 ‥ 0xbf ∷ [])
+    ∷ row (0x10000 ‥ 0x3ffff) (byte 0xf0 ∷ 0x90 ‥ 0xbf ∷ 0x80 ‥ 0xbf ∷ 0x80 ‥ 0xbf ∷ [])
+    ∷ row (0x40000 ‥ 0xfffff) (0xf1 ‥ 0xf3 ∷ 0x80 ‥ 0xbf ∷ 0x80 ‥ 0xbf ∷ 0x80 ‥ 0xbf ∷ [])
+    ∷ row (0x100000 ‥ 0x10ffff) (byte 0xf4 ∷ 0x80 ‥ 0x8f ∷ 0x80 ‥ 0xbf ∷ 0x80 ‥ 0xbf ∷ [])
+    ∷ []
+
+-- a row fits here: each of its bytes is there and in its range
+unfoldable pub rowFits : List Range → List ℕ → Bool
+rowFits [] s = true
+rowFits (r ∷ rs) [] = false
+rowFits (r ∷ rs) (b ∷ s) = within (r .lo) (r .hi) b && rowFits rs s
+
+-- the rows that fit here, all of them; of the table's at most one does (Encoding.antt)
+unfoldable pub fitting : List Row → List ℕ → List Row
+fitting [] s = []
+fitting (r ∷ rs) s = let others = fitting rs s in cond (rowFits (r .bytes) s) (r ∷ others) others
+
+-- a well-formed character starts at byte b, with bs behind it: a row fits
 unfoldable pub starts : ℕ → List ℕ → Bool
-starts b bs = lead b .fits && trail (lead b .more) (lead b .lo) (lead b .hi) bs
+starts b bs = leb 1 (length (fitting table (b ∷ bs)))
+
+-- how many bytes the first of some rows has behind its first byte; 0 where there is no row
+unfoldable pub moreBytes : List Row → ℕ
+moreBytes [] = 0
+moreBytes (r ∷ rs) = length (r .bytes) - 1
+
+-- how many bytes of the character stand behind its first; 0 where none starts
+unfoldable pub following : ℕ → List ℕ → ℕ
+following b bs = moreBytes (fitting table (b ∷ bs))
 
 -- the character's number, "taken from the UTF-8 bits" of its first byte and of the bytes after it
 unfoldable pub scalar : ℕ → ℕ → List ℕ → ℕ
@@ -58,6 +77,19 @@ scalar zero b bs = b
 scalar (suc zero) b bs = b % 32 * 64 + getD bs 0 0 % 64
 scalar (suc (suc zero)) b bs = b % 16 * 4096 + getD bs 0 0 % 64 * 64 + getD bs 1 0 % 64
 scalar (suc (suc (suc n))) b bs = b % 8 * 262144 + getD bs 0 0 % 64 * 4096 + getD bs 1 0 % 64 * 64 + getD bs 2 0 % 64
+
+-- Unicode's Table 3-6: the bits of a number that has room in a form of n bytes; there is no form of no bytes and none of more than four
+abbrev pub layout : ℕ → ℕ → List ℕ
+layout zero c = []
+-- 00000000 0xxxxxxx: 0xxxxxxx
+layout (suc zero) c = c ∷ []
+-- 00000yyy yyxxxxxx: 110yyyyy 10xxxxxx
+layout (suc (suc zero)) c = (0xc0 + c / 64) ∷ (0x80 + c % 64) ∷ []
+-- zzzzyyyy yyxxxxxx: 1110zzzz 10yyyyyy 10xxxxxx
+layout (suc (suc (suc zero))) c = (0xe0 + c / 4096) ∷ (0x80 + c / 64 % 64) ∷ (0x80 + c % 64) ∷ []
+-- 000uuuuu zzzzyyyy yyxxxxxx: 11110uuu 10uuzzzz 10yyyyyy 10xxxxxx
+layout (suc (suc (suc (suc zero)))) c = (0xf0 + c / 262144) ∷ (0x80 + c / 4096 % 64) ∷ (0x80 + c / 64 % 64) ∷ (0x80 + c % 64) ∷ []
+layout (suc (suc (suc (suc (suc n))))) c = []
 
 -- "XML 1.0's Char decides which characters may stand": #x9 | #xA | #xD | [#x20-#xD7FF] | [#xE000-#xFFFD] | [#x10000-#x10FFFF]
 unfoldable pub xmlChar : ℕ → Bool
@@ -86,9 +118,9 @@ decode skip at [] = ok []
 decode (suc skip) at (b ∷ bs) = decode skip (suc at) bs
 decode zero at (b ∷ bs) = do
   need (starts b bs) 2 at
-  need (xmlChar (scalar (lead b .more) b bs)) 3 at
-  us ← decode (lead b .more) (suc at) bs
-  ok (unitsOf (scalar (lead b .more) b bs) ++ us)
+  need (xmlChar (scalar (following b bs) b bs)) 3 at
+  us ← decode (following b bs) (suc at) bs
+  ok (unitsOf (scalar (following b bs) b bs) ++ us)
 
 -- the text begins with `{`
 abbrev pub braced : List ℕ → Bool

@@ -8,7 +8,7 @@ use lib.IntN.{ℤ, pos, negsuc}
 use lib.ListN.{getD}
 use Rattle.label.specs.Outcome.{Outcome, ok, need, _>>=_, _>>_}
 use Rattle.label.specs.Bytes.{join, trim, decimal}
-use Rattle.label.specs.Text.{isLow, isHigh, braced}
+use Rattle.label.specs.Text.{layout, isLow, isHigh, braced}
 use Rattle.label.specs.Run.{Run}
 use Rattle.label.specs.Sound.{sound, runOf}
 use Rattle.label.specs.declared.Index.{Index}
@@ -20,13 +20,9 @@ use Rattle.label.specs.declared.Cluster.{Cluster}
 
 -- ── text ──
 
--- a character in UTF-8
+-- a character in UTF-8, in the shortest form that has room for it
 unfoldable pub utf8 : ℕ → List ℕ
-utf8 c =
-    cond (leb c 0x7f) (c ∷ [])
-    (cond (leb c 0x7ff) ((0xc0 + c / 64) ∷ (0x80 + c % 64) ∷ [])
-    (cond (leb c 0xffff) ((0xe0 + c / 4096) ∷ (0x80 + c / 64 % 64) ∷ (0x80 + c % 64) ∷ [])
-    ((0xf0 + c / 262144) ∷ (0x80 + c / 4096 % 64) ∷ (0x80 + c / 64 % 64) ∷ (0x80 + c % 64) ∷ [])))
+utf8 c = cond (leb c 0x7f) (layout 1 c) (cond (leb c 0x7ff) (layout 2 c) (cond (leb c 0xffff) (layout 3 c) (layout 4 c)))
 
 -- the character of a pair
 abbrev pub paired : ℕ → ℕ → ℕ

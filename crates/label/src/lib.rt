@@ -116,14 +116,6 @@ pub struct Cluster {
     pub glyphs: u32,
 }
 
-// A row of Unicode's Table 3-7, by a character's first byte: whether there is one, how many bytes follow, and the range of the second byte.
-pub struct Row {
-    pub fits: bool,
-    pub more: usize,
-    pub lo: u8,
-    pub hi: u8,
-}
-
 // A refusal: its number and its place in document 01's table.
 pub struct Refusal {
     pub number: usize,

@@ -20,9 +20,9 @@ use Rattle.label.specs.declared.Reading.the-variants.{Refused}
 use Rattle.label.proofs.Tails.{tail-nil, tail-even, tail-few, tail-char}
 use Rattle.label.proofs.Walks.{ok-path}
 use Rattle.label.proofs.Cursors.{joined, decode-end}
-use Rattle.text.specs.Chars.{charAt}
+use Rattle.utf8.specs.Chars.{charAt}
 use Rattle.text.specs.Moves.{unitsFrom}
-use Rattle.text.specs.declared.Char.the-variants.{Good}
+use Rattle.utf8.specs.declared.Char.the-variants.{Good}
 use Rattle.text.proofs.Moves.{Here, here-good}
 use Rattle.survey.specs.Steps.{limited, countedFrom}
 use Rattle.survey.proofs.Entries.{empty-eqb}

@@ -162,16 +162,16 @@ fn count_tail(text: &[u8], byte: usize) -> usize
     let mut b = byte;
     let mut n = 0;
     while b < text.len() {
-        match text::char_at(text, b) {
-            text::Char::Good { code: _, next } => {
+        match utf8::char_at(text, b) {
+            utf8::Char::Good { code: _, next } => {
                 n += 1;
                 b = next;
             }
             // A text with units has no such character.
-            text::Char::Ill => {
+            utf8::Char::Ill => {
                 return n;
             }
-            text::Char::Outside => {
+            utf8::Char::Outside => {
                 return n;
             }
         }

@@ -14,11 +14,11 @@ use Rattle.label.specs.Text.{unitsOf, decode}
 use Rattle.label.proofs.Cursors.{decode-end}
 use Rattle.label.proofs.Texts.{xml-range}
 use Rattle.label.proofs.Walks.{ok-path}
-use Rattle.text.specs.Chars.{charAt}
+use Rattle.utf8.specs.Chars.{charAt}
 use Rattle.text.specs.Moves.{unitsFrom}
-use Rattle.text.specs.declared.Char.the-variants.{Good}
+use Rattle.utf8.specs.declared.Char.the-variants.{Good}
 use Rattle.words.proofs.Puts.{sets-append}
-use Rattle.text.proofs.Chars.{char-is-good}
+use Rattle.utf8.proofs.Chars.{char-is-good}
 use Rattle.text.proofs.Moves.{Here, here-good}
 
 pub good-small : (s : List ℕ) (i c j : ℕ) → charAt s i ≡ Good c j → c ≤ 1114111

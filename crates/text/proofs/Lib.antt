@@ -1,4 +1,4 @@
-pub mod Chars
+pub mod Counts
 pub mod Moves
 pub mod Texts
 pub mod Fills

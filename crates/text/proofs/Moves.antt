@@ -11,16 +11,18 @@ use lib.ListN.{length, getD, drop, length-append}
 use lib.Seq.{getD-drop, drop-append-add, drop-append-seam}
 use Rattle.label.specs.Outcome.{ok}
 use Rattle.label.specs.Text.{within, xmlChar, isLow, unitsOf, decode}
-use Rattle.text.specs.Chars.{charAt}
+use Rattle.utf8.specs.Chars.{charAt}
 use Rattle.text.specs.Moves.{unitsFrom, Moves}
-use Rattle.text.specs.declared.Char.the-variants.{Good, Ill, Outside}
+use Rattle.utf8.specs.declared.Char.the-variants.{Good, Ill, Outside}
 use Rattle.text.specs.declared.Moved.the-variants.{To, Past, Half}
 use Rattle.label.proofs.Basics.{bind-ok, no-ok, cases}
 use Rattle.label.proofs.Walks.{ok-path}
-use Rattle.label.proofs.Texts.{proper-first, within-is}
+use Rattle.label.proofs.Basics.{within-is}
+use Rattle.label.proofs.Texts.{proper-first}
 use Rattle.label.proofs.Sounds.{decode-proper}
 use Rattle.label.proofs.Cursors.{onto, decode-good, decode-ill, decode-outside, decode-end}
-use Rattle.text.proofs.Chars.{char-plain, plain-one, GoodAt, one-is, two-are, char-is-good, char-is-ill, char-is-outside}
+use Rattle.utf8.proofs.Chars.{char-plain, GoodAt, char-is-good, char-is-ill, char-is-outside}
+use Rattle.text.proofs.Counts.{plain-one, one-is, two-are}
 
 -- what is left: units are passed, and at byte b the units r are left, of which a are still to pass
 pub record Left (s : List ℕ) (at count b a : ℕ) : Type 0 where

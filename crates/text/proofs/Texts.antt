@@ -3,7 +3,7 @@
 use Prim.Native.Nat.{ℕ, suc, _-_, _≤_, _<_}
 use native.Mathlib.Omega.{arith}
 use mathlib.Core.Path.{_≡_, refl, sym, _∙_, ap, subst}
-use mathlib.Core.Bool.{Bool, true, false, cond, _&&_, false≢true, and-false}
+use mathlib.Core.Bool.{Bool, true, false, cond, false≢true, and-false}
 use mathlib.Core.List.{List, [], _∷_, _++_}
 use borrow.Author.Tests.{eq-eqb, ne-eqb, eqb-true, leb-true, leb-false}
 use lib.Dec.{eqb, leb}
@@ -11,63 +11,30 @@ use lib.ListN.{length, getD, drop, length-drop}
 use Rattle.label.specs.Limits.{maxUnits}
 use Rattle.label.specs.Outcome.{Outcome, ok, no, need, _>>_}
 use Rattle.label.specs.Calls.{refusal}
-use Rattle.label.specs.Text.{within, row, no-row, lead, trail, starts, scalar, xmlChar, unitsOf, decode, braced, marked, textUnits}
-use Rattle.label.specs.declared.Row.{Row}
+use Rattle.label.specs.Text.{table, fitting, starts, following, scalar, xmlChar, unitsOf, decode, braced, marked, textUnits}
 use Rattle.label.proofs.Basics.{and-l, and-r, clash, cases, bind-ok, need-ok}
-use Rattle.label.proofs.Texts.{within-lo, within-hi, row-1}
+use Rattle.label.proofs.Rows.{laws, scalar-of, read-at, utf8-one}
 use Rattle.label.proofs.Walks.{ok-path}
 use Rattle.label.proofs.Sounds.{TextIs, text-ok}
-use Rattle.text.specs.Chars.{counted}
-use Rattle.text.proofs.Chars.{one-is}
-use Rattle.text.specs.Texts.{unitsStart, unitsRead, textRead, unitsWithin}
+use Rattle.utf8.proofs.Rows.{starts-one}
+use Rattle.text.proofs.Counts.{one-is}
+use Rattle.text.specs.Texts.{counted, unitsStart, unitsRead, textRead, unitsWithin}
 use Rattle.text.specs.declared.Counted.the-variants as C
 use Rattle.text.specs.declared.TextRead.the-variants.{Units, Refused}
 
 -- ── a character's number and its first byte ──
 
--- by the row that a first byte chooses
-by-row : (P : Row → Type 0) (b : ℕ) → (b ≤ 127 → P (row 0 0 0)) → (194 ≤ b → b ≤ 223 → P (row 1 128 191)) → (224 ≤ b → b ≤ 224 → P (row 2 160 191))
-    → (225 ≤ b → b ≤ 236 → P (row 2 128 191)) → (237 ≤ b → b ≤ 237 → P (row 2 128 159)) → (238 ≤ b → b ≤ 239 → P (row 2 128 191))
-    → (240 ≤ b → b ≤ 240 → P (row 3 144 191)) → (241 ≤ b → b ≤ 243 → P (row 3 128 191)) → (244 ≤ b → b ≤ 244 → P (row 3 128 143)) → P no-row → P (lead b)
-unfolding lead
-by-row P b r1 r2 r3 r4 r5 r6 r7 r8 r9 r10 =
-    cases (within 0 127 b) (λ t. rw t (r1 (within-hi 0 127 b t)))
-    (λ n1. rw n1 (cases (within 194 223 b) (λ t. rw t (r2 (within-lo 194 223 b t) (within-hi 194 223 b t)))
-    (λ n2. rw n2 (cases (within 224 224 b) (λ t. rw t (r3 (within-lo 224 224 b t) (within-hi 224 224 b t)))
-    (λ n3. rw n3 (cases (within 225 236 b) (λ t. rw t (r4 (within-lo 225 236 b t) (within-hi 225 236 b t)))
-    (λ n4. rw n4 (cases (within 237 237 b) (λ t. rw t (r5 (within-lo 237 237 b t) (within-hi 237 237 b t)))
-    (λ n5. rw n5 (cases (within 238 239 b) (λ t. rw t (r6 (within-lo 238 239 b t) (within-hi 238 239 b t)))
-    (λ n6. rw n6 (cases (within 240 240 b) (λ t. rw t (r7 (within-lo 240 240 b t) (within-hi 240 240 b t)))
-    (λ n7. rw n7 (cases (within 241 243 b) (λ t. rw t (r8 (within-lo 241 243 b t) (within-hi 241 243 b t)))
-    (λ n8. rw n8 (cases (within 244 244 b) (λ t. rw t (r9 (within-lo 244 244 b t) (within-hi 244 244 b t)))
-    (λ n9. rw n9 r10)))))))))))))))))
-
--- the second byte is in its row's range
-second : (n lo hi : ℕ) (bs : List ℕ) → trail (suc n) lo hi bs ≡ true → (lo ≤ getD bs 0 0) × (getD bs 0 0 ≤ hi)
-unfolding trail
-second n lo hi [] t = absurd (false≢true t)
-second n lo hi (d ∷ bs) t =
-    let w = and-l (within lo hi d) (trail n 128 191 bs) t in
-    (within-lo lo hi d w, within-hi lo hi d w)
-
-abbrev Above : ℕ → List ℕ → Row → Type 0
-Above b bs r = (r .fits && trail (r .more) (r .lo) (r .hi) bs) ≡ true → 127 < b → 127 < scalar (r .more) b bs
-
--- a character of more than one byte is above those of one: no overlong form is well-formed
-above : (b : ℕ) (bs : List ℕ) → starts b bs ≡ true → 127 < b → 127 < scalar (lead b .more) b bs
-unfolding starts scalar
-above b bs =
-    by-row (Above b bs) b
-    (λ h t l. l)
-    (λ h k t l. omega arith)
-    (λ h k t l. omega (arith, second 1 160 191 bs t))
-    (λ h k t l. omega arith)
-    (λ h k t l. omega arith)
-    (λ h k t l. omega arith)
-    (λ h k t l. omega (arith, second 2 144 191 bs t))
-    (λ h k t l. omega arith)
-    (λ h k t l. omega arith)
-    (λ t l. absurd (false≢true t))
+-- a character of more than one byte is above those of one
+above : (b : ℕ) (bs : List ℕ) → starts b bs ≡ true → 127 < b → 127 < scalar (following b bs) b bs
+unfolding starts
+above b bs h l =
+    let (c, rest, k, e) = scalar-of table laws (b ∷ bs) (leb-true 1 (length (fitting table (b ∷ bs))) h) in
+    rw (read-at c b bs rest k e .number)
+    (cases (leb c 127)
+    (λ t. let f : b ∷ bs ≡ c ∷ rest = e ∙ ap (λ (u : List ℕ). u ++ rest) (utf8-one c (leb-true c 127 t)) in
+    let g : b ≡ c = cc in
+    omega arith)
+    (λ t. leb-false c 127 t))
 
 -- ── `{` and `}` ──
 
@@ -75,15 +42,15 @@ above b bs =
 record First (at b : ℕ) (bs all : List ℕ) : Type 0 where
   start : starts b bs ≡ true
   others : List ℕ
-  next : decode (lead b .more) (suc at) bs ≡ ok others
-  is : all ≡ unitsOf (scalar (lead b .more) b bs) ++ others
+  next : decode (following b bs) (suc at) bs ≡ ok others
+  is : all ≡ unitsOf (scalar (following b bs) b bs) ++ others
 
 first : (at b : ℕ) (bs all : List ℕ) → decode 0 at (b ∷ bs) ≡ ok all → First at b bs all
 unfolding decode
 first at b bs all h =
     let (t2, h2) = need-ok (starts b bs) 2 at _ all h in
-    let (t3, h3) = need-ok (xmlChar (scalar (lead b .more) b bs)) 3 at _ all h2 in
-    let (vs, d, e) = bind-ok (decode (lead b .more) (suc at) bs) _ all h3 in
+    let (t3, h3) = need-ok (xmlChar (scalar (following b bs) b bs)) 3 at _ all h2 in
+    let (vs, d, e) = bind-ok (decode (following b bs) (suc at) bs) _ all h3 in
     record { start = t2; others = vs; next = d; is = sym (ok-path _ all e) }
 
 -- a byte below 128 is one unit
@@ -95,12 +62,12 @@ record One (at b : ℕ) (bs all : List ℕ) : Type 0 where
 one : (at b : ℕ) (bs all : List ℕ) → b ≤ 127 → decode 0 at (b ∷ bs) ≡ ok all → One at b bs all
 unfolding scalar
 one at b bs all l h =
-    let r : lead b ≡ row 0 0 0 = row-1 b (omega arith) l in
+    let n = starts-one b bs l .1 in
     let x = first at b bs all h in
     record {
       others = x .others;
-      next = subst (λ (y : Row). decode (y .more) (suc at) bs ≡ ok (x .others)) r (x .next);
-      is = x .is ∙ ap (λ (y : Row). unitsOf (scalar (y .more) b bs) ++ x .others) r ∙ ap (λ (us : List ℕ). us ++ x .others) (one-is b (omega arith));
+      next = rw n at (x .next);
+      is = x .is ∙ rw (n, one-is b (omega arith));
     }
 
 -- any other character's first unit is no such byte
@@ -111,7 +78,7 @@ units-above c us h = cases (leb c 65535) (λ t. rw t h) (λ t. rw t (omega arith
 far : (at b : ℕ) (bs all : List ℕ) → 127 < b → decode 0 at (b ∷ bs) ≡ ok all → 127 < getD all 0 0
 far at b bs all l h =
     let x = first at b bs all h in
-    subst (λ (us : List ℕ). 127 < getD us 0 0) (sym (x .is)) (units-above (scalar (lead b .more) b bs) (x .others) (above b bs (x .start) l))
+    subst (λ (us : List ℕ). 127 < getD us 0 0) (sym (x .is)) (units-above (scalar (following b bs) b bs) (x .others) (above b bs (x .start) l))
 
 -- so a character below 128 is the first unit where it is the first byte, and only there
 first-unit : (k at : ℕ) (t all : List ℕ) → k ≤ 127 → decode 0 at t ≡ ok all → eqb (getD all 0 0) k ≡ eqb (getD t 0 0) k

@@ -1,3 +1,2 @@
-pub mod Chars
 pub mod Moves
 pub mod Texts

@@ -1,4 +1,4 @@
--- The answer of surveying a text: how many units its run has and where they start, or the refusal.
+-- The answers of counting a text's units and of surveying it: how many units its run has and where they start, or the refusal.
 -- Assumes nothing.
 use Prim.Native.Nat.{ℕ}
 use mathlib.Core.Bool.{cond}
@@ -9,9 +9,16 @@ use Rattle.label.specs.Limits.{maxUnits}
 use Rattle.label.specs.Outcome.{Outcome, ok, no}
 use Rattle.label.specs.Calls.{refusal}
 use Rattle.label.specs.Text.{marked, textUnits}
+use Rattle.text.specs.declared.Counted.{Counted}
+use Rattle.text.specs.declared.Counted.the-variants as C
 use Rattle.text.specs.declared.TextUnits.{TextUnits}
 use Rattle.text.specs.declared.TextRead.{TextRead}
 use Rattle.text.specs.declared.TextRead.the-variants.{Units, Refused}
+
+-- how many units there are, or the refusal, as the code's enum
+abbrev pub counted : Outcome (List ℕ) → Counted
+counted (ok us) = C.Units (length us)
+counted (no n p) = C.Refused n p
 
 -- the byte of a text where its run's units start: behind the two bytes `{}` where it begins with them
 unfoldable pub unitsStart : List ℕ → ℕ

@@ -1,214 +1,18 @@
-// The text of a label: UTF-8 by the rows of Unicode's Table 3-7 to code units, XML 1.0's Char, and the moves over a text that the reader makes.
+// The text of a label: from UTF-8 to code units, and the moves over a text that the reader makes.
 ghost use mathlib.Core.Path.{_≡_};
-ghost use mathlib.Core.Bool.{true, cond, _&&_};
-ghost use Prim.Native.Nat.{_+_, _-_, _*_, _/_, _%_, _≤_, _<_};
+ghost use mathlib.Core.Bool.{true, _&&_};
+ghost use Prim.Native.Nat.{_+_, _-_, _/_, _%_, _≤_, _<_};
 ghost use lib.Dec.{ltb};
 ghost use lib.ListN.{length, getD, drop};
 ghost use lib.Seq.{sets};
 ghost use Rattle.label.specs.Limits.{maxTextBytes};
 ghost use Rattle.label.specs.Outcome.{ok};
-ghost use Rattle.label.specs.Text.{within, lead, trail, scalar, xmlChar, unitsOf, decode};
+ghost use Rattle.label.specs.Text.{within, unitsOf, decode};
 ghost use Rattle.label.specs.Calls.{filled};
-ghost use Rattle.text.specs.Chars.{charAt, counted};
+ghost use Rattle.text.specs.Texts.{counted};
 ghost use Rattle.text.specs.Texts.{unitsWithin, textRead};
 ghost use Rattle.text.specs.Moves.{unitsFrom, Moves};
 ghost use Rattle.text.specs.declared.Moved.the-variants.{To};
-use label::Row;
-
-// ── bytes ──
-
-// A byte, or 0 past the end.
-pub fn byte_or_zero(s: &[u8], i: usize) -> u8
-    ensures { λ r. ⌜ r ≡ getD (now (s .entry)) i 0 ⌝ }
-{
-    if i < s.len() { s[i] } else { 0 }
-}
-
-// ── Table 3-7 ──
-
-// lo <= b <= hi
-pub fn is_within(lo: u8, hi: u8, b: u8) -> bool
-    ensures { λ r. ⌜ r ≡ within lo hi b ⌝ }
-{
-    words::both(lo <= b, b <= hi)
-}
-
-fn row(more: usize, lo: u8, hi: u8) -> Row
-    ensures { λ r. ⌜ r ≡ record { fits = true; more = more; lo = lo; hi = hi } ⌝ }
-{
-    Row {
-        fits: true,
-        more,
-        lo,
-        hi,
-    }
-}
-
-// The row of Table 3-7 that a first byte chooses: nine rows, in the table's order.
-fn row_of(b: u8) -> Row
-    ensures { λ r. ⌜ r ≡ lead b ⌝ }
-{
-    if is_within(0, 0x7f, b) {
-        return row(0, 0, 0);
-    }
-    if is_within(0xc2, 0xdf, b) {
-        return row(1, 0x80, 0xbf);
-    }
-    if is_within(0xe0, 0xe0, b) {
-        return row(2, 0xa0, 0xbf);
-    }
-    if is_within(0xe1, 0xec, b) {
-        return row(2, 0x80, 0xbf);
-    }
-    if is_within(0xed, 0xed, b) {
-        return row(2, 0x80, 0x9f);
-    }
-    if is_within(0xee, 0xef, b) {
-        return row(2, 0x80, 0xbf);
-    }
-    if is_within(0xf0, 0xf0, b) {
-        return row(3, 0x90, 0xbf);
-    }
-    if is_within(0xf1, 0xf3, b) {
-        return row(3, 0x80, 0xbf);
-    }
-    if is_within(0xf4, 0xf4, b) {
-        return row(3, 0x80, 0x8f);
-    }
-    Row {
-        fits: false,
-        more: 0,
-        lo: 0,
-        hi: 0,
-    }
-}
-
-// The n bytes from `at` on are there, the first from lo to hi, the others from 128 to 191.
-fn follows(s: &[u8], at: usize, n: usize, lo: u8, hi: u8) -> bool
-    requires { ⌜ at ≤ length (now s) ⌝ }
-    ensures { λ r. ⌜ r ≡ trail n lo hi (drop at (now (s .entry))) ⌝ }
-{
-    let mut l = lo;
-    let mut h = hi;
-    let mut i = at;
-    let mut k = n;
-    while k != 0 {
-        if s.len() <= i {
-            return false;
-        }
-        if s[i] < l {
-            return false;
-        }
-        if h < s[i] {
-            return false;
-        }
-        l = 128;
-        h = 191;
-        i += 1;
-        k -= 1;
-    }
-    true
-}
-
-// ── characters ──
-
-// A character and the place behind it; or no well-formed one; or one that may not stand.
-pub enum Char {
-    Good { code: u32, next: usize },
-    Ill,
-    Outside,
-}
-
-// XML 1.0's Char.
-pub fn is_xml(c: u32) -> bool
-    ensures { λ r. ⌜ r ≡ xmlChar c ⌝ }
-{
-    if c < 0x20 {
-        return words::either(words::either(c == 9, c == 10), c == 13);
-    }
-    if c <= 0xd7ff {
-        return true;
-    }
-    if c < 0xe000 {
-        return false;
-    }
-    if c <= 0xfffd {
-        return true;
-    }
-    if c < 0x10000 {
-        return false;
-    }
-    c <= 0x10ffff
-}
-
-// Six more bits, those of a byte after the first.
-fn with_six(c: u32, b: u8) -> u32
-    requires { ⌜ c < 32768 ⌝ }
-    ensures { λ r. ⌜ r ≡ c * 64 + b % 64 ⌝ }
-{
-    (c << 6) | (b as u32 & 0x3f)
-}
-
-// The number of the character at `at`, which has `more` bytes after its first, from the bytes' bits.
-fn scalar_at(s: &[u8], at: usize, more: usize) -> u32
-    requires { ⌜ at + more < length (now s) ⌝ }
-    ensures { λ r. ⌜ r ≡ scalar more (getD (now (s .entry)) at 0) (drop (at + 1) (now (s .entry))) ⌝ }
-{
-    let b = words::wide(s[at]);
-    if more == 0 {
-        return b;
-    }
-    if more == 1 {
-        return with_six(b & 0x1f, s[at + 1]);
-    }
-    if more == 2 {
-        let c = with_six(b & 0x0f, s[at + 1]);
-        return with_six(c, s[at + 2]);
-    }
-    let c = with_six(b & 0x07, s[at + 1]);
-    let d = with_six(c, s[at + 2]);
-    with_six(d, s[at + 3])
-}
-
-// A character of one byte, in front of place `next`.
-fn one_byte(b: u8, next: usize) -> Char
-    ensures { λ r. ⌜ r ≡ cond (xmlChar b) (Char.Good b next) Char.Outside ⌝ }
-{
-    let code = b as u32;
-    if is_xml(code) {
-        Char::Good { code, next }
-    } else {
-        Char::Outside
-    }
-}
-
-// The character at `at`, where it is well-formed and may stand, and the place behind it.
-pub fn char_at(s: &[u8], at: usize) -> Char
-    requires { ⌜ at < length (now s) ⌝ }
-    ensures { λ r. ⌜ r ≡ charAt (now (s .entry)) at ⌝ }
-{
-    if s[at] < 0x80 {
-        return one_byte(s[at], at + 1);
-    }
-    let row = row_of(s[at]);
-    let fits = row.fits;
-    let more = row.more;
-    if !fits {
-        return Char::Ill;
-    }
-    if !follows(s, at + 1, more, row.lo, row.hi) {
-        return Char::Ill;
-    }
-    let code = scalar_at(s, at, more);
-    if is_xml(code) {
-        Char::Good {
-            code,
-            next: at + 1 + more,
-        }
-    } else {
-        Char::Outside
-    }
-}
 
 // ── a text's units ──
 
@@ -234,19 +38,19 @@ fn count_units(s: &[u8]) -> Counted
     let mut i = 0;
     let mut n = 0;
     while i < s.len() {
-        if is_within(0x20, 0x7f, s[i]) {
+        if utf8::is_within(0x20, 0x7f, s[i]) {
             n += 1;
             i += 1;
         } else {
-            match char_at(s, i) {
-                Char::Good { code, next } => {
+            match utf8::char_at(s, i) {
+                utf8::Char::Good { code, next } => {
                     n += unit_count(code);
                     i = next;
                 }
-                Char::Ill => {
+                utf8::Char::Ill => {
                     return Counted::Refused(2, i);
                 }
-                Char::Outside => {
+                utf8::Char::Outside => {
                     return Counted::Refused(3, i);
                 }
             }
@@ -287,10 +91,10 @@ pub fn survey_text(text: &[u8]) -> TextRead
 {
     match count_units(text) {
         Counted::Units(n) => {
-            if byte_or_zero(text, 0) != 0x7b {
+            if utf8::byte_or_zero(text, 0) != 0x7b {
                 return limited(n, 0);
             }
-            if byte_or_zero(text, 1) != 0x7d {
+            if utf8::byte_or_zero(text, 1) != 0x7d {
                 return TextRead::Refused(label::Refusal {
                     number: 4,
                     place: 0,
@@ -345,19 +149,19 @@ pub fn fill_units(text: &[u8], from: usize, out: &mut [u16])
     let mut i = from;
     let mut n = 0;
     while i < text.len() {
-        if is_within(0x20, 0x7f, text[i]) {
+        if utf8::is_within(0x20, 0x7f, text[i]) {
             n = put_char(out, n, words::wide(text[i]));
             i += 1;
         } else {
-            match char_at(text, i) {
-                Char::Good { code, next } => {
+            match utf8::char_at(text, i) {
+                utf8::Char::Good { code, next } => {
                     n = put_char(out, n, code);
                     i = next;
                 }
-                Char::Ill => {
+                utf8::Char::Ill => {
                     return;
                 }
-                Char::Outside => {
+                utf8::Char::Outside => {
                     return;
                 }
             }
@@ -385,12 +189,12 @@ pub fn move_past(s: &[u8], at: usize, count: usize) -> Moved
         if s.len() <= b {
             return Moved::Past;
         }
-        if is_within(0x20, 0x7f, s[b]) {
+        if utf8::is_within(0x20, 0x7f, s[b]) {
             a -= 1;
             b += 1;
         } else {
-            match char_at(s, b) {
-                Char::Good { code, next } => {
+            match utf8::char_at(s, b) {
+                utf8::Char::Good { code, next } => {
                     let n = unit_count(code);
                     if a < n {
                         return Moved::Half;
@@ -398,10 +202,10 @@ pub fn move_past(s: &[u8], at: usize, count: usize) -> Moved
                     a -= n;
                     b = next;
                 }
-                Char::Ill => {
+                utf8::Char::Ill => {
                     return Moved::Past;
                 }
-                Char::Outside => {
+                utf8::Char::Outside => {
                     return Moved::Past;
                 }
             }
@@ -419,5 +223,5 @@ pub fn is_plain(s: &[u8], at: usize) -> bool
     if s.len() <= at {
         return false;
     }
-    is_within(0x20, 0x7f, s[at])
+    utf8::is_within(0x20, 0x7f, s[at])
 }

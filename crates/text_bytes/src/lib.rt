@@ -53,7 +53,7 @@ fn unit_ok(half: bool, u: u16) -> bool
     if half {
         is_low(u)
     } else {
-        words::either(is_high(u), text::is_xml(u as u32))
+        words::either(is_high(u), utf8::is_xml(u as u32))
     }
 }
 

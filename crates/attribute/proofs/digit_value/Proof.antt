@@ -1,6 +1,6 @@
 -- `attribute::digit_value` meets its contract. Assumes nothing.
 use Rattle.label.specs.Attribute.{digitValue}
-use Rattle.label.proofs.Texts.{within-lo, within-hi}
+use Rattle.label.proofs.Basics.{within-lo, within-hi}
 use mathlib.Core.Path.{sym, _∙_}
 use native.Mathlib.Omega.{arith}
 use borrow.Author.Needs.{needs}

@@ -4,7 +4,7 @@ use native.Mathlib.Omega.{arith}
 use mathlib.Core.Path.{sym, _∙_}
 use borrow.Author.Needs.{needs}
 use lib.ListN.{length}
-use Rattle.text.proofs.Chars.{reached-inside}
+use Rattle.utf8.proofs.Chars.{char-inside}
 use Rattle.text.proofs.Moves.{no-ill, no-outside}
 use Rattle.survey.proofs.Endings.{Counting, counting-start, counting-few, counting-next, counting-end}
 use Rattle.survey.proofs.count_tail.Statement.{statement}
@@ -29,7 +29,7 @@ add-n : tie.Need-add-n Inv-loop μ-loop
 add-n c = omega (arith, counting-few (c .before .before .before .before .before .loop .inv) (c .before .before .before .before .before .before .before .pre .1))
 
 loop-less : tie.Need-loop-less Inv-loop μ-loop
-loop-less c = let d = reached-inside _ _ _ _ (c .before .before .before .before .loop-test .taken) (sym (c .before .before .before .char-at .ensures) ∙ c .before .next .given .1) in omega (arith, d, c .before .before .before .before .loop-test .taken)
+loop-less c = let d = char-inside _ _ _ _ (c .before .before .before .before .loop-test .taken) (sym (c .before .before .before .char-at .ensures) ∙ c .before .next .given .1) in omega (arith, d, c .before .before .before .before .loop-test .taken)
 
 loop-again : tie.Need-loop-again Inv-loop μ-loop
 loop-again c = counting-next (c .before .before .before .before .before .loop .inv) (c .before .before .before .before .loop-test .taken) (sym (c .before .before .before .char-at .ensures) ∙ c .before .next .given .1)

@@ -4,7 +4,8 @@ use native.Mathlib.Omega.{arith}
 use mathlib.Core.Path.{sym, _∙_}
 use borrow.Author.Needs.{needs}
 use lib.ListN.{length}
-use Rattle.text.proofs.Chars.{Reached, char-plain, plain-one, reached-start, reached-inside, reached-next, reached-ill, reached-outside, reached-end}
+use Rattle.utf8.proofs.Chars.{char-plain, char-inside}
+use Rattle.text.proofs.Counts.{Reached, plain-one, reached-start, reached-next, reached-ill, reached-outside, reached-end}
 use Rattle.text.proofs.count_units.Statement.{statement}
 use Rattle.text.proofs.count_units.Tie as tie
 
@@ -51,12 +52,12 @@ add-n-2 c = search needs
 
 loop-less-2 : tie.Need-loop-less-2 Inv-loop μ-loop
 loop-less-2 c =
-    let d = reached-inside _ _ _ _ (c .before .before .before .before .before .before .before .before .loop-test .taken) (sym (c .before .before .before .before .char-at .ensures) ∙ c .before .before .code .given .1) in omega (arith, d)
+    let d = char-inside _ _ _ _ (c .before .before .before .before .before .before .before .before .loop-test .taken) (sym (c .before .before .before .before .char-at .ensures) ∙ c .before .before .code .given .1) in omega (arith, d)
 
 loop-again-2 : tie.Need-loop-again-2 Inv-loop μ-loop
 loop-again-2 c =
     let g = sym (c .before .before .before .before .char-at .ensures) ∙ c .before .before .code .given .1 in
-    let d = reached-inside _ _ _ _ (c .before .before .before .before .before .before .before .before .loop-test .taken) g in
+    let d = char-inside _ _ _ _ (c .before .before .before .before .before .before .before .before .loop-test .taken) g in
     (d .1, omega (arith, d), reached-next _ _ _ _ _ _ (c .before .before .before .before .before .before .before .before .loop-test .taken) (c .before .before .before .before .before .before .before .before .before .loop .inv .2) g (c .unit-count .ensures .0))
 
 enum-told : tie.Need-enum-told Inv-loop μ-loop

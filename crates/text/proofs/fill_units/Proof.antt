@@ -1,7 +1,7 @@
 -- `text::fill_units` meets its contract. Assumes nothing.
 use Rattle.text.proofs.Fills.{Fill, fill-start, fill-room, fill-next, fill-end, good-small}
 use Rattle.text.proofs.Moves.{no-ill, no-outside}
-use Rattle.text.proofs.Chars.{char-plain-as, reached-inside}
+use Rattle.utf8.proofs.Chars.{char-plain-as, char-inside}
 use borrow.Author.Needs.{needs}
 use lib.ListN.{length}
 use mathlib.Core.Path.{sym, _∙_}
@@ -59,7 +59,7 @@ put-char-requires-2 c κs =
 
 loop-less-2 : tie.Need-loop-less-2 Inv-loop μ-loop
 loop-less-2 c =
-    let d = reached-inside _ _ _ _ (c .before .before .before .before .before .before .before .before .before .before .before .loop-test .taken) (sym (c .before .before .before .before .before .before .before .char-at .ensures) ∙ c .before .before .before .before .before .code .given .1) in
+    let d = char-inside _ _ _ _ (c .before .before .before .before .before .before .before .before .before .before .before .loop-test .taken) (sym (c .before .before .before .before .before .before .before .char-at .ensures) ∙ c .before .before .before .before .before .code .given .1) in
     omega (arith, d)
 
 loop-again-2 : tie.Need-loop-again-2 Inv-loop μ-loop

@@ -4,7 +4,8 @@ use native.Mathlib.Omega.{arith}
 use mathlib.Core.Path.{sym, _∙_}
 use borrow.Author.Needs.{needs}
 use lib.ListN.{length}
-use Rattle.text.proofs.Chars.{char-plain, plain-one, reached-inside}
+use Rattle.utf8.proofs.Chars.{char-plain, char-inside}
+use Rattle.text.proofs.Counts.{plain-one}
 use Rattle.text.proofs.Moves.{Left, left-start, left-next, left-inside, left-past, left-done, left-no-ill, left-no-outside}
 use Rattle.text.proofs.move_past.Statement.{statement}
 use Rattle.text.proofs.move_past.Tie as tie
@@ -55,7 +56,7 @@ returns-2 c = left-inside _ _ _ _ _ _ _ _ (c .before .before .before .before .be
 
 loop-less-2 : tie.Need-loop-less-2 Inv-loop μ-loop
 loop-less-2 c =
-    let d = reached-inside _ _ _ _ (c .before .before .before .before .before .before .before .before .before .if1 .left) (sym (c .before .before .before .before .before .char-at .ensures) ∙ c .before .before .before .code .given .1) in omega (arith, d, c .before .before .before .before .before .before .before .before .before .if1 .left)
+    let d = char-inside _ _ _ _ (c .before .before .before .before .before .before .before .before .before .if1 .left) (sym (c .before .before .before .before .before .char-at .ensures) ∙ c .before .before .before .code .given .1) in omega (arith, d, c .before .before .before .before .before .before .before .before .before .if1 .left)
 
 loop-again-2 : tie.Need-loop-again-2 Inv-loop μ-loop
 loop-again-2 c = left-next _ _ _ _ _ _ _ _ (c .before .before .before .before .before .before .before .before .before .before .before .loop .inv) (c .before .before .before .before .before .before .before .before .before .if1 .left) (sym (c .before .before .before .before .before .char-at .ensures) ∙ c .before .before .before .code .given .1) (c .before .unit-count .ensures .0) (c .if3 .left)

@@ -3,7 +3,7 @@ use mathlib.Core.Path.{refl, ap}
 use native.Mathlib.Omega.{arith}
 use native.Mathlib.Numerals.{add-one}
 use lib.ListN.{length, length-set}
-use Rattle.text.proofs.Chars.{one-is, two-are}
+use Rattle.text.proofs.Counts.{one-is, two-are}
 use borrow.Author.Needs.{needs}
 use Rattle.text.proofs.put_char.Statement.{statement}
 use Rattle.text.proofs.put_char.Tie as tie

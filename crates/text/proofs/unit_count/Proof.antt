@@ -2,7 +2,7 @@
 use native.Mathlib.Omega.{arith}
 use mathlib.Core.Path.{sym, ap}
 use lib.ListN.{length}
-use Rattle.text.proofs.Chars.{one-is, two-are}
+use Rattle.text.proofs.Counts.{one-is, two-are}
 use Rattle.text.proofs.unit_count.Statement.{statement}
 use Rattle.text.proofs.unit_count.Tie as tie
 

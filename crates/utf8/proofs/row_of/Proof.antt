@@ -1,11 +1,11 @@
--- `text::row_of` meets its contract. Assumes nothing.
-use Rattle.text.proofs.Chars.{by-range}
-use Rattle.label.proofs.Texts.{row-1, row-2, row-3, row-4, row-5, row-6, row-7, row-8, row-9}
-use Rattle.label.specs.Text.{lead}
+-- `utf8::row_of` meets its contract. Assumes nothing.
+use Rattle.utf8.proofs.Rows.{by-row}
+use Rattle.label.specs.Text.{table}
+use Rattle.utf8.specs.Rows.{chosen, lead}
 use mathlib.Core.Path.{sym, _∙_}
 use borrow.Author.Needs.{needs}
-use Rattle.text.proofs.row_of.Statement.{statement}
-use Rattle.text.proofs.row_of.Tie as tie
+use Rattle.utf8.proofs.row_of.Statement.{statement}
+use Rattle.utf8.proofs.row_of.Tie as tie
 
 is-within-requires : tie.Need-is-within-requires
 is-within-requires c κs = search needs
@@ -14,7 +14,8 @@ row-requires : tie.Need-row-requires
 row-requires c κs = search needs
 
 returns : tie.Need-returns
-returns c = c .row .ensures ∙ by-range row-1 _ (c .before .before .is-within .ensures) (c .before .if1 .taken)
+unfolding table
+returns c = c .row .ensures ∙ by-row 0 _ (c .before .before .is-within .ensures) (c .before .if1 .taken)
 
 is-within-requires-2 : tie.Need-is-within-requires-2
 is-within-requires-2 c κs = search needs
@@ -23,7 +24,8 @@ row-requires-2 : tie.Need-row-requires-2
 row-requires-2 c κs = search needs
 
 returns-2 : tie.Need-returns-2
-returns-2 c = c .row2 .ensures ∙ by-range row-2 _ (c .before .before .is-within2 .ensures) (c .before .if2 .taken)
+unfolding table
+returns-2 c = c .row2 .ensures ∙ by-row 1 _ (c .before .before .is-within2 .ensures) (c .before .if2 .taken)
 
 is-within-requires-3 : tie.Need-is-within-requires-3
 is-within-requires-3 c κs = search needs
@@ -32,7 +34,8 @@ row-requires-3 : tie.Need-row-requires-3
 row-requires-3 c κs = search needs
 
 returns-3 : tie.Need-returns-3
-returns-3 c = c .row3 .ensures ∙ by-range row-3 _ (c .before .before .is-within3 .ensures) (c .before .if3 .taken)
+unfolding table
+returns-3 c = c .row3 .ensures ∙ by-row 2 _ (c .before .before .is-within3 .ensures) (c .before .if3 .taken)
 
 is-within-requires-4 : tie.Need-is-within-requires-4
 is-within-requires-4 c κs = search needs
@@ -41,7 +44,8 @@ row-requires-4 : tie.Need-row-requires-4
 row-requires-4 c κs = search needs
 
 returns-4 : tie.Need-returns-4
-returns-4 c = c .row4 .ensures ∙ by-range row-4 _ (c .before .before .is-within4 .ensures) (c .before .if4 .taken)
+unfolding table
+returns-4 c = c .row4 .ensures ∙ by-row 3 _ (c .before .before .is-within4 .ensures) (c .before .if4 .taken)
 
 is-within-requires-5 : tie.Need-is-within-requires-5
 is-within-requires-5 c κs = search needs
@@ -50,7 +54,8 @@ row-requires-5 : tie.Need-row-requires-5
 row-requires-5 c κs = search needs
 
 returns-5 : tie.Need-returns-5
-returns-5 c = c .row5 .ensures ∙ by-range row-5 _ (c .before .before .is-within5 .ensures) (c .before .if5 .taken)
+unfolding table
+returns-5 c = c .row5 .ensures ∙ by-row 4 _ (c .before .before .is-within5 .ensures) (c .before .if5 .taken)
 
 is-within-requires-6 : tie.Need-is-within-requires-6
 is-within-requires-6 c κs = search needs
@@ -59,7 +64,8 @@ row-requires-6 : tie.Need-row-requires-6
 row-requires-6 c κs = search needs
 
 returns-6 : tie.Need-returns-6
-returns-6 c = c .row6 .ensures ∙ by-range row-6 _ (c .before .before .is-within6 .ensures) (c .before .if6 .taken)
+unfolding table
+returns-6 c = c .row6 .ensures ∙ by-row 5 _ (c .before .before .is-within6 .ensures) (c .before .if6 .taken)
 
 is-within-requires-7 : tie.Need-is-within-requires-7
 is-within-requires-7 c κs = search needs
@@ -68,7 +74,8 @@ row-requires-7 : tie.Need-row-requires-7
 row-requires-7 c κs = search needs
 
 returns-7 : tie.Need-returns-7
-returns-7 c = c .row7 .ensures ∙ by-range row-7 _ (c .before .before .is-within7 .ensures) (c .before .if7 .taken)
+unfolding table
+returns-7 c = c .row7 .ensures ∙ by-row 6 _ (c .before .before .is-within7 .ensures) (c .before .if7 .taken)
 
 is-within-requires-8 : tie.Need-is-within-requires-8
 is-within-requires-8 c κs = search needs
@@ -77,7 +84,8 @@ row-requires-8 : tie.Need-row-requires-8
 row-requires-8 c κs = search needs
 
 returns-8 : tie.Need-returns-8
-returns-8 c = c .row8 .ensures ∙ by-range row-8 _ (c .before .before .is-within8 .ensures) (c .before .if8 .taken)
+unfolding table
+returns-8 c = c .row8 .ensures ∙ by-row 7 _ (c .before .before .is-within8 .ensures) (c .before .if8 .taken)
 
 is-within-requires-9 : tie.Need-is-within-requires-9
 is-within-requires-9 c κs = search needs
@@ -86,10 +94,11 @@ row-requires-9 : tie.Need-row-requires-9
 row-requires-9 c κs = search needs
 
 returns-9 : tie.Need-returns-9
-returns-9 c = c .row9 .ensures ∙ by-range row-9 _ (c .before .before .is-within9 .ensures) (c .before .if9 .taken)
+unfolding table
+returns-9 c = c .row9 .ensures ∙ by-row 8 _ (c .before .before .is-within9 .ensures) (c .before .if9 .taken)
 
 returns-10 : tie.Need-returns-10
-unfolding lead
+unfolding lead chosen table
 returns-10 c = rw (sym (c .before .before .before .before .before .before .before .before .before .before .before .before .before .before .before .before .before .is-within .ensures) ∙ c .before .before .before .before .before .before .before .before .before .before .before .before .before .before .before .before .if1 .left, sym (c .before .before .before .before .before .before .before .before .before .before .before .before .before .before .before .is-within2 .ensures) ∙ c .before .before .before .before .before .before .before .before .before .before .before .before .before .before .if2 .left, sym (c .before .before .before .before .before .before .before .before .before .before .before .before .before .is-within3 .ensures) ∙ c .before .before .before .before .before .before .before .before .before .before .before .before .if3 .left, sym (c .before .before .before .before .before .before .before .before .before .before .before .is-within4 .ensures) ∙ c .before .before .before .before .before .before .before .before .before .before .if4 .left, sym (c .before .before .before .before .before .before .before .before .before .is-within5 .ensures) ∙ c .before .before .before .before .before .before .before .before .if5 .left, sym (c .before .before .before .before .before .before .before .is-within6 .ensures) ∙ c .before .before .before .before .before .before .if6 .left, sym (c .before .before .before .before .before .is-within7 .ensures) ∙ c .before .before .before .before .if7 .left, sym (c .before .before .before .is-within8 .ensures) ∙ c .before .before .if8 .left, sym (c .before .is-within9 .ensures) ∙ c .if9 .left)
 
 pub row-of-spec : {M : Type 1} → statement M

@@ -1,8 +1,8 @@
--- `text::one_byte` meets its contract. Assumes nothing.
+-- `utf8::one_byte` meets its contract. Assumes nothing.
 use mathlib.Core.Path.{sym, _∙_}
 use borrow.Author.Needs.{needs}
-use Rattle.text.proofs.one_byte.Statement.{statement}
-use Rattle.text.proofs.one_byte.Tie as tie
+use Rattle.utf8.proofs.one_byte.Statement.{statement}
+use Rattle.utf8.proofs.one_byte.Tie as tie
 
 is-xml-requires : tie.Need-is-xml-requires
 is-xml-requires c κs = search needs

@@ -1,10 +1,10 @@
--- `text::scalar_at` meets its contract. Assumes nothing.
-use Rattle.text.proofs.Chars.{scalar-one, scalar-two, scalar-three, scalar-four}
+-- `utf8::scalar_at` meets its contract. Assumes nothing.
+use Rattle.utf8.proofs.Chars.{scalar-one, scalar-two, scalar-three, scalar-four}
 use lib.Bits.{mask-lt}
 use native.Mathlib.Omega.{arith}
 use borrow.Author.Needs.{needs}
-use Rattle.text.proofs.scalar_at.Statement.{statement}
-use Rattle.text.proofs.scalar_at.Tie as tie
+use Rattle.utf8.proofs.scalar_at.Statement.{statement}
+use Rattle.utf8.proofs.scalar_at.Tie as tie
 
 shared-slice-read-wide : tie.Need-shared-slice-read-wide
 shared-slice-read-wide c = search needs

@@ -1,12 +1,12 @@
--- `text::follows` meets its contract. Assumes nothing.
+-- `utf8::follows` meets its contract. Assumes nothing.
 use Prim.Native.Nat.{_≤_}
 use mathlib.Core.Path.{_≡_, _∙_, sym}
 use borrow.Author.Needs.{needs}
 use lib.ListN.{length, drop}
-use Rattle.label.specs.Text.{trail}
-use Rattle.text.proofs.Chars.{trail-done, trail-short, trail-low, trail-high, trail-next}
-use Rattle.text.proofs.follows.Statement.{statement}
-use Rattle.text.proofs.follows.Tie as tie
+use Rattle.utf8.specs.Rows.{trail}
+use Rattle.utf8.proofs.Rows.{trail-done, trail-short, trail-low, trail-high, trail-next}
+use Rattle.utf8.proofs.follows.Statement.{statement}
+use Rattle.utf8.proofs.follows.Tie as tie
 
 abbrev Inv-loop : tie.InvT-loop
 Inv-loop s at n lo hi l₀ h₀ i₀ k₀ l h i k = (i ≤ length s) × (trail k l h (drop i s) ≡ trail n lo hi (drop at s))

@@ -1,9 +1,9 @@
--- `text::is_xml` meets its contract. Assumes nothing.
-use Rattle.text.proofs.Chars.{xml-low, xml-mid, xml-gap, xml-plane, xml-non, xml-high}
+-- `utf8::is_xml` meets its contract. Assumes nothing.
+use Rattle.utf8.proofs.Chars.{xml-low, xml-mid, xml-gap, xml-plane, xml-non, xml-high}
 use mathlib.Core.Path.{sym}
 use borrow.Author.Needs.{needs}
-use Rattle.text.proofs.is_xml.Statement.{statement}
-use Rattle.text.proofs.is_xml.Tie as tie
+use Rattle.utf8.proofs.is_xml.Statement.{statement}
+use Rattle.utf8.proofs.is_xml.Tie as tie
 
 either-requires : tie.Need-either-requires
 either-requires c κs = search needs

@@ -1,11 +1,12 @@
--- `text::char_at` meets its contract. Assumes nothing.
-use Rattle.text.proofs.Chars.{char-one, char-unfit, char-cut, char-good, char-outside, trail-fits}
+-- `utf8::char_at` meets its contract. Assumes nothing.
+use Rattle.utf8.proofs.Rows.{trail-fits}
+use Rattle.utf8.proofs.Chars.{char-one, char-unfit, char-cut, char-good, char-outside}
 use native.Mathlib.Omega.{arith}
 use borrow.Author.Tests.{not-true, not-false}
 use mathlib.Core.Path.{sym, _∙_}
 use borrow.Author.Needs.{needs}
-use Rattle.text.proofs.char_at.Statement.{statement}
-use Rattle.text.proofs.char_at.Tie as tie
+use Rattle.utf8.proofs.char_at.Statement.{statement}
+use Rattle.utf8.proofs.char_at.Tie as tie
 
 shared-slice-read-if1 : tie.Need-shared-slice-read-if1
 shared-slice-read-if1 c = search needs

@@ -1,0 +1,11 @@
+-- `utf8::with_six` meets its contract. Assumes nothing.
+use Rattle.utf8.proofs.Chars.{shifted-or}
+use lib.Dec.{lit≤}
+use Rattle.utf8.proofs.with_six.Statement.{statement}
+use Rattle.utf8.proofs.with_six.Tie as tie
+
+returns : tie.Need-returns
+returns c = shifted-or 15 6 32 (c .args .c) (c .args .b) (c .pre) (lit≤ tt)
+
+pub with-six-spec : {M : Type 1} → statement M
+with-six-spec = tie.close (tie.spec returns)

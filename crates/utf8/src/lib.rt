@@ -1,0 +1,220 @@
+// The character at a place of UTF-8: the rows of Unicode's Table 3-7, the bits of Table 3-6, XML 1.0's Char.
+ghost use mathlib.Core.Path.{_≡_};
+ghost use mathlib.Core.Bool.{true, cond};
+ghost use Prim.Native.Nat.{_+_, _*_, _%_, _≤_, _<_};
+ghost use lib.ListN.{length, getD, drop};
+ghost use Rattle.label.specs.Text.{within, scalar, xmlChar};
+ghost use Rattle.utf8.specs.Rows.{lead, trail};
+ghost use Rattle.utf8.specs.Chars.{charAt};
+
+// ── bytes ──
+
+// A byte, or 0 past the end.
+pub fn byte_or_zero(s: &[u8], i: usize) -> u8
+    ensures { λ r. ⌜ r ≡ getD (now (s .entry)) i 0 ⌝ }
+{
+    if i < s.len() { s[i] } else { 0 }
+}
+
+// ── Table 3-7 ──
+
+// lo <= b <= hi
+pub fn is_within(lo: u8, hi: u8, b: u8) -> bool
+    ensures { λ r. ⌜ r ≡ within lo hi b ⌝ }
+{
+    words::both(lo <= b, b <= hi)
+}
+
+// What a row says of the bytes behind a first byte in its range: how many there are, and the range of the second; `fits`: there is such a row.
+pub struct Behind {
+    pub fits: bool,
+    pub more: usize,
+    pub lo: u8,
+    pub hi: u8,
+}
+
+fn row(more: usize, lo: u8, hi: u8) -> Behind
+    ensures { λ r. ⌜ r ≡ record { fits = true; more = more; lo = lo; hi = hi } ⌝ }
+{
+    Behind {
+        fits: true,
+        more,
+        lo,
+        hi,
+    }
+}
+
+// The row of Table 3-7 that a first byte chooses: the nine rows, in the table's order. A third and a fourth byte are from 80 to BF in every row.
+fn row_of(b: u8) -> Behind
+    ensures { λ r. ⌜ r ≡ lead b ⌝ }
+{
+    // U+0000..U+007F: 00..7F
+    if is_within(0x00, 0x7f, b) {
+        return row(0, 0, 0);
+    }
+    // U+0080..U+07FF: C2..DF, 80..BF
+    if is_within(0xc2, 0xdf, b) {
+        return row(1, 0x80, 0xbf);
+    }
+    // U+0800..U+0FFF: E0, A0..BF, 80..BF
+    if is_within(0xe0, 0xe0, b) {
+        return row(2, 0xa0, 0xbf);
+    }
+    // U+1000..U+CFFF: E1..EC, 80..BF, 80..BF
+    if is_within(0xe1, 0xec, b) {
+        return row(2, 0x80, 0xbf);
+    }
+    // U+D000..U+D7FF: ED, 80..9F, 80..BF
+    if is_within(0xed, 0xed, b) {
+        return row(2, 0x80, 0x9f);
+    }
+    // U+E000..U+FFFF: EE..EF, 80..BF, 80..BF
+    if is_within(0xee, 0xef, b) {
+        return row(2, 0x80, 0xbf);
+    }
+    // U+10000..U+3FFFF: F0, 90..BF, 80..BF, 80..BF
+    if is_within(0xf0, 0xf0, b) {
+        return row(3, 0x90, 0xbf);
+    }
+    // U+40000..U+FFFFF: F1..F3, 80..BF, 80..BF, 80..BF
+    if is_within(0xf1, 0xf3, b) {
+        return row(3, 0x80, 0xbf);
+    }
+    // U+100000..U+10FFFF: F4, 80..8F, 80..BF, 80..BF
+    if is_within(0xf4, 0xf4, b) {
+        return row(3, 0x80, 0x8f);
+    }
+    Behind {
+        fits: false,
+        more: 0,
+        lo: 0,
+        hi: 0,
+    }
+}
+
+// The n bytes from `at` on are there, the first from lo to hi, the others from 80 to BF.
+fn follows(s: &[u8], at: usize, n: usize, lo: u8, hi: u8) -> bool
+    requires { ⌜ at ≤ length (now s) ⌝ }
+    ensures { λ r. ⌜ r ≡ trail n lo hi (drop at (now (s .entry))) ⌝ }
+{
+    let mut l = lo;
+    let mut h = hi;
+    let mut i = at;
+    let mut k = n;
+    while k != 0 {
+        if s.len() <= i {
+            return false;
+        }
+        if s[i] < l {
+            return false;
+        }
+        if h < s[i] {
+            return false;
+        }
+        l = 0x80;
+        h = 0xbf;
+        i += 1;
+        k -= 1;
+    }
+    true
+}
+
+// ── characters ──
+
+// A character and the place behind it; or no well-formed one; or one that may not stand.
+pub enum Char {
+    Good { code: u32, next: usize },
+    Ill,
+    Outside,
+}
+
+// XML 1.0's Char.
+pub fn is_xml(c: u32) -> bool
+    ensures { λ r. ⌜ r ≡ xmlChar c ⌝ }
+{
+    if c < 0x20 {
+        return words::either(words::either(c == 9, c == 10), c == 13);
+    }
+    if c <= 0xd7ff {
+        return true;
+    }
+    if c < 0xe000 {
+        return false;
+    }
+    if c <= 0xfffd {
+        return true;
+    }
+    if c < 0x10000 {
+        return false;
+    }
+    c <= 0x10ffff
+}
+
+// Six more bits, those of a byte after the first.
+fn with_six(c: u32, b: u8) -> u32
+    requires { ⌜ c < 32768 ⌝ }
+    ensures { λ r. ⌜ r ≡ c * 64 + b % 64 ⌝ }
+{
+    (c << 6) | (b as u32 & 0x3f)
+}
+
+// The number of the character at `at`, which has `more` bytes after its first, from the bytes' bits.
+fn scalar_at(s: &[u8], at: usize, more: usize) -> u32
+    requires { ⌜ at + more < length (now s) ⌝ }
+    ensures { λ r. ⌜ r ≡ scalar more (getD (now (s .entry)) at 0) (drop (at + 1) (now (s .entry))) ⌝ }
+{
+    let b = words::wide(s[at]);
+    if more == 0 {
+        return b;
+    }
+    if more == 1 {
+        return with_six(b & 0x1f, s[at + 1]);
+    }
+    if more == 2 {
+        let c = with_six(b & 0x0f, s[at + 1]);
+        return with_six(c, s[at + 2]);
+    }
+    let c = with_six(b & 0x07, s[at + 1]);
+    let d = with_six(c, s[at + 2]);
+    with_six(d, s[at + 3])
+}
+
+// A character of one byte, in front of place `next`.
+fn one_byte(b: u8, next: usize) -> Char
+    ensures { λ r. ⌜ r ≡ cond (xmlChar b) (Char.Good b next) Char.Outside ⌝ }
+{
+    let code = b as u32;
+    if is_xml(code) {
+        Char::Good { code, next }
+    } else {
+        Char::Outside
+    }
+}
+
+// The character at `at`, where it is well-formed and may stand, and the place behind it.
+pub fn char_at(s: &[u8], at: usize) -> Char
+    requires { ⌜ at < length (now s) ⌝ }
+    ensures { λ r. ⌜ r ≡ charAt (now (s .entry)) at ⌝ }
+{
+    if s[at] < 0x80 {
+        return one_byte(s[at], at + 1);
+    }
+    let row = row_of(s[at]);
+    let fits = row.fits;
+    let more = row.more;
+    if !fits {
+        return Char::Ill;
+    }
+    if !follows(s, at + 1, more, row.lo, row.hi) {
+        return Char::Ill;
+    }
+    let code = scalar_at(s, at, more);
+    if is_xml(code) {
+        Char::Good {
+            code,
+            next: at + 1 + more,
+        }
+    } else {
+        Char::Outside
+    }
+}
