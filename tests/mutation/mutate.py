@@ -10,7 +10,7 @@ which is looked at by hand: such a change must not change what the code does.
 import argparse, os, random, re, shutil, subprocess, sys, tempfile
 
 ROOT = os.path.dirname(os.path.dirname(os.path.dirname(os.path.abspath(__file__))))
-CRATES = ['words', 'text', 'text_bytes', 'number', 'entry', 'entry_bytes', 'attribute', 'survey', 'reader', 'faults', 'sound', 'writer', 'picks', 'records', 'sheet', 'run_bytes', 'glyph_label']
+CRATES = ['words', 'utf8', 'text', 'text_bytes', 'number', 'entry', 'entry_bytes', 'attribute', 'survey', 'reader', 'faults', 'sound', 'writer', 'picks', 'records', 'sheet', 'run_bytes', 'glyph_label']
 SWAPS = [(' < ', ' <= '), (' <= ', ' < '), (' == ', ' != '), (' != ', ' == '), (' + ', ' - '), (' - ', ' + '), (' += ', ' -= '), (' -= ', ' += '),
          (' * ', ' + '), (' / ', ' % '), (' % ', ' / '), (' & ', ' | '), (' | ', ' & '), (' << ', ' >> '), (' >> ', ' << '), ('true', 'false'), ('false', 'true'),
          ('if !', 'if ')]
