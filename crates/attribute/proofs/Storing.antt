@@ -11,7 +11,7 @@ use borrow.Author.Tests.{ne-eqb}
 use lib.Dec.{eqb}
 use lib.ListN.{length, getD, drop}
 use lib.Seq.{getD-drop}
-use Rattle.label.specs.Outcome.{ok, no}
+use Rattle.label.specs.Outcome.{ok}
 use Rattle.label.specs.Text.{xmlChar}
 use Rattle.label.specs.Write.{utf8}
 use Rattle.label.specs.Attribute.{referred, body, isClosed, isReference, isGood, spaced, gives, further, resolveFrom, resolve}

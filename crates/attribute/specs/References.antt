@@ -1,9 +1,9 @@
 -- A reference at a place, as the code meets it: its digits from the left, or a name.
 -- Assumes nothing.
 use Prim.Native.Nat.{ℕ, _+_, min}
-use mathlib.Core.Bool.{Bool, true, false, cond, _&&_}
+use mathlib.Core.Bool.{cond, _&&_}
 use mathlib.Core.List.{List, [], _∷_}
-use lib.Dec.{eqb, ltb}
+use lib.Dec.{ltb}
 use lib.ListN.{length, drop}
 use Rattle.label.specs.Text.{xmlChar}
 use Rattle.label.specs.Attribute.{digitValue, valueBehind, body, isClosed}

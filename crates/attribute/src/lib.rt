@@ -1,7 +1,7 @@
 // Raw XML attribute values: references resolved and white space replaced, as XML 1.0 says.
 ghost use mathlib.Core.Path.{_≡_};
 ghost use Prim.Native.Nat.{_+_, _*_, _≤_, _<_, min};
-ghost use lib.ListN.{length, drop};
+ghost use lib.ListN.{length};
 ghost use Rattle.label.specs.Attribute.{predefined, digitValue, numbered, referred, spaced};
 ghost use Rattle.label.specs.Calls.{fillingOutcome, resolveInto, filledCount, filledAfter};
 ghost use Rattle.attribute.specs.References.{beyond, numberAt, referenceBy};

@@ -11,7 +11,7 @@ use lib.ListN.{length, drop}
 use Rattle.label.specs.Limits.{maxTextBytes, maxIndicesBytes, maxUnits, maxGlyphs, maxIndex}
 use Rattle.label.specs.Outcome.{Outcome, ok, no, need, _>>=_, _>>_}
 use Rattle.label.specs.Bytes.{begins, empty, value}
-use Rattle.label.specs.Text.{following, starts, scalar, xmlChar, unitsOf, decode, braced, marked, unmarked, textUnits}
+use Rattle.label.specs.Text.{starts, following, codePoint, xmlChar, unitsOf, decode, braced, marked, unmarked, textUnits}
 use Rattle.label.specs.Entry.{part, indexDigits, wellFormed, fieldFits, Entry, entryOf, entry, entries}
 use Rattle.label.specs.Run.{Run, Parts, cluster, before, whole, tail, State, start, opens, takes, allowed, next, placed, step, walk, runFrom, read}
 use Rattle.label.specs.Sound.{sound, runOf, clustersOf, glyphsOf}
@@ -71,12 +71,12 @@ decode-by-checks (b ∷ bs) (suc skip) at = decode-by-checks bs skip (suc at)
 decode-by-checks (b ∷ bs) zero at =
     rw (
       decode-by-checks bs (following b bs) (suc at),
-      seq-bind (verdict (textChecks (following b bs) (suc at) bs)) (bitUnits (following b bs) bs) (λ us. ok (unitsOf (scalar (following b bs) b bs) ++ us)),
+      seq-bind (verdict (textChecks (following b bs) (suc at) bs)) (bitUnits (following b bs) bs) (λ us. ok (unitsOf (codePoint b bs) ++ us)),
     )
-    (sym (check-need (starts b bs) 2 at (check (not (xmlChar (scalar (following b bs) b bs))) 3 at ∷ textChecks (following b bs) (suc at) bs)
-    (ok (unitsOf (scalar (following b bs) b bs) ++ bitUnits (following b bs) bs))
-    ∙ rw (check-need (xmlChar (scalar (following b bs) b bs)) 3 at (textChecks (following b bs) (suc at) bs)
-    (ok (unitsOf (scalar (following b bs) b bs) ++ bitUnits (following b bs) bs)))))
+    (sym (check-need (starts b bs) 2 at (check (not (xmlChar (codePoint b bs))) 3 at ∷ textChecks (following b bs) (suc at) bs)
+    (ok (unitsOf (codePoint b bs) ++ bitUnits (following b bs) bs))
+    ∙ rw (check-need (xmlChar (codePoint b bs)) 3 at (textChecks (following b bs) (suc at) bs)
+    (ok (unitsOf (codePoint b bs) ++ bitUnits (following b bs) bs)))))
 
 -- ── the entries ──
 

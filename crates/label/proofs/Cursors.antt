@@ -1,7 +1,7 @@
 -- The definitions at a cursor: what each comes to at `drop i s`, for a loop over a slice s with a place i. The loop's invariant is an equation
 -- "the definition at the start is this, put before the definition at the cursor".
 -- Assumes nothing.
-use Prim.Native.Nat.{ℕ, zero, suc, _+_, _-_, _≤_, _<_}
+use Prim.Native.Nat.{ℕ, zero, suc, _+_, _-_, _≤_}
 use native.Mathlib.Omega.{arith}
 use native.Mathlib.Nat.{add-zero, add-suc, suc-add}
 use mathlib.Core.Path.{_≡_, refl, _∙_, ap, subst}
@@ -9,11 +9,11 @@ use mathlib.Core.Bool.{Bool, true, false, not}
 use mathlib.Core.List.{List, [], _∷_, _++_, append-assoc, append-nil}
 use borrow.Author.Tests.{eq-eqb, not-true}
 use lib.Dec.{eqb}
-use lib.ListN.{length, getD, take, drop, length-drop, drop-of-length-le}
-use lib.Seq.{take-all, drop-cons, drop-drop}
+use lib.ListN.{length, take, drop, length-drop, drop-of-length-le}
+use lib.Seq.{take-all}
 use Rattle.label.specs.Outcome.{Outcome, ok, no, _>>=_}
 use Rattle.label.specs.Bytes.{split}
-use Rattle.label.specs.Text.{following, starts, scalar, xmlChar, unitsOf, decode}
+use Rattle.label.specs.Text.{decode}
 use Rattle.label.specs.Entry.{Entry}
 use Rattle.label.specs.Run.{Parts, State, opens, takes, cluster, before, next, step, walk}
 use Rattle.label.specs.declared.Glyph.{Glyph}
@@ -51,25 +51,6 @@ decode-skip zero at [] = refl
 decode-skip zero at (b ∷ s) = rw (add-zero at)
 decode-skip (suc k) at [] = refl
 decode-skip (suc k) at (b ∷ s) = decode-skip k (suc at) s ∙ rw (add-suc at k, suc-add at k)
-
--- a well-formed XML character at the cursor
-pub decode-good : (s : List ℕ) (i : ℕ) → i < length s → starts (getD s i 0) (drop (suc i) s) ≡ true
-    → xmlChar (scalar (following (getD s i 0) (drop (suc i) s)) (getD s i 0) (drop (suc i) s)) ≡ true
-    → decode 0 i (drop i s) ≡ onto (unitsOf (scalar (following (getD s i 0) (drop (suc i) s)) (getD s i 0) (drop (suc i) s)))
-    (decode 0 (suc i + following (getD s i 0) (drop (suc i) s)) (drop (suc i + following (getD s i 0) (drop (suc i) s)) s))
-unfolding decode
-decode-good s i h t x =
-    let n = following (getD s i 0) (drop (suc i) s) in
-    rw (drop-cons s i 0 h, t, x, decode-skip n (suc i) (drop (suc i) s), drop-drop n (suc i) s)
-
-pub decode-ill : (s : List ℕ) (i : ℕ) → i < length s → starts (getD s i 0) (drop (suc i) s) ≡ false → decode 0 i (drop i s) ≡ no 2 i
-unfolding decode
-decode-ill s i h t = rw (drop-cons s i 0 h, t)
-
-pub decode-outside : (s : List ℕ) (i : ℕ) → i < length s → starts (getD s i 0) (drop (suc i) s) ≡ true
-    → xmlChar (scalar (following (getD s i 0) (drop (suc i) s)) (getD s i 0) (drop (suc i) s)) ≡ false → decode 0 i (drop i s) ≡ no 3 i
-unfolding decode
-decode-outside s i h t x = rw (drop-cons s i 0 h, t, x)
 
 pub decode-end : (s : List ℕ) (i : ℕ) → length s ≤ i → decode 0 i (drop i s) ≡ ok []
 unfolding decode

@@ -9,7 +9,7 @@ use mathlib.Core.List.{List, [], _∷_, _++_}
 use borrow.Author.Tests.{leb-true}
 use lib.ListN.{length, drop}
 use Rattle.label.specs.Outcome.{Outcome, ok, no, need, _>>_}
-use Rattle.label.specs.Text.{Row, table, fitting, starts, following, scalar, xmlChar, unitsOf, decode}
+use Rattle.label.specs.Text.{Row, table, fitting, starts, following, codePoint, xmlChar, unitsOf, decode}
 use Rattle.label.specs.Write.{utf8}
 use Rattle.label.specs.Encoding.{isScalar, Shortest, Starts, StartsScalar, FitsAt, OfItsCodes, Each, Encoding}
 use Rattle.label.proofs.Basics.{no-ok, cases}
@@ -68,9 +68,9 @@ decode-from [] (suc skip) at = tt
 decode-from (b ∷ bs) (suc skip) at = from-before at (decode skip (suc at) bs) (decode-from bs skip (suc at))
 decode-from (b ∷ bs) zero at =
     cases (starts b bs)
-    (λ t. cases (xmlChar (scalar (following b bs) b bs))
+    (λ t. cases (xmlChar (codePoint b bs))
     (λ x. let o = decode (following b bs) (suc at) bs in
-    rw (t, x) (from-onto at (unitsOf (scalar (following b bs) b bs)) o (from-before at o (decode-from bs (following b bs) (suc at)))))
+    rw (t, x) (from-onto at (unitsOf (codePoint b bs)) o (from-before at o (decode-from bs (following b bs) (suc at)))))
     (λ x. rw (t, x) (omega arith)))
     (λ t. rw t (omega arith))
 
@@ -78,12 +78,12 @@ decode-from (b ∷ bs) zero at =
 not-two : (at b : ℕ) (bs : List ℕ) → starts b bs ≡ true → decode 0 at (b ∷ bs) ≡ no 2 at → ⊥
 unfolding decode
 not-two at b bs t h =
-    cases (xmlChar (scalar (following b bs) b bs))
+    cases (xmlChar (codePoint b bs))
     (λ x. behind (decode (following b bs) (suc at) bs) (decode-from bs (following b bs) (suc at)) (rw (t, x) at h))
     (λ x. let e : _≡_ {A = Outcome (List ℕ)} (no 3 at) (no 2 at) = rw (t, x) at h in
     let z : _≡_ {A = ℕ} 3 2 = cc in absurd (omega (arith, z)))
   where
-    behind : (o : Outcome (List ℕ)) → From (suc at) o → onto (unitsOf (scalar (following b bs) b bs)) o ≡ no 2 at → ⊥
+    behind : (o : Outcome (List ℕ)) → From (suc at) o → onto (unitsOf (codePoint b bs)) o ≡ no 2 at → ⊥
     behind (ok us) f e = no-ok 2 at _ (sym e)
     behind (no n p) f e = let z : p ≡ at = cc in omega (arith, f, z)
 

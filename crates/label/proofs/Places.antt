@@ -11,7 +11,7 @@ use lib.ListN.{length, length-drop}
 use Rattle.label.specs.Limits.{maxTextBytes, maxIndicesBytes, maxUnits, maxGlyphs, maxIndex}
 use Rattle.label.specs.Outcome.{Outcome, ok, no, need, _>>=_, _>>_}
 use Rattle.label.specs.Bytes.{empty, value}
-use Rattle.label.specs.Text.{following, starts, scalar, xmlChar, decode, braced, marked, unmarked, textUnits}
+use Rattle.label.specs.Text.{starts, following, codePoint, xmlChar, decode, braced, marked, unmarked, textUnits}
 use Rattle.label.specs.Entry.{part, indexDigits, wellFormed, fieldFits, Entry, entry, entries}
 use Rattle.label.specs.Run.{whole, State, start, opens, takes, allowed, next, placed, step, walk, runFrom, read}
 use Rattle.label.proofs.Basics.{and-l, and-r}
@@ -43,7 +43,7 @@ module _ (k : ℕ) where
   decode-placed (b ∷ bs) (suc skip) at h = decode-placed bs skip (suc at) (omega arith)
   decode-placed (b ∷ bs) zero at h =
       need-placed 15 k (starts b bs) 2 at _ (omega arith, omega arith) (omega arith)
-      (λ _. need-placed 15 k (xmlChar (scalar (following b bs) b bs)) 3 at _ (omega arith, omega arith) (omega arith)
+      (λ _. need-placed 15 k (xmlChar (codePoint b bs)) 3 at _ (omega arith, omega arith) (omega arith)
       (λ _. bind-placed 15 k (decode (following b bs) (suc at) bs) _ (decode-placed bs (following b bs) (suc at) (omega arith)) (λ _ _. fine)))
 
   text-placed : (text : List ℕ) → length text ≤ k → Placed 15 k (textUnits text)

@@ -12,7 +12,7 @@ use lib.IntN.{ℤ}
 use lib.ListN.{length}
 use Rattle.label.specs.Outcome.{Outcome, ok, no, need, _>>_}
 use Rattle.label.specs.Bytes.{ascii, Cut}
-use Rattle.label.specs.Run.{Run, read}
+use Rattle.label.specs.Run.{Run}
 use Rattle.label.specs.Sound.{flatClusters, flatGlyphs, Readable, runOf}
 use Rattle.label.specs.Write.{Label, write, normal}
 use Rattle.label.specs.Attribute.{resolve, escapeByte, escape}

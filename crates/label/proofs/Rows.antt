@@ -10,7 +10,7 @@ use mathlib.Core.List.{List, [], _∷_, _++_}
 use borrow.Author.Tests.{le-leb, lt-leb, leb-true, leb-false}
 use lib.Dec.{leb}
 use lib.ListN.{length, getD, drop}
-use Rattle.label.specs.Text.{within, Range, Row, row, _‥_, table, rowFits, fitting, starts, moreBytes, following, scalar, layout}
+use Rattle.label.specs.Text.{within, Range, Row, row, _‥_, table, rowFits, fitting, starts, moreBytes, following, scalar, codePoint, layout}
 use Rattle.label.specs.Write.{utf8}
 use Rattle.label.specs.Encoding.{isScalar, room, Shortest, FitsAt, Each}
 use Rattle.label.proofs.Basics.{and-l, and-r, and-i, clash, cases, or-cases, within-is, within-lo, within-hi, above-range}
@@ -429,7 +429,7 @@ utf8-size c =
 pub record ReadAt (c b : ℕ) (bs : List ℕ) : Type 0 where
   pub start : starts b bs ≡ true
   pub size : suc (following b bs) ≡ length (utf8 c)
-  pub number : scalar (following b bs) b bs ≡ c
+  pub number : codePoint b bs ≡ c
 
 pub read-at : (c b : ℕ) (bs rest : List ℕ) → isScalar c ≡ true → b ∷ bs ≡ utf8 c ++ rest → ReadAt c b bs
 unfolding starts following moreBytes

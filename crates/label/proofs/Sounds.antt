@@ -11,7 +11,7 @@ use lib.IntN.{pos, negℤ}
 use lib.ListN.{length, drop}
 use Rattle.label.specs.Outcome.{ok}
 use Rattle.label.specs.Bytes.{empty, allDigits, digits, value, split, onFirst}
-use Rattle.label.specs.Text.{following, starts, scalar, xmlChar, isHigh, isLow, isPair, unitsOf, decode, braced, marked, unmarked, textUnits}
+use Rattle.label.specs.Text.{starts, following, codePoint, xmlChar, isHigh, isLow, isPair, unitsOf, decode, braced, marked, unmarked, textUnits}
 use Rattle.label.specs.Entry.{minus, unsigned, thousandths, mantissaDigits, exponentDigits, numberFits, part, hasMap, atParenthesis, atColon, isIndexPart, indexDigits, mapUnits, mapGlyphs, isAdvance, isOffset, wellFormed, fieldFits, indexOf, advanceOf, offsetOf, Entry, entryOf, entry, entries}
 use Rattle.label.specs.Run.{Run, Parts, named, fontGlyph, cluster, before, whole, tail, State, start, opens, takes, allowed, next, walk, read, runFrom}
 use Rattle.label.specs.Limits.{maxTextBytes, maxIndicesBytes, maxUnits, maxGlyphs}
@@ -233,7 +233,7 @@ unfolding decode
 decode-proper [] skip at us h = rw (← ok-path [] us h) (unfold properUnits in refl)
 decode-proper (b ∷ bs) (suc skip) at us h = decode-proper bs skip (suc at) us h
 decode-proper (b ∷ bs) zero at us h =
-    let c = scalar (following b bs) b bs in
+    let c = codePoint b bs in
     let (t2, b2) = need-ok (starts b bs) 2 at _ us h in
     let (t3, b3) = need-ok (xmlChar c) 3 at _ us b2 in
     let (vs, d, e) = bind-ok (decode (following b bs) (suc at) bs) _ us b3 in

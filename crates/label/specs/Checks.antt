@@ -11,7 +11,7 @@ use lib.ListN.{length, drop}
 use Rattle.label.specs.Limits.{maxTextBytes, maxIndicesBytes, maxUnits, maxGlyphs, maxIndex}
 use Rattle.label.specs.Outcome.{Outcome, ok, no}
 use Rattle.label.specs.Bytes.{begins, empty, value}
-use Rattle.label.specs.Text.{following, starts, scalar, xmlChar, unitsOf, braced, marked, unmarked}
+use Rattle.label.specs.Text.{starts, following, codePoint, xmlChar, unitsOf, braced, marked, unmarked}
 use Rattle.label.specs.Entry.{part, indexDigits, wellFormed, fieldFits, entryOf, entries}
 use Rattle.label.specs.Run.{Run, Parts, cluster, before, whole, tail, State, start, opens, takes, allowed, next}
 use Rattle.label.specs.Sound.{sound, runOf, glyphsOf}
@@ -60,13 +60,13 @@ unfoldable pub textChecks : ℕ → ℕ → List ℕ → List Check
 textChecks skip at [] = []
 textChecks (suc skip) at (b ∷ bs) = textChecks skip (suc at) bs
 textChecks zero at (b ∷ bs) =
-    check (not (starts b bs)) 2 at ∷ check (not (xmlChar (scalar (following b bs) b bs))) 3 at ∷ textChecks (following b bs) (suc at) bs
+    check (not (starts b bs)) 2 at ∷ check (not (xmlChar (codePoint b bs))) 3 at ∷ textChecks (following b bs) (suc at) bs
 
 -- the units that the bits give
 unfoldable pub bitUnits : ℕ → List ℕ → List ℕ
 bitUnits skip [] = []
 bitUnits (suc skip) (b ∷ bs) = bitUnits skip bs
-bitUnits zero (b ∷ bs) = unitsOf (scalar (following b bs) b bs) ++ bitUnits (following b bs) bs
+bitUnits zero (b ∷ bs) = unitsOf (codePoint b bs) ++ bitUnits (following b bs) bs
 
 -- ── the entries ──
 

@@ -78,6 +78,10 @@ scalar (suc zero) b bs = b % 32 * 64 + getD bs 0 0 % 64
 scalar (suc (suc zero)) b bs = b % 16 * 4096 + getD bs 0 0 % 64 * 64 + getD bs 1 0 % 64
 scalar (suc (suc (suc n))) b bs = b % 8 * 262144 + getD bs 0 0 % 64 * 4096 + getD bs 1 0 % 64 * 64 + getD bs 2 0 % 64
 
+-- the number of the character that starts at byte b, with bs behind it
+abbrev pub codePoint : ℕ → List ℕ → ℕ
+codePoint b bs = scalar (following b bs) b bs
+
 -- Unicode's Table 3-6: the bits of a number that has room in a form of n bytes; there is no form of no bytes and none of more than four
 abbrev pub layout : ℕ → ℕ → List ℕ
 layout zero c = []
@@ -118,9 +122,9 @@ decode skip at [] = ok []
 decode (suc skip) at (b ∷ bs) = decode skip (suc at) bs
 decode zero at (b ∷ bs) = do
   need (starts b bs) 2 at
-  need (xmlChar (scalar (following b bs) b bs)) 3 at
+  need (xmlChar (codePoint b bs)) 3 at
   us ← decode (following b bs) (suc at) bs
-  ok (unitsOf (scalar (following b bs) b bs) ++ us)
+  ok (unitsOf (codePoint b bs) ++ us)
 
 -- the text begins with `{`
 abbrev pub braced : List ℕ → Bool

@@ -7,7 +7,7 @@ use mathlib.Core.List.{List}
 use lib.Dec.{leb, eqb}
 use lib.IntN.{ℤ}
 use Rattle.label.specs.Limits.{maxGlyphs}
-use Rattle.label.specs.Outcome.{Outcome, ok, no}
+use Rattle.label.specs.Outcome.{Outcome, ok}
 use Rattle.label.specs.Run.{Run, read}
 use Rattle.label.specs.Write.{Label}
 use Rattle.label.specs.Calls.{writingOutcome, counted, lengths, filled, textAfter, indicesAfter}

@@ -10,10 +10,10 @@ use lib.ListN.{length, drop, length-append}
 use Rattle.label.specs.Outcome.{Outcome, ok}
 use Rattle.label.specs.Text.{within, unitsOf, decode}
 use Rattle.label.proofs.Basics.{within-hi}
-use Rattle.label.proofs.Cursors.{onto, onto-nil, onto-onto, decode-good, decode-ill, decode-outside, decode-end}
+use Rattle.label.proofs.Cursors.{onto, onto-nil, onto-onto, decode-end}
 use Rattle.utf8.specs.Chars.{charAt}
 use Rattle.utf8.specs.declared.Char.the-variants.{Good, Ill, Outside}
-use Rattle.utf8.proofs.Chars.{GoodAt, char-is-good, char-is-ill, char-is-outside}
+use Rattle.utf8.proofs.Chars.{char-reads}
 use Rattle.text.specs.Texts.{counted}
 use Rattle.text.specs.declared.Counted.{Counted}
 use Rattle.text.specs.declared.Counted.the-variants.{Units, Refused}
@@ -30,12 +30,9 @@ reached-start s = record { us = []; so-far = onto-nil (decode 0 0 s); count = re
 -- past a character of k units
 unfoldable pub reached-next : (s : List ℕ) (i n k c j : ℕ) → i < length s → Reached s i n → charAt s i ≡ Good c j → k ≡ length (unitsOf c) → Reached s j (n + k)
 reached-next s i n k c j l r h e =
-    let g : GoodAt s i c j = char-is-good s i c j h in
-    let d : decode 0 i (drop i s) ≡ onto (unitsOf c) (decode 0 j (drop j s)) =
-    rw (g .code, g .next) (decode-good s i l (g .start) (rw (g .code) at (g .xml))) in
     record {
       us = r .us ++ unitsOf c;
-      so-far = sym (onto-onto (r .us) (unitsOf c) (decode 0 j (drop j s))) ∙ rw (← d) (r .so-far);
+      so-far = sym (onto-onto (r .us) (unitsOf c) (decode 0 j (drop j s))) ∙ rw (← char-reads s i l h) (r .so-far);
       count = rw (length-append, r .count, e);
     }
 
@@ -52,12 +49,10 @@ pub plain-one : (b : ℕ) → within 32 127 b ≡ true → 1 ≡ length (unitsOf
 plain-one b h = let k : b ≤ 127 = within-hi 32 127 b h in sym (ap length (one-is b (omega arith)))
 
 pub reached-ill : (s : List ℕ) (i n : ℕ) → i < length s → Reached s i n → charAt s i ≡ Ill → Refused 2 i ≡ counted (decode 0 0 s)
-reached-ill s i n l r h = ap counted (sym (ap (λ (o : Outcome (List ℕ)). onto (r .us) o) (decode-ill s i l (char-is-ill s i h))) ∙ r .so-far)
+reached-ill s i n l r h = ap counted (sym (ap (λ (o : Outcome (List ℕ)). onto (r .us) o) (char-reads s i l h)) ∙ r .so-far)
 
 pub reached-outside : (s : List ℕ) (i n : ℕ) → i < length s → Reached s i n → charAt s i ≡ Outside → Refused 3 i ≡ counted (decode 0 0 s)
-reached-outside s i n l r h =
-    let (a, b) = char-is-outside s i h in
-    ap counted (sym (ap (λ (o : Outcome (List ℕ)). onto (r .us) o) (decode-outside s i l a b)) ∙ r .so-far)
+reached-outside s i n l r h = ap counted (sym (ap (λ (o : Outcome (List ℕ)). onto (r .us) o) (char-reads s i l h)) ∙ r .so-far)
 
 pub reached-end : (s : List ℕ) (i n : ℕ) → length s ≤ i → Reached s i n → Units n ≡ counted (decode 0 0 s)
 reached-end s i n l r =

@@ -18,11 +18,7 @@ use Rattle.utf8.specs.Chars.{charAt}
 use Rattle.text.specs.Moves.{unitsFrom}
 use Rattle.utf8.specs.declared.Char.the-variants.{Good}
 use Rattle.words.proofs.Puts.{sets-append}
-use Rattle.utf8.proofs.Chars.{char-is-good}
 use Rattle.text.proofs.Moves.{Here, here-good}
-
-pub good-small : (s : List ℕ) (i c j : ℕ) → charAt s i ≡ Good c j → c ≤ 1114111
-good-small s i c j h = ⊎-elim (λ w. omega arith) (λ w. w .1) (xml-range c (char-is-good s i c j h .xml))
 
 -- at byte i, with n units stored in what `out` holds
 pub record Fill (t old out : List ℕ) (from i n : ℕ) : Type 0 where
@@ -37,10 +33,13 @@ fill-start t old from h = record { rest = unitsFrom t from; here = h; count = ze
 
 module _ {t old out : List ℕ} {from i n : ℕ} (f : Fill t old out from i n) where
   module _ {c j : ℕ} (l : i < length t) (g : charAt t i ≡ Good c j) where
-    pub fill-room : length (unitsFrom t from) ≤ length old → n + length (unitsOf c) ≤ length out
+    -- what storing the character asks for
+    pub fill-room : length (unitsFrom t from) ≤ length old → (c ≤ 1114111) × (n + length (unitsOf c) ≤ length out)
     fill-room h =
-        let y : Here t i c j (f .rest) = here-good t i c j (f .rest) (f .here) l g in
-        omega (arith, f .count, f .same, length-append (unitsOf c) (y .others), ap length (y .is))
+        let y : Here t i c j (f .rest) = here-good t i c j (f .rest) (f .here) l g in (
+          ⊎-elim (λ w. omega arith) (λ w. w .1) (xml-range c (y .xml)),
+          omega (arith, f .count, f .same, length-append (unitsOf c) (y .others), ap length (y .is)),
+        )
 
     pub fill-next : {r : ℕ} {new : List ℕ} → (r ≡ n + length (unitsOf c)) × (new ≡ sets out n (unitsOf c)) → Fill t old new from j r
     fill-next {r} {new} (p, q) =

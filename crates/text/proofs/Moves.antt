@@ -15,13 +15,12 @@ use Rattle.utf8.specs.Chars.{charAt}
 use Rattle.text.specs.Moves.{unitsFrom, Moves}
 use Rattle.utf8.specs.declared.Char.the-variants.{Good, Ill, Outside}
 use Rattle.text.specs.declared.Moved.the-variants.{To, Past, Half}
-use Rattle.label.proofs.Basics.{bind-ok, no-ok, cases}
+use Rattle.label.proofs.Basics.{bind-ok, no-ok, cases, within-is}
 use Rattle.label.proofs.Walks.{ok-path}
-use Rattle.label.proofs.Basics.{within-is}
 use Rattle.label.proofs.Texts.{proper-first}
 use Rattle.label.proofs.Sounds.{decode-proper}
-use Rattle.label.proofs.Cursors.{onto, decode-good, decode-ill, decode-outside, decode-end}
-use Rattle.utf8.proofs.Chars.{char-plain, GoodAt, char-is-good, char-is-ill, char-is-outside}
+use Rattle.label.proofs.Cursors.{decode-end}
+use Rattle.utf8.proofs.Chars.{char-plain, char-reads, char-stands}
 use Rattle.text.proofs.Counts.{plain-one, one-is, two-are}
 
 -- what is left: units are passed, and at byte b the units r are left, of which a are still to pass
@@ -54,11 +53,8 @@ pub record Here (s : List ℕ) (b c j : ℕ) (r : List ℕ) : Type 0 where
 
 pub here-good : (s : List ℕ) (b c j : ℕ) (r : List ℕ) → decode 0 b (drop b s) ≡ ok r → b < length s → charAt s b ≡ Good c j → Here s b c j r
 here-good s b c j r h l g =
-    let x : GoodAt s b c j = char-is-good s b c j g in
-    let d : decode 0 b (drop b s) ≡ onto (unitsOf c) (decode 0 j (drop j s)) =
-    rw (x .code, x .next) (decode-good s b l (x .start) (rw (x .code) at (x .xml))) in
-    let (q, p, e) = bind-ok (decode 0 j (drop j s)) _ r (sym d ∙ h) in
-    record { others = q; next = p; is = ok-path (unitsOf c ++ q) r e; xml = x .xml }
+    let (q, p, e) = bind-ok (decode 0 j (drop j s)) _ r (sym (char-reads s b l g) ∙ h) in
+    record { others = q; next = p; is = ok-path (unitsOf c ++ q) r e; xml = char-stands s b l g .0 }
 
 -- past a character of k units
 pub left-next : (s : List ℕ) (at count b a k c j : ℕ) → Left s at count b a → b < length s → charAt s b ≡ Good c j → k ≡ length (unitsOf c) → k ≤ a → Left s at count j (a - k)
@@ -106,12 +102,10 @@ left-plain s at h l w =
 
 -- in a text without a fault there is a character at each place that is reached
 pub no-ill : {A : Type 0} (s : List ℕ) (b : ℕ) (r : List ℕ) → decode 0 b (drop b s) ≡ ok r → b < length s → charAt s b ≡ Ill → A
-no-ill s b r h l g = no-ok 2 b r (sym (decode-ill s b l (char-is-ill s b g)) ∙ h)
+no-ill s b r h l g = no-ok 2 b r (sym (char-reads s b l g) ∙ h)
 
 pub no-outside : {A : Type 0} (s : List ℕ) (b : ℕ) (r : List ℕ) → decode 0 b (drop b s) ≡ ok r → b < length s → charAt s b ≡ Outside → A
-no-outside s b r h l g =
-    let (p, q) = char-is-outside s b g in
-    no-ok 3 b r (sym (decode-outside s b l p q) ∙ h)
+no-outside s b r h l g = no-ok 3 b r (sym (char-reads s b l g) ∙ h)
 
 pub left-no-ill : {A : Type 0} (s : List ℕ) (at count b a : ℕ) → Left s at count b a → b < length s → charAt s b ≡ Ill → A
 left-no-ill s at count b a x l g = no-ill s b (x .r) (x .here) l g

@@ -11,7 +11,7 @@ use lib.ListN.{length, getD, drop, length-drop}
 use Rattle.label.specs.Limits.{maxUnits}
 use Rattle.label.specs.Outcome.{Outcome, ok, no, need, _>>_}
 use Rattle.label.specs.Calls.{refusal}
-use Rattle.label.specs.Text.{table, fitting, starts, following, scalar, xmlChar, unitsOf, decode, braced, marked, textUnits}
+use Rattle.label.specs.Text.{table, fitting, starts, following, scalar, codePoint, xmlChar, unitsOf, decode, braced, marked, textUnits}
 use Rattle.label.proofs.Basics.{and-l, and-r, clash, cases, bind-ok, need-ok}
 use Rattle.label.proofs.Rows.{laws, scalar-of, read-at, utf8-one}
 use Rattle.label.proofs.Walks.{ok-path}
@@ -25,7 +25,7 @@ use Rattle.text.specs.declared.TextRead.the-variants.{Units, Refused}
 -- ── a character's number and its first byte ──
 
 -- a character of more than one byte is above those of one
-above : (b : ℕ) (bs : List ℕ) → starts b bs ≡ true → 127 < b → 127 < scalar (following b bs) b bs
+above : (b : ℕ) (bs : List ℕ) → starts b bs ≡ true → 127 < b → 127 < codePoint b bs
 unfolding starts
 above b bs h l =
     let (c, rest, k, e) = scalar-of table laws (b ∷ bs) (leb-true 1 (length (fitting table (b ∷ bs))) h) in
@@ -43,13 +43,13 @@ record First (at b : ℕ) (bs all : List ℕ) : Type 0 where
   start : starts b bs ≡ true
   others : List ℕ
   next : decode (following b bs) (suc at) bs ≡ ok others
-  is : all ≡ unitsOf (scalar (following b bs) b bs) ++ others
+  is : all ≡ unitsOf (codePoint b bs) ++ others
 
 first : (at b : ℕ) (bs all : List ℕ) → decode 0 at (b ∷ bs) ≡ ok all → First at b bs all
 unfolding decode
 first at b bs all h =
     let (t2, h2) = need-ok (starts b bs) 2 at _ all h in
-    let (t3, h3) = need-ok (xmlChar (scalar (following b bs) b bs)) 3 at _ all h2 in
+    let (t3, h3) = need-ok (xmlChar (codePoint b bs)) 3 at _ all h2 in
     let (vs, d, e) = bind-ok (decode (following b bs) (suc at) bs) _ all h3 in
     record { start = t2; others = vs; next = d; is = sym (ok-path _ all e) }
 
@@ -78,7 +78,7 @@ units-above c us h = cases (leb c 65535) (λ t. rw t h) (λ t. rw t (omega arith
 far : (at b : ℕ) (bs all : List ℕ) → 127 < b → decode 0 at (b ∷ bs) ≡ ok all → 127 < getD all 0 0
 far at b bs all l h =
     let x = first at b bs all h in
-    subst (λ (us : List ℕ). 127 < getD us 0 0) (sym (x .is)) (units-above (scalar (following b bs) b bs) (x .others) (above b bs (x .start) l))
+    subst (λ (us : List ℕ). 127 < getD us 0 0) (sym (x .is)) (units-above (codePoint b bs) (x .others) (above b bs (x .start) l))
 
 -- so a character below 128 is the first unit where it is the first byte, and only there
 first-unit : (k at : ℕ) (t all : List ℕ) → k ≤ 127 → decode 0 at t ≡ ok all → eqb (getD all 0 0) k ≡ eqb (getD t 0 0) k

@@ -4,7 +4,7 @@ use Prim.Native.Nat.{ℕ, zero, suc, _+_, _*_, _-_, _%_, _^_, _≤_, _<_}
 use native.Mathlib.Omega.{arith}
 use native.Mathlib.Nat.{add-zero}
 use native.Mathlib.Numerals.{add-one}
-use mathlib.Core.Path.{_≡_, refl, sym, _∙_, ap}
+use mathlib.Core.Path.{_≡_, refl, sym, _∙_, ap, subst}
 use mathlib.Core.Bool.{Bool, true, false, cond, _&&_, _||_, and-false}
 use mathlib.Core.List.{List}
 use borrow.Author.Tests.{ne-eqb, le-leb, lt-leb}
@@ -12,14 +12,16 @@ use lib.Bits.{bitAnd, bitOr, and-mask, mask-lt, or-shifted}
 use lib.Pow.{shl-exact}
 use lib.Dec.{eqb, leb}
 use lib.ListN.{length, getD, drop, length-drop}
-use lib.Seq.{getD-drop}
-use Rattle.label.specs.Text.{within, starts, following, scalar, xmlChar}
+use lib.Seq.{getD-drop, drop-cons, drop-drop}
+use Rattle.label.specs.Outcome.{Outcome, no}
+use Rattle.label.specs.Text.{within, starts, following, scalar, codePoint, xmlChar, unitsOf, decode}
 use Rattle.utf8.specs.Rows.{lead, trail}
 use Rattle.utf8.specs.declared.Behind.{Behind}
 use Rattle.utf8.specs.Chars.{charAt}
 use Rattle.utf8.specs.declared.Char.{Char}
 use Rattle.utf8.specs.declared.Char.the-variants.{Good, Ill, Outside}
-use Rattle.label.proofs.Basics.{clash, within-lo, within-hi}
+use Rattle.label.proofs.Basics.{cases, within-lo, within-hi}
+use Rattle.label.proofs.Cursors.{onto, decode-skip}
 use Rattle.utf8.proofs.Rows.{starts-is, following-is, following-inside, starts-one}
 
 -- ── XML's Char by tests in order ──
@@ -150,60 +152,50 @@ module _ (s : List ℕ) (i : ℕ) (r : Behind) (e : r ≡ lead (getD s i 0)) whe
     unfolding charAt
     char-outside x = rw (start, more-is, ← q, x)
 
--- what `charAt` says
-pub record GoodAt (s : List ℕ) (i c j : ℕ) : Type 0 where
-  pub start : starts (getD s i 0) (drop (suc i) s) ≡ true
-  pub xml : xmlChar c ≡ true
-  pub code : c ≡ scalar (following (getD s i 0) (drop (suc i) s)) (getD s i 0) (drop (suc i) s)
-  pub next : j ≡ suc i + following (getD s i 0) (drop (suc i) s)
+-- ── what the character at a place tells ──
 
-char-case : (s : List ℕ) (i : ℕ) (x : Char) → charAt s i ≡ x → (t u : Bool) → starts (getD s i 0) (drop (suc i) s) ≡ t
-    → xmlChar (scalar (following (getD s i 0) (drop (suc i) s)) (getD s i 0) (drop (suc i) s)) ≡ u
-    → cond t (cond u (Good (scalar (following (getD s i 0) (drop (suc i) s)) (getD s i 0) (drop (suc i) s)) (suc i + following (getD s i 0) (drop (suc i) s))) Outside) Ill ≡ x
-unfolding charAt
-char-case s i x h t u p q = rw (← p, ← q) (rw (add-one i) at h)
+-- what is read from place i on, where x is the character there
+abbrev pub reading : List ℕ → ℕ → Char → Outcome (List ℕ)
+reading s i (Good c j) = onto (unitsOf c) (decode 0 j (drop j s))
+reading s i Ill = no 2 i
+reading s i Outside = no 3 i
 
-pub char-is-good : (s : List ℕ) (i c j : ℕ) → charAt s i ≡ Good c j → GoodAt s i c j
-char-is-good s i c j h = go (starts (getD s i 0) (drop (suc i) s)) (xmlChar (scalar (following (getD s i 0) (drop (suc i) s)) (getD s i 0) (drop (suc i) s))) refl refl
-  where
-    go : (t u : Bool) → starts (getD s i 0) (drop (suc i) s) ≡ t → xmlChar (scalar (following (getD s i 0) (drop (suc i) s)) (getD s i 0) (drop (suc i) s)) ≡ u → GoodAt s i c j
-    go true true p q =
-        let g : Good (scalar (following (getD s i 0) (drop (suc i) s)) (getD s i 0) (drop (suc i) s)) (suc i + following (getD s i 0) (drop (suc i) s)) ≡ Good c j = char-case s i (Good c j) h true true p q in
-        let a : c ≡ scalar (following (getD s i 0) (drop (suc i) s)) (getD s i 0) (drop (suc i) s) = cc in
-        let b : j ≡ suc i + following (getD s i 0) (drop (suc i) s) = cc in
-        record { start = p; xml = rw a q; code = a; next = b }
-    go true false p q =
-        let g : Outside ≡ Good c j = char-case s i (Good c j) h true false p q in
-        let z : true ≡ false = cc in clash true refl z
-    go false u p q =
-        let g : Ill ≡ Good c j = char-case s i (Good c j) h false u p q in
-        let z : true ≡ false = cc in clash true refl z
+-- a character that may stand is one of XML's, and its bytes are there
+abbrev pub Standing : List ℕ → ℕ → Char → Type 0
+Standing s i (Good c j) = (xmlChar c ≡ true) × (i < j) × (j ≤ length s)
+Standing s i Ill = Unit {0}
+Standing s i Outside = Unit {0}
 
-pub char-is-ill : (s : List ℕ) (i : ℕ) → charAt s i ≡ Ill → starts (getD s i 0) (drop (suc i) s) ≡ false
-char-is-ill s i h = go (starts (getD s i 0) (drop (suc i) s)) (xmlChar (scalar (following (getD s i 0) (drop (suc i) s)) (getD s i 0) (drop (suc i) s))) refl refl
-  where
-    go : (t u : Bool) → starts (getD s i 0) (drop (suc i) s) ≡ t → xmlChar (scalar (following (getD s i 0) (drop (suc i) s)) (getD s i 0) (drop (suc i) s)) ≡ u → starts (getD s i 0) (drop (suc i) s) ≡ false
-    go true true p q = let g : Good (scalar (following (getD s i 0) (drop (suc i) s)) (getD s i 0) (drop (suc i) s)) (suc i + following (getD s i 0) (drop (suc i) s)) ≡ Ill = char-case s i Ill h true true p q in cc
-    go true false p q = let g : Outside ≡ Ill = char-case s i Ill h true false p q in cc
-    go false u p q = p
+module _ (s : List ℕ) (i : ℕ) (l : i < length s) where
+  reads-here : decode 0 i (drop i s) ≡ reading s i (charAt s i)
+  unfolding charAt decode
+  reads-here =
+      let b = getD s i 0 in
+      let bs = drop (suc i) s in
+      let n = following b bs in
+      cases (starts b bs)
+      (λ t. cases (xmlChar (codePoint b bs))
+      (λ x. rw (drop-cons s i 0 l, add-one i, t, x, decode-skip n (suc i) bs, drop-drop n (suc i) s))
+      (λ x. rw (drop-cons s i 0 l, add-one i, t, x)))
+      (λ t. rw (drop-cons s i 0 l, add-one i, t))
 
-pub char-is-outside : (s : List ℕ) (i : ℕ) → charAt s i ≡ Outside
-    → (starts (getD s i 0) (drop (suc i) s) ≡ true) × (xmlChar (scalar (following (getD s i 0) (drop (suc i) s)) (getD s i 0) (drop (suc i) s)) ≡ false)
-char-is-outside s i h = go (starts (getD s i 0) (drop (suc i) s)) (xmlChar (scalar (following (getD s i 0) (drop (suc i) s)) (getD s i 0) (drop (suc i) s))) refl refl
-  where
-    go : (t u : Bool) → starts (getD s i 0) (drop (suc i) s) ≡ t → xmlChar (scalar (following (getD s i 0) (drop (suc i) s)) (getD s i 0) (drop (suc i) s)) ≡ u
-        → (starts (getD s i 0) (drop (suc i) s) ≡ true) × (xmlChar (scalar (following (getD s i 0) (drop (suc i) s)) (getD s i 0) (drop (suc i) s)) ≡ false)
-    go true true p q =
-        let g : Good (scalar (following (getD s i 0) (drop (suc i) s)) (getD s i 0) (drop (suc i) s)) (suc i + following (getD s i 0) (drop (suc i) s)) ≡ Outside = char-case s i Outside h true true p q in
-        let z : true ≡ false = cc in clash true refl z
-    go true false p q = (p, q)
-    go false u p q =
-        let g : Ill ≡ Outside = char-case s i Outside h false u p q in
-        let z : true ≡ false = cc in clash true refl z
+  stands-here : Standing s i (charAt s i)
+  unfolding charAt
+  stands-here =
+      let b = getD s i 0 in
+      let bs = drop (i + 1) s in
+      cases (starts b bs)
+      (λ t. cases (xmlChar (codePoint b bs))
+      (λ x. rw (t, x) (x, omega arith, omega (arith, following-inside b bs t, length-drop (i + 1) s)))
+      (λ x. rw (t, x) tt))
+      (λ t. rw t tt)
 
--- the place behind a character is inside
+  module _ {x : Char} (h : charAt s i ≡ x) where
+    pub char-reads : decode 0 i (drop i s) ≡ reading s i x
+    char-reads = reads-here ∙ ap (λ (y : Char). reading s i y) h
+
+    pub char-stands : Standing s i x
+    char-stands = subst (λ (y : Char). Standing s i y) h stands-here
+
 pub char-inside : (s : List ℕ) (i c j : ℕ) → i < length s → charAt s i ≡ Good c j → (i < j) × (j ≤ length s)
-char-inside s i c j l h =
-    let g : GoodAt s i c j = char-is-good s i c j h in
-    let m = following-inside (getD s i 0) (drop (suc i) s) (g .start) in
-    (omega (arith, g .next), omega (arith, g .next, m, length-drop (suc i) s))
+char-inside s i c j l h = let x = char-stands s i l h in (x .1, x .2)

@@ -1,5 +1,5 @@
 -- `text::fill_units` meets its contract. Assumes nothing.
-use Rattle.text.proofs.Fills.{Fill, fill-start, fill-room, fill-next, fill-end, good-small}
+use Rattle.text.proofs.Fills.{Fill, fill-start, fill-room, fill-next, fill-end}
 use Rattle.text.proofs.Moves.{no-ill, no-outside}
 use Rattle.utf8.proofs.Chars.{char-plain-as, char-inside}
 use borrow.Author.Needs.{needs}
@@ -34,7 +34,7 @@ wide-requires c κs = search needs
 put-char-requires : tie.Need-put-char-requires Inv-loop μ-loop
 put-char-requires c κs =
     let g = char-plain-as _ _ _ (c .wide .ensures .0) (sym (c .before .before .before .before .is-within .ensures) ∙ c .before .before .before .if1 .taken) in
-    (good-small _ _ _ _ g, fill-room (c .before .before .before .before .before .before .before .loop .inv) (c .before .before .before .before .before .before .loop-test .taken) g (c .before .before .before .before .before .before .before .before .before .before .pre .1))
+    fill-room (c .before .before .before .before .before .before .before .loop .inv) (c .before .before .before .before .before .before .loop-test .taken) g (c .before .before .before .before .before .before .before .before .before .before .pre .1)
 
 add-i : tie.Need-add-i Inv-loop μ-loop
 add-i c = search needs
@@ -55,7 +55,7 @@ enum-known-code c = search needs
 put-char-requires-2 : tie.Need-put-char-requires-2 Inv-loop μ-loop
 put-char-requires-2 c κs =
     let g = sym (c .before .before .before .before .char-at .ensures) ∙ c .before .before .code .given .1 in
-    (good-small _ _ _ _ g, fill-room (c .before .before .before .before .before .before .before .before .before .loop .inv) (c .before .before .before .before .before .before .before .before .loop-test .taken) g (c .before .before .before .before .before .before .before .before .before .before .before .before .pre .1))
+    fill-room (c .before .before .before .before .before .before .before .before .before .loop .inv) (c .before .before .before .before .before .before .before .before .loop-test .taken) g (c .before .before .before .before .before .before .before .before .before .before .before .before .pre .1)
 
 loop-less-2 : tie.Need-loop-less-2 Inv-loop μ-loop
 loop-less-2 c =
