@@ -5,11 +5,12 @@ use native.Mathlib.Omega.{arith}
 use native.Mathlib.Nat.{zero-add, div-div-eq-div-mul}
 use mathlib.Core.Path.{_≡_, refl, sym, _∙_, ap, subst}
 use mathlib.Core.Logic.{_⊎_, inl, inr, ⊎-elim}
-use mathlib.Core.Bool.{true, false, false≢true}
+use mathlib.Core.Bool.{true, false, not, false≢true}
 use mathlib.Core.List.{List, [], _∷_, _++_}
 use borrow.Author.Tests.{le-leb, lt-leb, leb-true, leb-false}
 use lib.Dec.{leb}
 use lib.ListN.{length, getD, drop}
+use Rattle.label.specs.Bytes.{empty}
 use Rattle.label.specs.Text.{within, Range, Row, row, _‥_, table, rowFits, fitting, starts, moreBytes, following, scalar, codePoint, layout}
 use Rattle.label.specs.Write.{utf8}
 use Rattle.label.specs.Encoding.{isScalar, room, Shortest, FitsAt, Each}
@@ -70,22 +71,22 @@ unfolding fitting
 alone r rs m s o h = rw (h, none-behind r rs m s o h)
 
 -- some row fits, by its number
-pub fits-some : (rs : List Row) (i : ℕ) (s : List ℕ) → FitsAt rs i s → 1 ≤ length (fitting rs s)
+pub fits-some : (rs : List Row) (i : ℕ) (s : List ℕ) → FitsAt rs i s → not (empty (fitting rs s)) ≡ true
 unfolding fitting
 fits-some [] i s f = absurd f
-fits-some (r ∷ rs) zero s f = rw f (omega arith)
-fits-some (r ∷ rs) (suc i) s f = cases (rowFits (r .bytes) s) (λ t. rw t (omega arith)) (λ t. rw t (fits-some rs i s f))
+fits-some (r ∷ rs) zero s f = rw f
+fits-some (r ∷ rs) (suc i) s f = cases (rowFits (r .bytes) s) (λ t. rw t) (λ t. rw t (fits-some rs i s f))
 
-pub some-fits : (rs : List Row) (s : List ℕ) → 1 ≤ length (fitting rs s) → (i : ℕ) × FitsAt rs i s
+pub some-fits : (rs : List Row) (s : List ℕ) → not (empty (fitting rs s)) ≡ true → (i : ℕ) × FitsAt rs i s
 unfolding fitting
-some-fits [] s h = absurd (omega arith)
+some-fits [] s h = absurd (false≢true h)
 some-fits (r ∷ rs) s h = cases (rowFits (r .bytes) s) (λ t. (0, t)) (λ t. let (i, f) = some-fits rs s (rw t at h) in (suc i, f))
 
 pub one-number : (rs : List Row) (m : ℕ) (s : List ℕ) (i j : ℕ) → Rising m rs → FitsAt rs i s → FitsAt rs j s → i ≡ j
 one-number [] m s i j o f g = absurd f
 one-number (r ∷ rs) m s zero zero o f g = refl
-one-number (r ∷ rs) m s zero (suc j) o f g = absurd (omega (arith, fits-some rs j s g, ap length (none-behind r rs m s o f)))
-one-number (r ∷ rs) m s (suc i) zero o f g = absurd (omega (arith, fits-some rs i s f, ap length (none-behind r rs m s o g)))
+one-number (r ∷ rs) m s zero (suc j) o f g = absurd (false≢true (rw (none-behind r rs m s o f) at (fits-some rs j s g)))
+one-number (r ∷ rs) m s (suc i) zero o f g = absurd (false≢true (rw (none-behind r rs m s o g) at (fits-some rs i s f)))
 one-number (r ∷ rs) m s (suc i) (suc j) o f g = ap suc (one-number rs (suc (o .0 .hi)) s i j (o .5) f g)
 
 -- ── the shortest form ──
@@ -389,8 +390,8 @@ find (r ∷ rs) m ls o c rest (inr w) =
     (λ t. (q, skips r rs s t ∙ e, n))
 
 -- where a row fits, the UTF-8 of a scalar value starts
-pub scalar-of : (rs : List Row) → Each Law rs → (s : List ℕ) → 1 ≤ length (fitting rs s) → (c : ℕ) × (rest : List ℕ) × (isScalar c ≡ true) × (s ≡ utf8 c ++ rest)
-scalar-of [] ls s h = absurd (unfold fitting in (omega (arith, h)))
+pub scalar-of : (rs : List Row) → Each Law rs → (s : List ℕ) → not (empty (fitting rs s)) ≡ true → (c : ℕ) × (rest : List ℕ) × (isScalar c ≡ true) × (s ≡ utf8 c ++ rest)
+scalar-of [] ls s h = absurd (false≢true (unfold fitting in h))
 scalar-of (r ∷ rs) ls s h =
     cases (rowFits (r .bytes) s)
     (λ t. let (c, rest, w, e) = ls .0 .here s t in

@@ -7,6 +7,7 @@ use lib.Dec.{leb, eqb}
 use lib.ListN.{length, getD, drop}
 use Rattle.label.specs.Limits.{maxUnits}
 use Rattle.label.specs.Outcome.{Outcome, ok, need, _>>=_, _>>_}
+use Rattle.label.specs.Bytes.{empty}
 
 -- lo ≤ b ≤ hi
 abbrev pub within : ℕ → ℕ → ℕ → Bool
@@ -60,7 +61,7 @@ fitting (r ∷ rs) s = let others = fitting rs s in cond (rowFits (r .bytes) s) 
 
 -- a well-formed character starts at byte b, with bs behind it: a row fits
 unfoldable pub starts : ℕ → List ℕ → Bool
-starts b bs = leb 1 (length (fitting table (b ∷ bs)))
+starts b bs = not (empty (fitting table (b ∷ bs)))
 
 -- how many bytes the first of some rows has behind its first byte; 0 where there is no row
 unfoldable pub moreBytes : List Row → ℕ

@@ -11,7 +11,7 @@ use lib.ListN.{length, getD, drop, length-drop}
 use Rattle.label.specs.Limits.{maxUnits}
 use Rattle.label.specs.Outcome.{Outcome, ok, no, need, _>>_}
 use Rattle.label.specs.Calls.{refusal}
-use Rattle.label.specs.Text.{table, fitting, starts, following, scalar, codePoint, xmlChar, unitsOf, decode, braced, marked, textUnits}
+use Rattle.label.specs.Text.{table, starts, following, scalar, codePoint, xmlChar, unitsOf, decode, braced, marked, textUnits}
 use Rattle.label.proofs.Basics.{and-l, and-r, clash, cases, bind-ok, need-ok}
 use Rattle.label.proofs.Rows.{laws, scalar-of, read-at, utf8-one}
 use Rattle.label.proofs.Walks.{ok-path}
@@ -28,7 +28,7 @@ use Rattle.text.specs.declared.TextRead.the-variants.{Units, Refused}
 above : (b : ℕ) (bs : List ℕ) → starts b bs ≡ true → 127 < b → 127 < codePoint b bs
 unfolding starts
 above b bs h l =
-    let (c, rest, k, e) = scalar-of table laws (b ∷ bs) (leb-true 1 (length (fitting table (b ∷ bs))) h) in
+    let (c, rest, k, e) = scalar-of table laws (b ∷ bs) h in
     rw (read-at c b bs rest k e .number)
     (cases (leb c 127)
     (λ t. let f : b ∷ bs ≡ c ∷ rest = e ∙ ap (λ (u : List ℕ). u ++ rest) (utf8-one c (leb-true c 127 t)) in

@@ -4,12 +4,13 @@ use Prim.Native.Nat.{ℕ, zero, suc, _+_, _-_, _≤_, _<_}
 use native.Mathlib.Omega.{arith}
 use native.Mathlib.Numerals.{add-one}
 use mathlib.Core.Path.{_≡_, refl, sym, _∙_}
-use mathlib.Core.Bool.{Bool, true, false, _&&_, false≢true, and-false}
+use mathlib.Core.Bool.{Bool, true, false, not, _&&_, false≢true, and-false}
 use mathlib.Core.List.{List, [], _∷_}
 use borrow.Author.Tests.{le-leb, lt-leb}
 use lib.Dec.{leb}
 use lib.ListN.{length, getD, drop, length-drop, drop-of-length-le}
 use lib.Seq.{drop-cons}
+use Rattle.label.specs.Bytes.{empty}
 use Rattle.label.specs.Text.{within, Range, Row, _‥_, table, rowFits, fitting, starts, moreBytes, following}
 use Rattle.label.specs.Encoding.{Each}
 use Rattle.label.proofs.Basics.{and-r, cases, within-is, within-lo, within-hi, above-range}
@@ -128,8 +129,8 @@ all-trailed = (
 
 -- what the code finds by the row x is what the rows find that fit
 record Same (x : Behind) (rs : List Row) (bs : List ℕ) : Type 0 where
-  start : leb 1 (length rs) ≡ (x .fits && trail (x .more) (x .lo) (x .hi) bs)
-  more : leb 1 (length rs) ≡ true → moreBytes rs ≡ x .more
+  start : not (empty rs) ≡ (x .fits && trail (x .more) (x .lo) (x .hi) bs)
+  more : not (empty rs) ≡ true → moreBytes rs ≡ x .more
 
 same-as : {x y : Behind} {rs qs : List Row} {bs : List ℕ} → x ≡ y → rs ≡ qs → Same y qs bs → Same x rs bs
 same-as e f h = rw (e, f) h
