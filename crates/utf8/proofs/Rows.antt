@@ -4,7 +4,7 @@ use Prim.Native.Nat.{ℕ, zero, suc, _+_, _-_, _≤_, _<_}
 use native.Mathlib.Omega.{arith}
 use native.Mathlib.Numerals.{add-one}
 use mathlib.Core.Path.{_≡_, refl, sym, _∙_}
-use mathlib.Core.Bool.{Bool, true, false, not, _&&_, false≢true, and-false}
+use mathlib.Core.Bool.{Bool, true, false, cond, not, _&&_, false≢true, and-false}
 use mathlib.Core.List.{List, [], _∷_}
 use borrow.Author.Tests.{le-leb, lt-leb}
 use lib.Dec.{leb}
@@ -15,7 +15,7 @@ use Rattle.label.specs.Text.{within, Range, Row, _‥_, table, rowFits, fitting
 use Rattle.label.specs.Encoding.{Each}
 use Rattle.label.proofs.Basics.{and-r, cases, within-is, within-lo, within-hi, above-range}
 use Rattle.label.proofs.Rows.{Rising, rising, skips, unfit, fits-first, none-below, alone}
-use Rattle.utf8.specs.Rows.{row, inFirst, behind, chosen, lead, trail}
+use Rattle.utf8.specs.Rows.{row, no-row, inFirst, behind, chosen, lead, trail}
 use Rattle.utf8.specs.declared.Behind.{Behind}
 
 -- ── the row that a first byte chooses ──
@@ -38,6 +38,19 @@ chosen-nth (r ∷ rs) m zero b o h = rw h
 chosen-nth (r ∷ rs) m (suc k) b (f, fs, e, l, u, o) h =
     let n : inFirst (r .bytes) b ≡ false = rw e (above-range (f .lo) (f .hi) b (omega (arith, nth-above rs (suc (f .hi)) k b o h))) in
     rw n (chosen-nth rs (suc (f .hi)) k b o h)
+
+-- written out, the rows by their first bytes are nine tests in the table's order, as in the code
+pub lead-rows : (b : ℕ) → lead b ≡ cond (within 0x00 0x7f b) (row 0 0 0)
+    (cond (within 0xc2 0xdf b) (row 1 0x80 0xbf)
+    (cond (within 0xe0 0xe0 b) (row 2 0xa0 0xbf)
+    (cond (within 0xe1 0xec b) (row 2 0x80 0xbf)
+    (cond (within 0xed 0xed b) (row 2 0x80 0x9f)
+    (cond (within 0xee 0xef b) (row 2 0x80 0xbf)
+    (cond (within 0xf0 0xf0 b) (row 3 0x90 0xbf)
+    (cond (within 0xf1 0xf3 b) (row 3 0x80 0xbf)
+    (cond (within 0xf4 0xf4 b) (row 3 0x80 0x8f) no-row))))))))
+unfolding lead chosen table
+lead-rows b = refl
 
 -- row k, by the code's flag of its first byte
 pub by-row : (k b : ℕ) {x : Bool} → x ≡ inFirst (nth table k) b → x ≡ true → behind (drop 1 (nth table k)) ≡ lead b
