@@ -21,13 +21,13 @@ fn digit_value(b: u8) -> u32
     ensures { λ r. ⌜ r ≡ digitValue b ⌝ }
     ensures bounds { λ r. ⌜ r ≤ 16 ⌝ }
 {
-    if utf8::is_within(b'0', b'9', b) {
+    if words::is_within(b'0', b'9', b) {
         return words::wide(b) - 48;
     }
-    if utf8::is_within(b'a', b'f', b) {
+    if words::is_within(b'a', b'f', b) {
         return words::wide(b) - 87;
     }
-    if utf8::is_within(b'A', b'F', b) {
+    if words::is_within(b'A', b'F', b) {
         return words::wide(b) - 55;
     }
     16
@@ -76,7 +76,7 @@ fn numbered_at(s: &[u8], at: usize, base: u32) -> Reference
 {
     let n = number_at(s, at, base);
     let end = n.end;
-    if utf8::byte_or_zero(s, end) != b';' {
+    if words::byte_or_zero(s, end) != b';' {
         return Reference::Bad;
     }
     if !utf8::is_xml(n.value) {
@@ -131,10 +131,10 @@ fn reference_at(s: &[u8], at: usize) -> Reference
     requires { ⌜ at ≤ length (now s) ⌝ }
     ensures { λ r. ⌜ r ≡ referenceBy referred (now (s .entry)) at ⌝ }
 {
-    if utf8::byte_or_zero(s, at) != b'#' {
+    if words::byte_or_zero(s, at) != b'#' {
         return named_at(s, at);
     }
-    if utf8::byte_or_zero(s, at + 1) != b'x' {
+    if words::byte_or_zero(s, at + 1) != b'x' {
         return numbered_at(s, at + 1, 10);
     }
     numbered_at(s, at + 2, 16)
@@ -161,7 +161,7 @@ fn width_at(s: &[u8], at: usize) -> usize
     if s[at] != b'\r' {
         return 1;
     }
-    if utf8::byte_or_zero(s, at + 1) != b'\n' {
+    if words::byte_or_zero(s, at + 1) != b'\n' {
         return 1;
     }
     2

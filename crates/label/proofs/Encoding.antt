@@ -4,11 +4,12 @@ use Prim.Native.Nat.{ℕ, zero, suc, _+_, _≤_}
 use native.Mathlib.Omega.{arith}
 use mathlib.Core.Path.{_≡_, refl, sym, _∙_, ap}
 use mathlib.Core.Logic.{_↔_}
-use mathlib.Core.Bool.{true}
+use mathlib.Core.Bool.{true, not}
 use mathlib.Core.List.{List, [], _∷_, _++_}
 use lib.ListN.{length, drop}
 use Rattle.label.specs.Outcome.{Outcome, ok, no, need, _>>_}
-use Rattle.label.specs.Text.{Row, table, starts, following, codePoint, xmlChar, unitsOf, decode}
+use Rattle.label.specs.Bytes.{empty}
+use Rattle.label.specs.Text.{Row, table, fitting, starts, following, codePoint, xmlChar, unitsOf, decode}
 use Rattle.label.specs.Write.{utf8}
 use Rattle.label.specs.Encoding.{isScalar, Shortest, Starts, StartsScalar, FitsAt, OfItsCodes, Each, Encoding}
 use Rattle.label.proofs.Basics.{no-ok, cases}
@@ -30,9 +31,13 @@ nine : length table ≡ 9
 unfolding table
 nine = refl
 
+-- where some row fits
+fits-scalar : (s : List ℕ) → not (empty (fitting table s)) ≡ true → StartsScalar s
+fits-scalar s h = let (c, rest, k, e) = scalar-of table laws s h in (c, k, starts-here c s rest k e)
+
 exactly : (s : List ℕ) → ((i : ℕ) × FitsAt table i s) ↔ StartsScalar s
 exactly s = (
-  λ (i, f). let (c, rest, k, e) = scalar-of table laws s (fits-some table i s f) in (c, k, starts-here c s rest k e),
+  λ (i, f). fits-scalar s (fits-some table i s f),
   λ (c, k, x). let (r, f, n) = find table 0 laws rising c (x .behind) (coded c k) in
       some-fits table s (rw (is-utf8 c s x, f)),
 )
@@ -89,7 +94,7 @@ not-two at b bs t h =
 starts-scalar : (b : ℕ) (bs : List ℕ) → (starts b bs ≡ true) ↔ StartsScalar (b ∷ bs)
 unfolding starts
 starts-scalar b bs = (
-  λ t. let (c, rest, k, e) = scalar-of table laws (b ∷ bs) t in (c, k, starts-here c (b ∷ bs) rest k e),
+  λ t. fits-scalar (b ∷ bs) t,
   λ (c, k, x). read-at c b bs (x .behind) k (is-utf8 c (b ∷ bs) x) .start,
 )
 

@@ -91,7 +91,7 @@ one-number (r ∷ rs) m s (suc i) (suc j) o f g = ap suc (one-number rs (suc (o 
 
 -- ── the shortest form ──
 
--- how many bytes a form has at least that has room for c
+-- how many bytes a form with room for c has at least
 needs-bytes : (c n : ℕ) → c < room n → (c < 0x200000) × (1 ≤ n) × (0x7f < c → 2 ≤ n) × (0x7ff < c → 3 ≤ n) × (0xffff < c → 4 ≤ n)
 unfolding room
 needs-bytes c zero h = absurd (omega arith)
@@ -119,7 +119,7 @@ module _ (c : ℕ) where
   utf8-four h = rw (lt-leb c 0x7f (omega arith), lt-leb c 0x7ff (omega arith), lt-leb c 0xffff h)
 
   -- by the length of a number's UTF-8
-  pub by-length : {A : Type 0} → (c ≤ 0x7f → A) → (0x7f < c → c ≤ 0x7ff → A) → (0x7ff < c → c ≤ 0xffff → A) → (0xffff < c → A) → A
+  by-length : {A : Type 0} → (c ≤ 0x7f → A) → (0x7f < c → c ≤ 0x7ff → A) → (0x7ff < c → c ≤ 0xffff → A) → (0xffff < c → A) → A
   by-length one two three four =
       cases (leb c 0x7f) (λ t. one (leb-true c 0x7f t))
       (λ t. cases (leb c 0x7ff) (λ u. two (leb-false c 0x7f t) (leb-true c 0x7ff u))
@@ -149,7 +149,7 @@ low-scalar c h = rw (within-is 0 0xd7ff c (omega arith) h)
 pub high-scalar : (c : ℕ) → 0xe000 ≤ c → c ≤ 0x10ffff → isScalar c ≡ true
 high-scalar c h k = rw (above-range 0 0xd7ff c (omega arith), within-is 0xe000 0x10ffff c h k)
 
-pub scalar-range : (c : ℕ) → isScalar c ≡ true → (c ≤ 0xd7ff) ⊎ ((0xe000 ≤ c) × (c ≤ 0x10ffff))
+scalar-range : (c : ℕ) → isScalar c ≡ true → (c ≤ 0xd7ff) ⊎ ((0xe000 ≤ c) × (c ≤ 0x10ffff))
 scalar-range c h =
     ⊎-elim (λ t. inl (within-hi 0 0xd7ff c t)) (λ t. inr (within-lo 0xe000 0x10ffff c t, within-hi 0xe000 0x10ffff c t))
     (or-cases (within 0 0xd7ff c) (within 0xe000 0x10ffff c) h)
@@ -193,7 +193,7 @@ nil-fits : (s : List ℕ) → rowFits [] s ≡ true
 unfolding rowFits
 nil-fits s = refl
 
--- a byte behind the second, of six bits
+-- a byte of six bits behind the first, from 80 to BF
 six-fits : (fs : List Range) (x : ℕ) (s : List ℕ) → rowFits fs s ≡ true → rowFits (0x80 ‥ 0xbf ∷ fs) ((0x80 + x % 64) ∷ s) ≡ true
 six-fits fs x s t = cons-fits (0x80 ‥ 0xbf) fs (0x80 + x % 64) s (omega arith) (omega arith) t
 

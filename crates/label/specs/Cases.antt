@@ -1,5 +1,5 @@
 -- Edges of the calls, computed from the definitions: soundness and writing, picks, faults, the list of records, the calls over bytes, raw values,
--- escaped writings, sheets; and of UTF-8.
+-- escaped writings and sheets; and the edges of UTF-8.
 -- Assumes nothing.
 use Prim.Native.Nat.{ℕ}
 use mathlib.Core.Path.{_≡_, refl}

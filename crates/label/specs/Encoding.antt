@@ -65,7 +65,7 @@ pub record Encoding : Type 0 where
   pub one : (s : List ℕ) (place i j : ℕ) → FitsAt table i (drop place s) → FitsAt table j (drop place s) → i ≡ j
   -- "and that one does exactly when the shortest UTF-8 of a Unicode scalar value starts there"
   pub exactly : (s : List ℕ) (place : ℕ) → ((i : ℕ) × FitsAt table i (drop place s)) ↔ StartsScalar (drop place s)
-  -- each row fits where the shortest UTF-8 of one of the code points starts that the table prints beside it, and nowhere else
+  -- each row fits exactly where the shortest UTF-8 starts of a code point that the table prints beside it
   pub codes : Each OfItsCodes table
   -- "The outside sees the identical result", told without the rows: where a character should start and a byte stands, 2 is given there exactly when the
   -- UTF-8 of no scalar value starts; where it does start, the character is that scalar value, judged by XML's Char, and the reading goes on behind its bytes

@@ -31,6 +31,7 @@ pub record Row : Type 0 where
   pub codes : Range
   pub bytes : List Range
 
+-- the row of these code points with these bytes
 abbrev pub row : Range → List Range → Row
 row c bs = record { codes = c; bytes = bs }
 
@@ -79,11 +80,11 @@ scalar (suc zero) b bs = b % 32 * 64 + getD bs 0 0 % 64
 scalar (suc (suc zero)) b bs = b % 16 * 4096 + getD bs 0 0 % 64 * 64 + getD bs 1 0 % 64
 scalar (suc (suc (suc n))) b bs = b % 8 * 262144 + getD bs 0 0 % 64 * 4096 + getD bs 1 0 % 64 * 64 + getD bs 2 0 % 64
 
--- the number of the character that starts at byte b, with bs behind it
+-- the number of the character that starts at byte b, with bs behind it; b where none starts
 abbrev pub codePoint : ℕ → List ℕ → ℕ
 codePoint b bs = scalar (following b bs) b bs
 
--- Unicode's Table 3-6: the bits of a number that has room in a form of n bytes; there is no form of no bytes and none of more than four
+-- Unicode's Table 3-6: a number's bytes in the form of n bytes, where that has room for it; there is no form of no bytes and none of more than four
 abbrev pub layout : ℕ → ℕ → List ℕ
 layout zero c = []
 -- 00000000 0xxxxxxx: 0xxxxxxx

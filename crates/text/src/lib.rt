@@ -9,8 +9,7 @@ ghost use Rattle.label.specs.Limits.{maxTextBytes};
 ghost use Rattle.label.specs.Outcome.{ok};
 ghost use Rattle.label.specs.Text.{within, unitsOf, decode};
 ghost use Rattle.label.specs.Calls.{filled};
-ghost use Rattle.text.specs.Texts.{counted};
-ghost use Rattle.text.specs.Texts.{unitsWithin, textRead};
+ghost use Rattle.text.specs.Texts.{counted, unitsWithin, textRead};
 ghost use Rattle.text.specs.Moves.{unitsFrom, Moves};
 ghost use Rattle.text.specs.declared.Moved.the-variants.{To};
 
@@ -38,7 +37,7 @@ fn count_units(s: &[u8]) -> Counted
     let mut i = 0;
     let mut n = 0;
     while i < s.len() {
-        if utf8::is_within(0x20, 0x7f, s[i]) {
+        if words::is_within(0x20, 0x7f, s[i]) {
             n += 1;
             i += 1;
         } else {
@@ -91,10 +90,10 @@ pub fn survey_text(text: &[u8]) -> TextRead
 {
     match count_units(text) {
         Counted::Units(n) => {
-            if utf8::byte_or_zero(text, 0) != 0x7b {
+            if words::byte_or_zero(text, 0) != 0x7b {
                 return limited(n, 0);
             }
-            if utf8::byte_or_zero(text, 1) != 0x7d {
+            if words::byte_or_zero(text, 1) != 0x7d {
                 return TextRead::Refused(label::Refusal {
                     number: 4,
                     place: 0,
@@ -149,7 +148,7 @@ pub fn fill_units(text: &[u8], from: usize, out: &mut [u16])
     let mut i = from;
     let mut n = 0;
     while i < text.len() {
-        if utf8::is_within(0x20, 0x7f, text[i]) {
+        if words::is_within(0x20, 0x7f, text[i]) {
             n = put_char(out, n, words::wide(text[i]));
             i += 1;
         } else {
@@ -189,7 +188,7 @@ pub fn move_past(s: &[u8], at: usize, count: usize) -> Moved
         if s.len() <= b {
             return Moved::Past;
         }
-        if utf8::is_within(0x20, 0x7f, s[b]) {
+        if words::is_within(0x20, 0x7f, s[b]) {
             a -= 1;
             b += 1;
         } else {
@@ -223,5 +222,5 @@ pub fn is_plain(s: &[u8], at: usize) -> bool
     if s.len() <= at {
         return false;
     }
-    utf8::is_within(0x20, 0x7f, s[at])
+    words::is_within(0x20, 0x7f, s[at])
 }

@@ -1,6 +1,6 @@
--- Laws of a run's text: the bytes of a character, of a unit, of a unit as it is asked for, and of the units from a place on.
+-- Laws of a run's text: the bytes of a unit, of a unit as it is asked for, and of the units from a place on.
 -- Assumes nothing.
-use Prim.Native.Nat.{ℕ, _+_, _/_, _%_, _<_, _≤_}
+use Prim.Native.Nat.{ℕ, _+_, _<_, _≤_}
 use native.Mathlib.Nat.{add-zero}
 use native.Mathlib.Numerals.{add-one}
 use native.Mathlib.Omega.{arith}
@@ -17,25 +17,6 @@ use Rattle.label.specs.Attribute.{escapeByte, escape, asAsked}
 use Rattle.label.proofs.Basics.{and-l, and-r, cases}
 use Rattle.label.proofs.Escapes.{asked-append, asked-nil, asked-stays, unit-none, unit-ascii}
 use Rattle.text_bytes.specs.Units.{unitLength, askedLength, markLength}
-
--- ── a character ──
-
-module _ (c : ℕ) where
-  pub utf-one : c ≤ 127 → c ∷ [] ≡ utf8 c
-  unfolding utf8
-  utf-one h = rw (le-leb c 127 h)
-
-  pub utf-two : 127 < c → c ≤ 2047 → ((192 + c / 64) ∷ []) ++ ((128 + c % 64) ∷ []) ≡ utf8 c
-  unfolding utf8
-  utf-two l h = rw (lt-leb c 127 l, le-leb c 2047 h)
-
-  pub utf-three : 127 < c → 2047 < c → c ≤ 65535 → ((224 + c / 4096) ∷ []) ++ (((128 + c / 64 % 64) ∷ []) ++ ((128 + c % 64) ∷ [])) ≡ utf8 c
-  unfolding utf8
-  utf-three l m h = rw (lt-leb c 127 l, lt-leb c 2047 m, le-leb c 65535 h)
-
-  pub utf-four : 127 < c → 2047 < c → 65535 < c → ((240 + c / 262144) ∷ []) ++ (((128 + c / 4096 % 64) ∷ []) ++ (((128 + c / 64 % 64) ∷ []) ++ ((128 + c % 64) ∷ []))) ≡ utf8 c
-  unfolding utf8
-  utf-four l m h = rw (lt-leb c 127 l, lt-leb c 2047 m, lt-leb c 65535 h)
 
 -- ── a unit ──
 

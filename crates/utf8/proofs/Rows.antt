@@ -16,7 +16,7 @@ use Rattle.label.specs.Encoding.{Each}
 use Rattle.label.proofs.Basics.{and-r, cases, within-is, within-lo, within-hi, above-range}
 use Rattle.label.proofs.Rows.{Rising, rising, skips, unfit, fits-first, none-below, alone}
 use Rattle.utf8.specs.Rows.{row, no-row, inFirst, behind, chosen, lead, trail}
-use Rattle.utf8.specs.declared.Behind.{Behind}
+use Rattle.utf8.specs.declared.Trailing.{Trailing}
 
 -- ── the row that a first byte chooses ──
 
@@ -87,7 +87,7 @@ trail-next s (suc k) l h i n p a b =
     rw (drop-cons s i 0 p, le-leb l (getD s i 0) a, le-leb (getD s i 0) h b, d, add-one i)
 
 -- the bytes that follow are there
-pub trail-inside : (n l h : ℕ) (s : List ℕ) → trail n l h s ≡ true → n ≤ length s
+trail-inside : (n l h : ℕ) (s : List ℕ) → trail n l h s ≡ true → n ≤ length s
 unfolding trail
 trail-inside zero l h s t = omega arith
 trail-inside (suc n) l h [] t = absurd (false≢true t)
@@ -141,11 +141,11 @@ all-trailed = (
 )
 
 -- what the code finds by the row x is what the rows find that fit
-record Same (x : Behind) (rs : List Row) (bs : List ℕ) : Type 0 where
+record Same (x : Trailing) (rs : List Row) (bs : List ℕ) : Type 0 where
   start : not (empty rs) ≡ (x .fits && trail (x .more) (x .lo) (x .hi) bs)
   more : not (empty rs) ≡ true → moreBytes rs ≡ x .more
 
-same-as : {x y : Behind} {rs qs : List Row} {bs : List ℕ} → x ≡ y → rs ≡ qs → Same y qs bs → Same x rs bs
+same-as : {x y : Trailing} {rs qs : List Row} {bs : List ℕ} → x ≡ y → rs ≡ qs → Same y qs bs → Same x rs bs
 same-as e f h = rw (e, f) h
 
 behind-is : (fs : List Range) → (behind fs .fits ≡ true) × (behind fs .more ≡ length fs)

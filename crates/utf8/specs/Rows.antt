@@ -5,12 +5,14 @@ use mathlib.Core.Bool.{Bool, true, false, cond, _&&_}
 use mathlib.Core.List.{List, [], _∷_}
 use lib.ListN.{length, drop}
 use Rattle.label.specs.Text as T
-use Rattle.utf8.specs.declared.Behind.{Behind}
+use Rattle.utf8.specs.declared.Trailing.{Trailing}
 
-abbrev pub row : ℕ → ℕ → ℕ → Behind
+-- a row with n bytes behind its first, the second from l to h
+abbrev pub row : ℕ → ℕ → ℕ → Trailing
 row n l h = record { fits = true; more = n; lo = l; hi = h }
 
-abbrev pub no-row : Behind
+-- no row has the first byte
+abbrev pub no-row : Trailing
 no-row = record { fits = false; more = 0; lo = 0; hi = 0 }
 
 -- a byte is in the first of the ranges
@@ -19,16 +21,17 @@ inFirst [] b = false
 inFirst (r ∷ rs) b = T.within (r .lo) (r .hi) b
 
 -- what the ranges behind the first say
-abbrev pub behind : List T.Range → Behind
+abbrev pub behind : List T.Range → Trailing
 behind [] = row 0 0 0
 behind (r ∷ rs) = row (suc (length rs)) (r .lo) (r .hi)
 
--- the row that first byte b chooses
-unfoldable pub chosen : List T.Row → ℕ → Behind
+-- the row of some rows that first byte b chooses
+unfoldable pub chosen : List T.Row → ℕ → Trailing
 chosen [] b = no-row
 chosen (r ∷ rs) b = cond (inFirst (r .bytes) b) (behind (drop 1 (r .bytes))) (chosen rs b)
 
-unfoldable pub lead : ℕ → Behind
+-- the row of Table 3-7 that first byte b chooses
+unfoldable pub lead : ℕ → Trailing
 lead b = chosen T.table b
 
 -- the bytes behind the first: so many, the second byte from lo to hi, the others from 80 to BF

@@ -3,40 +3,26 @@ ghost use mathlib.Core.Path.{_≡_};
 ghost use mathlib.Core.Bool.{true, cond};
 ghost use Prim.Native.Nat.{_+_, _*_, _%_, _≤_, _<_};
 ghost use lib.ListN.{length, getD, drop};
-ghost use Rattle.label.specs.Text.{within, scalar, xmlChar};
+ghost use Rattle.label.specs.Text.{scalar, xmlChar};
 ghost use Rattle.utf8.specs.Rows.{lead, trail};
 ghost use Rattle.utf8.specs.Chars.{charAt};
 
-// ── bytes ──
-
-// A byte, or 0 past the end.
-pub fn byte_or_zero(s: &[u8], i: usize) -> u8
-    ensures { λ r. ⌜ r ≡ getD (now (s .entry)) i 0 ⌝ }
-{
-    if i < s.len() { s[i] } else { 0 }
-}
-
 // ── Table 3-7 ──
 
-// lo <= b <= hi
-pub fn is_within(lo: u8, hi: u8, b: u8) -> bool
-    ensures { λ r. ⌜ r ≡ within lo hi b ⌝ }
-{
-    words::both(lo <= b, b <= hi)
-}
-
-// What a row says of the bytes behind a first byte in its range: how many there are, and the range of the second; `fits`: there is such a row.
-pub struct Behind {
+// What a row says of the bytes behind a first byte in its range: how many there are, and the range of the second, 0 and 0 where there is none; `fits`:
+// there is such a row.
+pub struct Trailing {
     pub fits: bool,
     pub more: usize,
     pub lo: u8,
     pub hi: u8,
 }
 
-fn row(more: usize, lo: u8, hi: u8) -> Behind
+// A row with so many bytes behind its first, the second from lo to hi.
+fn row(more: usize, lo: u8, hi: u8) -> Trailing
     ensures { λ r. ⌜ r ≡ record { fits = true; more = more; lo = lo; hi = hi } ⌝ }
 {
-    Behind {
+    Trailing {
         fits: true,
         more,
         lo,
@@ -44,47 +30,47 @@ fn row(more: usize, lo: u8, hi: u8) -> Behind
     }
 }
 
-// The row of Table 3-7 that a first byte chooses: the nine rows, in the table's order. A third and a fourth byte are from 80 to BF in every row.
-fn row_of(b: u8) -> Behind
+// The row of Table 3-7 that a first byte chooses: the nine rows, in the table's order. A third and a fourth byte are from 80 to BF in every row that has one.
+fn row_of(b: u8) -> Trailing
     ensures { λ r. ⌜ r ≡ lead b ⌝ }
 {
     // U+0000..U+007F: 00..7F
-    if is_within(0x00, 0x7f, b) {
+    if words::is_within(0x00, 0x7f, b) {
         return row(0, 0, 0);
     }
     // U+0080..U+07FF: C2..DF, 80..BF
-    if is_within(0xc2, 0xdf, b) {
+    if words::is_within(0xc2, 0xdf, b) {
         return row(1, 0x80, 0xbf);
     }
     // U+0800..U+0FFF: E0, A0..BF, 80..BF
-    if is_within(0xe0, 0xe0, b) {
+    if words::is_within(0xe0, 0xe0, b) {
         return row(2, 0xa0, 0xbf);
     }
     // U+1000..U+CFFF: E1..EC, 80..BF, 80..BF
-    if is_within(0xe1, 0xec, b) {
+    if words::is_within(0xe1, 0xec, b) {
         return row(2, 0x80, 0xbf);
     }
     // U+D000..U+D7FF: ED, 80..9F, 80..BF
-    if is_within(0xed, 0xed, b) {
+    if words::is_within(0xed, 0xed, b) {
         return row(2, 0x80, 0x9f);
     }
     // U+E000..U+FFFF: EE..EF, 80..BF, 80..BF
-    if is_within(0xee, 0xef, b) {
+    if words::is_within(0xee, 0xef, b) {
         return row(2, 0x80, 0xbf);
     }
     // U+10000..U+3FFFF: F0, 90..BF, 80..BF, 80..BF
-    if is_within(0xf0, 0xf0, b) {
+    if words::is_within(0xf0, 0xf0, b) {
         return row(3, 0x90, 0xbf);
     }
     // U+40000..U+FFFFF: F1..F3, 80..BF, 80..BF, 80..BF
-    if is_within(0xf1, 0xf3, b) {
+    if words::is_within(0xf1, 0xf3, b) {
         return row(3, 0x80, 0xbf);
     }
     // U+100000..U+10FFFF: F4, 80..8F, 80..BF, 80..BF
-    if is_within(0xf4, 0xf4, b) {
+    if words::is_within(0xf4, 0xf4, b) {
         return row(3, 0x80, 0x8f);
     }
-    Behind {
+    Trailing {
         fits: false,
         more: 0,
         lo: 0,
@@ -196,6 +182,7 @@ pub fn char_at(s: &[u8], at: usize) -> Char
     requires { ⌜ at < length (now s) ⌝ }
     ensures { λ r. ⌜ r ≡ charAt (now (s .entry)) at ⌝ }
 {
+    // The first row, for speed: most characters are of one byte.
     if s[at] < 0x80 {
         return one_byte(s[at], at + 1);
     }

@@ -1,15 +1,16 @@
-// The leaves that nothing else proves again: truth values, the bits of signed numbers, numbers of a run at a place, little-endian bytes, and bytes
-// stored as far as there is room.
+// The leaves that nothing else proves again: truth values, the bits of signed numbers, numbers of a run at a place, little-endian bytes, bytes looked
+// at, and bytes stored as far as there is room.
 ghost use mathlib.Core.Path.{_≡_};
 ghost use mathlib.Core.Bool.{_&&_, _||_};
 ghost use mathlib.Core.List.{[], _∷_};
 ghost use Prim.Native.Nat.{_+_, _-_, _*_, _/_, _<_, _≤_};
 ghost use lib.IntN.{natAbs};
 ghost use lib.Dec.{eqb};
-ghost use lib.ListN.{length, drop};
+ghost use lib.ListN.{length, getD, drop};
 ghost use mir.Syntax.{w32};
 ghost use mir.Val.{ofZ, toZ};
 ghost use Rattle.label.specs.Bytes.{begins, cut};
+ghost use Rattle.label.specs.Text.{within};
 ghost use Rattle.label.specs.Sound.{natural, choice, nat, size, isFont};
 ghost use Rattle.label.specs.Calls.{filled};
 ghost use Rattle.label.specs.Wire.{fromHalves, fromWords, halves, words};
@@ -189,6 +190,22 @@ pub fn get_u16(buf: &[u8], at: usize) -> u16
     let a = half(buf[at]);
     let b = half(buf[at + 1]);
     a + b * 256
+}
+
+// ── bytes, looked at ──
+
+// A byte, or 0 past the end.
+pub fn byte_or_zero(s: &[u8], i: usize) -> u8
+    ensures { λ r. ⌜ r ≡ getD (now (s .entry)) i 0 ⌝ }
+{
+    if i < s.len() { s[i] } else { 0 }
+}
+
+// lo <= b <= hi
+pub fn is_within(lo: u8, hi: u8, b: u8) -> bool
+    ensures { λ r. ⌜ r ≡ within lo hi b ⌝ }
+{
+    both(lo <= b, b <= hi)
 }
 
 // Where the first byte b from `from` on stands, or the end.

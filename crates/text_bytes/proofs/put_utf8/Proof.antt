@@ -1,6 +1,7 @@
 -- `text_bytes::put_utf8` meets its contract. Assumes nothing.
-use Rattle.text_bytes.proofs.Utf8.{utf-one, utf-two, utf-three, utf-four}
+use Rattle.label.proofs.Rows.{utf8-one, utf8-two, utf8-three, utf8-four}
 use Rattle.words.proofs.Puts.{then, put-as, put-digit}
+use mathlib.Core.Path.{sym}
 use native.Mathlib.Omega.{arith}
 use borrow.Author.Needs.{needs}
 use Rattle.text_bytes.proofs.put_utf8.Statement.{statement}
@@ -16,7 +17,7 @@ same-length : tie.Need-same-length
 same-length c = search needs
 
 returns : tie.Need-returns
-returns c = (put-as (utf-one (c .before .before .before .before .before .before .args .c) (c .before .before .before .before .if1 .taken)) (c .before .before .put-byte .ensures .0), omega arith)
+returns c = (put-as (sym (utf8-one (c .before .before .before .before .before .before .args .c) (c .before .before .before .before .if1 .taken))) (c .before .before .put-byte .ensures .0), omega arith)
 
 add-put-byte : tie.Need-add-put-byte
 add-put-byte c = search needs
@@ -37,7 +38,7 @@ same-length-2 : tie.Need-same-length-2
 same-length-2 c = search needs
 
 returns-2 : tie.Need-returns-2
-returns-2 c = (put-as (utf-two (c .before .before .before .before .before .before .before .before .before .before .before .before .args .c) (c .before .before .before .before .before .before .before .before .before .before .if1 .left) (c .before .before .before .before .before .before .before .before .before .if2 .taken)) (then (c .before .before .before .before .before .before .before .put-byte2 .ensures .0) (put-digit (c .before .before .before .tail-byte .ensures) (c .before .before .put-byte3 .ensures .0))), omega arith)
+returns-2 c = (put-as (sym (utf8-two (c .before .before .before .before .before .before .before .before .before .before .before .before .args .c) (c .before .before .before .before .before .before .before .before .before .before .if1 .left) (c .before .before .before .before .before .before .before .before .before .if2 .taken))) (then (c .before .before .before .before .before .before .before .put-byte2 .ensures .0) (put-digit (c .before .before .before .tail-byte .ensures) (c .before .before .put-byte3 .ensures .0))), omega arith)
 
 add-put-byte-2 : tie.Need-add-put-byte-2
 add-put-byte-2 c = search needs
@@ -64,7 +65,7 @@ same-length-3 : tie.Need-same-length-3
 same-length-3 c = search needs
 
 returns-3 : tie.Need-returns-3
-returns-3 c = (put-as (utf-three (c .before .before .before .before .before .before .before .before .before .before .before .before .before .before .before .before .before .before .args .c) (c .before .before .before .before .before .before .before .before .before .before .before .before .before .before .before .before .if1 .left) (c .before .before .before .before .before .before .before .before .before .before .before .before .before .before .before .if2 .left) (c .before .before .before .before .before .before .before .before .before .before .before .before .before .before .if3 .taken)) (then (c .before .before .before .before .before .before .before .before .before .before .before .before .put-byte4 .ensures .0) (then (put-digit (c .before .before .before .before .before .before .before .before .tail-byte2 .ensures) (c .before .before .before .before .before .before .before .put-byte5 .ensures .0)) (put-digit (c .before .before .before .tail-byte3 .ensures) (c .before .before .put-byte6 .ensures .0)))), omega arith)
+returns-3 c = (put-as (sym (utf8-three (c .before .before .before .before .before .before .before .before .before .before .before .before .before .before .before .before .before .before .args .c) (c .before .before .before .before .before .before .before .before .before .before .before .before .before .before .before .if2 .left) (c .before .before .before .before .before .before .before .before .before .before .before .before .before .before .if3 .taken))) (then (c .before .before .before .before .before .before .before .before .before .before .before .before .put-byte4 .ensures .0) (then (put-digit (c .before .before .before .before .before .before .before .before .tail-byte2 .ensures) (c .before .before .before .before .before .before .before .put-byte5 .ensures .0)) (put-digit (c .before .before .before .tail-byte3 .ensures) (c .before .before .put-byte6 .ensures .0)))), omega arith)
 
 add-put-byte-3 : tie.Need-add-put-byte-3
 add-put-byte-3 c = search needs
@@ -97,7 +98,7 @@ same-length-4 : tie.Need-same-length-4
 same-length-4 c = search needs
 
 returns-4 : tie.Need-returns-4
-returns-4 c = (put-as (utf-four (c .before .before .before .before .before .before .before .before .before .before .before .before .before .before .before .before .before .before .before .before .before .before .before .args .c) (c .before .before .before .before .before .before .before .before .before .before .before .before .before .before .before .before .before .before .before .before .before .if1 .left) (c .before .before .before .before .before .before .before .before .before .before .before .before .before .before .before .before .before .before .before .before .if2 .left) (c .before .before .before .before .before .before .before .before .before .before .before .before .before .before .before .before .before .before .before .if3 .left)) (then (c .before .before .before .before .before .before .before .before .before .before .before .before .before .before .before .before .before .put-byte7 .ensures .0) (then (put-digit (c .before .before .before .before .before .before .before .before .before .before .before .before .before .tail-byte4 .ensures) (c .before .before .before .before .before .before .before .before .before .before .before .before .put-byte8 .ensures .0)) (then (put-digit (c .before .before .before .before .before .before .before .before .tail-byte5 .ensures) (c .before .before .before .before .before .before .before .put-byte9 .ensures .0)) (put-digit (c .before .before .before .tail-byte6 .ensures) (c .before .before .put-byte10 .ensures .0))))), omega arith)
+returns-4 c = (put-as (sym (utf8-four (c .before .before .before .before .before .before .before .before .before .before .before .before .before .before .before .before .before .before .before .before .before .before .before .args .c) (c .before .before .before .before .before .before .before .before .before .before .before .before .before .before .before .before .before .before .before .if3 .left))) (then (c .before .before .before .before .before .before .before .before .before .before .before .before .before .before .before .before .before .put-byte7 .ensures .0) (then (put-digit (c .before .before .before .before .before .before .before .before .before .before .before .before .before .tail-byte4 .ensures) (c .before .before .before .before .before .before .before .before .before .before .before .before .put-byte8 .ensures .0)) (then (put-digit (c .before .before .before .before .before .before .before .before .tail-byte5 .ensures) (c .before .before .before .before .before .before .before .put-byte9 .ensures .0)) (put-digit (c .before .before .before .tail-byte6 .ensures) (c .before .before .put-byte10 .ensures .0))))), omega arith)
 
 pub put-utf8-spec : {M : Type 1} → statement M
 put-utf8-spec =

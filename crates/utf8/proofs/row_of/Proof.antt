@@ -1,7 +1,6 @@
 -- `utf8::row_of` meets its contract. Assumes nothing.
-use Rattle.utf8.proofs.Rows.{by-row}
+use Rattle.utf8.proofs.Rows.{lead-rows, by-row}
 use Rattle.label.specs.Text.{table}
-use Rattle.utf8.specs.Rows.{chosen, lead}
 use mathlib.Core.Path.{sym, _∙_}
 use borrow.Author.Needs.{needs}
 use Rattle.utf8.proofs.row_of.Statement.{statement}
@@ -98,8 +97,7 @@ unfolding table
 returns-9 c = c .row9 .ensures ∙ by-row 8 _ (c .before .before .is-within9 .ensures) (c .before .if9 .taken)
 
 returns-10 : tie.Need-returns-10
-unfolding lead chosen table
-returns-10 c = rw (sym (c .before .before .before .before .before .before .before .before .before .before .before .before .before .before .before .before .before .is-within .ensures) ∙ c .before .before .before .before .before .before .before .before .before .before .before .before .before .before .before .before .if1 .left, sym (c .before .before .before .before .before .before .before .before .before .before .before .before .before .before .before .is-within2 .ensures) ∙ c .before .before .before .before .before .before .before .before .before .before .before .before .before .before .if2 .left, sym (c .before .before .before .before .before .before .before .before .before .before .before .before .before .is-within3 .ensures) ∙ c .before .before .before .before .before .before .before .before .before .before .before .before .if3 .left, sym (c .before .before .before .before .before .before .before .before .before .before .before .is-within4 .ensures) ∙ c .before .before .before .before .before .before .before .before .before .before .if4 .left, sym (c .before .before .before .before .before .before .before .before .before .is-within5 .ensures) ∙ c .before .before .before .before .before .before .before .before .if5 .left, sym (c .before .before .before .before .before .before .before .is-within6 .ensures) ∙ c .before .before .before .before .before .before .if6 .left, sym (c .before .before .before .before .before .is-within7 .ensures) ∙ c .before .before .before .before .if7 .left, sym (c .before .before .before .is-within8 .ensures) ∙ c .before .before .if8 .left, sym (c .before .is-within9 .ensures) ∙ c .if9 .left)
+returns-10 c = rw (lead-rows _, sym (c .before .before .before .before .before .before .before .before .before .before .before .before .before .before .before .before .before .is-within .ensures) ∙ c .before .before .before .before .before .before .before .before .before .before .before .before .before .before .before .before .if1 .left, sym (c .before .before .before .before .before .before .before .before .before .before .before .before .before .before .before .is-within2 .ensures) ∙ c .before .before .before .before .before .before .before .before .before .before .before .before .before .before .if2 .left, sym (c .before .before .before .before .before .before .before .before .before .before .before .before .before .is-within3 .ensures) ∙ c .before .before .before .before .before .before .before .before .before .before .before .before .if3 .left, sym (c .before .before .before .before .before .before .before .before .before .before .before .is-within4 .ensures) ∙ c .before .before .before .before .before .before .before .before .before .before .if4 .left, sym (c .before .before .before .before .before .before .before .before .before .is-within5 .ensures) ∙ c .before .before .before .before .before .before .before .before .if5 .left, sym (c .before .before .before .before .before .before .before .is-within6 .ensures) ∙ c .before .before .before .before .before .before .if6 .left, sym (c .before .before .before .before .before .is-within7 .ensures) ∙ c .before .before .before .before .if7 .left, sym (c .before .before .before .is-within8 .ensures) ∙ c .before .before .if8 .left, sym (c .before .is-within9 .ensures) ∙ c .if9 .left)
 
 pub row-of-spec : {M : Type 1} → statement M
 row-of-spec =
