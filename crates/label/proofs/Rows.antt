@@ -321,43 +321,24 @@ module _ (lo hi i j k m : ℕ) (from : 0xffff < lo) (to : hi ≤ 0x10ffff) (six 
         size = λ c w. ap length (utf8-four c (omega (arith, within-lo lo hi c w)));
       }
 
+-- the law of a row, before those of the rows behind it
+infixr 5 _⨾_
+pub _⨾_ : {A B : Type 0} → A → B → A × B
+x ⨾ xs = (x, xs)
+
 pub laws : Each Law table
 unfolding table
-laws = (
-  one-law,
-  (
-    two-law,
-    (
-      three-law 0x800 0xfff 0 0 32 63 (omega arith) (omega arith) (omega arith) (omega arith) (omega arith)
-          (λ c a b. low-scalar c (omega arith)) (λ c a b. (omega arith, omega arith, omega arith, omega arith)),
-      (
-        three-law 0x1000 0xcfff 1 12 0 63 (omega arith) (omega arith) (omega arith) (omega arith) (omega arith)
-            (λ c a b. low-scalar c (omega arith)) (λ c a b. (omega arith, omega arith, omega arith, omega arith)),
-        (
-          three-law 0xd000 0xd7ff 13 13 0 31 (omega arith) (omega arith) (omega arith) (omega arith) (omega arith)
-              (λ c a b. low-scalar c (omega arith)) (λ c a b. (omega arith, omega arith, omega arith, omega arith)),
-          (
-            three-law 0xe000 0xffff 14 15 0 63 (omega arith) (omega arith) (omega arith) (omega arith) (omega arith)
-                (λ c a b. high-scalar c (omega arith) (omega arith)) (λ c a b. (omega arith, omega arith, omega arith, omega arith)),
-            (
-              four-law 0x10000 0x3ffff 0 0 16 63 (omega arith) (omega arith) (omega arith) (omega arith) (omega arith)
-                  (λ c a b. (omega arith, omega arith, omega arith, omega arith)),
-              (
-                four-law 0x40000 0xfffff 1 3 0 63 (omega arith) (omega arith) (omega arith) (omega arith) (omega arith)
-                    (λ c a b. (omega arith, omega arith, omega arith, omega arith)),
-                (
-                  four-law 0x100000 0x10ffff 4 4 0 15 (omega arith) (omega arith) (omega arith) (omega arith) (omega arith)
-                      (λ c a b. (omega arith, omega arith, omega arith, omega arith)),
-                  tt,
-                ),
-              ),
-            ),
-          ),
-        ),
-      ),
-    ),
-  ),
-)
+laws =
+    one-law
+    ⨾ two-law
+    ⨾ three-law 0x800 0xfff 0 0 32 63 (omega arith) (omega arith) (omega arith) (omega arith) (omega arith) (λ c a b. low-scalar c (omega arith)) (λ c a b. (omega arith, omega arith, omega arith, omega arith))
+    ⨾ three-law 0x1000 0xcfff 1 12 0 63 (omega arith) (omega arith) (omega arith) (omega arith) (omega arith) (λ c a b. low-scalar c (omega arith)) (λ c a b. (omega arith, omega arith, omega arith, omega arith))
+    ⨾ three-law 0xd000 0xd7ff 13 13 0 31 (omega arith) (omega arith) (omega arith) (omega arith) (omega arith) (λ c a b. low-scalar c (omega arith)) (λ c a b. (omega arith, omega arith, omega arith, omega arith))
+    ⨾ three-law 0xe000 0xffff 14 15 0 63 (omega arith) (omega arith) (omega arith) (omega arith) (omega arith) (λ c a b. high-scalar c (omega arith) (omega arith)) (λ c a b. (omega arith, omega arith, omega arith, omega arith))
+    ⨾ four-law 0x10000 0x3ffff 0 0 16 63 (omega arith) (omega arith) (omega arith) (omega arith) (omega arith) (λ c a b. (omega arith, omega arith, omega arith, omega arith))
+    ⨾ four-law 0x40000 0xfffff 1 3 0 63 (omega arith) (omega arith) (omega arith) (omega arith) (omega arith) (λ c a b. (omega arith, omega arith, omega arith, omega arith))
+    ⨾ four-law 0x100000 0x10ffff 4 4 0 15 (omega arith) (omega arith) (omega arith) (omega arith) (omega arith) (λ c a b. (omega arith, omega arith, omega arith, omega arith))
+    ⨾ tt
 
 -- ── the row of a scalar value, and the scalar value of a row ──
 

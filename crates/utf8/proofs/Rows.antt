@@ -14,7 +14,7 @@ use Rattle.label.specs.Bytes.{empty}
 use Rattle.label.specs.Text.{within, Range, Row, _‥_, table, rowFits, fitting, starts, moreBytes, following}
 use Rattle.label.specs.Encoding.{Each}
 use Rattle.label.proofs.Basics.{and-r, cases, within-is, within-lo, within-hi, above-range}
-use Rattle.label.proofs.Rows.{Rising, rising, skips, unfit, fits-first, none-below, alone}
+use Rattle.label.proofs.Rows.{_⨾_, Rising, rising, skips, unfit, fits-first, none-below, alone}
 use Rattle.utf8.specs.Rows.{row, no-row, inFirst, behind, chosen, lead, trail}
 use Rattle.utf8.specs.declared.Trailing.{Trailing}
 
@@ -120,25 +120,17 @@ trailed g n (b ∷ s) = rw (sixes-trail n s)
 
 all-trailed : Each Trailed table
 unfolding table
-all-trailed = (
-  λ s. unfold rowFits trail in refl,
-  (
-    trailed (0x80 ‥ 0xbf) 0,
-    (
-      trailed (0xa0 ‥ 0xbf) 1,
-      (
-        trailed (0x80 ‥ 0xbf) 1,
-        (
-          trailed (0x80 ‥ 0x9f) 1,
-          (
-            trailed (0x80 ‥ 0xbf) 1,
-            (trailed (0x90 ‥ 0xbf) 2, (trailed (0x80 ‥ 0xbf) 2, (trailed (0x80 ‥ 0x8f) 2, tt))),
-          ),
-        ),
-      ),
-    ),
-  ),
-)
+all-trailed =
+    (λ s. unfold rowFits trail in refl)
+    ⨾ trailed (0x80 ‥ 0xbf) 0
+    ⨾ trailed (0xa0 ‥ 0xbf) 1
+    ⨾ trailed (0x80 ‥ 0xbf) 1
+    ⨾ trailed (0x80 ‥ 0x9f) 1
+    ⨾ trailed (0x80 ‥ 0xbf) 1
+    ⨾ trailed (0x90 ‥ 0xbf) 2
+    ⨾ trailed (0x80 ‥ 0xbf) 2
+    ⨾ trailed (0x80 ‥ 0x8f) 2
+    ⨾ tt
 
 -- what the code finds by the row x is what the rows find that fit
 record Same (x : Trailing) (rs : List Row) (bs : List ℕ) : Type 0 where
