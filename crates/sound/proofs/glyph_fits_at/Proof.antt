@@ -35,7 +35,8 @@ both-requires-3 c κs = search needs
 
 returns : tie.Need-returns
 unfolding glyphAt
-returns c = cc
+returns c =
+    rw (c .both3 .ensures, c .before .both2 .ensures, c .before .before .both .ensures, c .before .before .before .offset-fits-at2 .ensures, c .before .before .before .before .offset-fits-at .ensures, c .before .before .before .before .before .advance-fits-at .ensures, c .before .before .before .before .before .before .index-fits-at .ensures)
 
 pub glyph-fits-at-spec : {M : Type 1} → statement M
 glyph-fits-at-spec =
