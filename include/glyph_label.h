@@ -30,9 +30,10 @@
  *                                      v offset
  *
  * Each number of clusters and glyphs is 4 bytes in two's complement. Advances and offsets are in thousandths of the
- * standard's unit, which is a hundredth of an em. Each cluster holds the units and the glyphs next after those of the
- * clusters before it. The code units behind the last entry, the tail, are left to the font: a pair of surrogates is one
- * cluster of 2 units and 1 glyph, every other unit one of 1 and 1.
+ * standard's unit, which is a hundredth of an em, rounded to the nearest whole number, a half to the even one: .0015
+ * and .0025 are 2, -.0025 is -2. Each cluster holds the units and the glyphs next after those of the clusters before
+ * it. The code units behind the last entry, the tail, are left to the font: a pair of surrogates is one cluster of 2
+ * units and 1 glyph, every other unit one of 1 and 1.
  *
  * ANSWERS. `number` is 0 where the call did what it was asked. Else it is the number of a refusal, `place` is its
  * place, the other fields are 0, and no byte of any buffer has changed. A call that succeeds changes exactly the

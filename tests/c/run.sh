@@ -22,7 +22,7 @@ python3 tests/independent/sheets.py "$out" > "$out/sheets.log"
 passed=$("$out/test_calls" "$out/sheet.slb" "$out/sheet.answers")
 checked=$(valgrind -q --error-exitcode=9 "$out/test_calls" "$out/sheet.slb" "$out/sheet.answers" 2000)
 "$out/plotter" '{}flow' '(2:1)192;07,+55.50,,0' 1 2 > "$out/plotter.out"
-"$out/plotter" A '5,.0005,1.5,-1e-4' >> "$out/plotter.out"
+"$out/plotter" A '5,.0005,1.5,-.0015' >> "$out/plotter.out"
 "$out/plotter" AB '(2:2)5' >> "$out/plotter.out" && exit 1
 # U+1F600, a pair: left to the font it is one cluster; an entry without a map is refused at it
 pair=$(printf '\360\237\230\200')

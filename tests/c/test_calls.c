@@ -1,5 +1,5 @@
 /* Tests of the calls of glyph_label.h: labels with their runs and normal writings, refusals that must change nothing,
- * sizes one byte short, left-over bytes, picks, faults, raw values, escaped writings, sheets, pairs left to the
+ * sizes one byte short, left-over bytes, picks, faults, halves, raw values, escaped writings, sheets, pairs left to the
  * font, well-formed UTF-8, and runs, labels, raw values and files from random bytes. Every label that a test reads is
  * also put into a sheet, and every run that is tried is judged by a plain model too.
  *
@@ -550,11 +550,12 @@ static const row rows[] = {
     {"{a", "", 4, 0, 0, 0, 0, 0, 0, {0}, {0}, {0}},
     {"{}{a", "", 0, 0, "{}{a", "", 2, 2, 2, {0x7B, 0x61}, {1, 1, 1, 1}, {FONT, FONT}},
     {"A", "5,-1", 7, 0, 0, 0, 0, 0, 0, {0}, {0}, {0}},
-    {"A", "5,.0005", 0, 0, "A", "5,.001", 1, 1, 1, {0x41}, {1, 1}, {5, 1, 0, 0}},
+    {"A", "5,.0005", 0, 0, "A", "5,0", 1, 1, 1, {0x41}, {1, 1}, {5, 0, 0, 0}},
     {"A", "5,.0004", 0, 0, "A", "5,0", 1, 1, 1, {0x41}, {1, 1}, {5, 0, 0, 0}},
     {"A", "5,1e6", 0, 0, "A", "5,1000000", 1, 1, 1, {0x41}, {1, 1}, {5, 1000000000, 0, 0}},
     {"A", "5,1000000.0004", 0, 0, "A", "5,1000000", 1, 1, 1, {0x41}, {1, 1}, {5, 1000000000, 0, 0}},
-    {"A", "5,1000000.0005", 9, 0, 0, 0, 0, 0, 0, {0}, {0}, {0}},
+    {"A", "5,1000000.0005", 0, 0, "A", "5,1000000", 1, 1, 1, {0x41}, {1, 1}, {5, 1000000000, 0, 0}},
+    {"A", "5,1000000.0006", 9, 0, 0, 0, 0, 0, 0, {0}, {0}, {0}},
     {"A", "065535", 0, 0, "A", "65535", 1, 1, 1, {0x41}, {1, 1}, {FLAT(65535)}},
     {"A", "65536", 8, 0, 0, 0, 0, 0, 0, {0}, {0}, {0}},
     {"AB", "(2:2)5", 14, 0, 0, 0, 0, 0, 0, {0}, {0}, {0}},
@@ -567,6 +568,11 @@ static const row rows[] = {
     {"a\xE1\x80" "A", "5", 2, 1, 0, 0, 0, 0, 0, {0}, {0}, {0}},
     {"ab\x01", "5", 3, 2, 0, 0, 0, 0, 0, {0}, {0}, {0}},
     {"\xEF\xBF\xBE", "5", 3, 0, 0, 0, 0, 0, 0, {0}, {0}, {0}},
+    /* Halves. */
+    {"A", "5,.0015,.0025,-.0025", 0, 0, "A", "5,.002,.002,-.002", 1, 1, 1, {0x41}, {1, 1}, {5, 2, 2, -2}},
+    {"A", "5,,.0005,-.0015", 0, 0, "A", "5,,,-.002", 1, 1, 1, {0x41}, {1, 1}, {5, -1, 0, -2}},
+    {"A", "5,,.0005", 0, 0, "A", "5", 1, 1, 1, {0x41}, {1, 1}, {FLAT(5)}},
+    {"A", "5,1000000.00050001", 9, 0, 0, 0, 0, 0, 0, {0}, {0}, {0}},
     /* Pairs in the tail, and entries without a map at a pair. */
     {GRIN, ";", 13, 1, 0, 0, 0, 0, 0, {0}, {0}, {0}},
     {GRIN, "9", 13, 1, 0, 0, 0, 0, 0, {0}, {0}, {0}},
@@ -861,7 +867,9 @@ static const rounded_row rounded_rows[] = {
     {"A", "5,,,", 0, 0},
     {"ABC", ",+.0004,", 0, 1},
     {"A", "5,1000000.0004", 0, 1},
-    {"A", "5,1000000.0005", 9, 0},
+    {"A", "5,1000000.0005", 0, 1},
+    {"A", "5,1000000.0006", 9, 0},
+    {"A", "5,,.0005", 0, 1},
     {"A", "5,.0005;6", 12, 0},
     {"", "5,.0005;6,12345e-5", 0, 2},
     {"A" GRIN, "5,.0005", 0, 1},
@@ -899,6 +907,69 @@ static void test_all_rounded(size_t n) {
     check(is_reading(a, 0, 0, (uint32_t)n, (uint32_t)n, (uint32_t)n) && a.rounded == 3 * n, "all rounded: %u", a.rounded);
     free(text);
     free(indices);
+}
+
+/* ---- A plain model of rounding ---- */
+
+/* The thousandths of a number by its digits, of which the last ones, 1 at least, count less than a thousandth: the first
+ * of these decides. A 5 with only zeros behind it is a half, which goes to the even neighbour. */
+static uint64_t model_size(const char *digits, size_t n, size_t below) {
+    const char *dropped = digits + (n - below);
+    uint64_t size = 0;
+    for (const char *p = digits; p < dropped; p++)
+        size = 10 * size + (uint64_t)(*p - '0');
+    if (*dropped != '5')
+        return size + (*dropped > '5');
+    return size + (strspn(dropped + 1, "0") + 1 < below || size % 2 == 1);
+}
+
+/* Digits with this many of them behind the point, and the exponent by which the last `below` count less than a thousandth:
+ * without a sign in the advance, with `-` in the u offset, with `+` in the v offset. */
+static void test_digits(const char *digits, size_t n, size_t below, size_t behind) {
+    int exponent = (int)behind - (int)below - 3;
+    char number[32], indices[100];
+    int length = sprintf(number, "%.*s%s%s", (int)(n - behind), digits, behind ? "." : "", digits + (n - behind));
+    if (exponent != 0)
+        sprintf(number + length, exponent % 2 ? "e%d" : "E%+03d", exponent);
+    length = sprintf(indices, "5,%s,-%s,+%s", number, number, number);
+    uint64_t size = model_size(digits, n, below);
+    uint8_t *i = new_input(indices, (size_t)length);
+    run r;
+    glyph_label_reading a = read_into(indices, (const uint8_t *)"A", 1, i, (size_t)length, 2, 8, 16, &r);
+    if (size > 1000000000)
+        check(is_reading(a, 9, 0, 0, 0, 0), "%s: %u", indices, a.number);
+    else
+        check(is_reading(a, 0, 0, 1, 1, 1) && get_number(r.glyphs + 4) == (int32_t)size && get_number(r.glyphs + 8) == -(int32_t)size
+                  && get_number(r.glyphs + 12) == (int32_t)size && a.rounded == (strspn(digits + (n - below), "0") == below ? 0 : 3),
+              "%s: %u, or not %u", indices, a.number, (unsigned)size);
+    free_run(&r);
+    free(i);
+}
+
+/* A size of so many digits, with a half behind it, with what is next to a half and with what is far from it, and with
+ * every count of digits behind the point: of all of these every step-th. */
+static void test_ends(uint64_t size, size_t kept, size_t below, size_t step) {
+    static const char *const ends[] = {"500000000000000000", "499999999999999999", "500000000000000001", "000000000000000000", "999999999999999999"};
+    static size_t count;
+    for (size_t k = 0; k < sizeof ends / sizeof ends[0]; k++) {
+        char digits[40];
+        size_t n = kept == 0 && size == 0 ? 0 : (size_t)sprintf(digits, "%0*llu", (int)kept, (unsigned long long)size);
+        if (n != kept)
+            return;
+        n += (size_t)sprintf(digits + n, "%.*s%c", (int)below - 1, ends[k], below == 1 ? ends[k][0] : ends[k][17]);
+        for (size_t behind = 0; behind <= n; behind++)
+            if (count++ % step == 0)
+                test_digits(digits, n, below, behind);
+    }
+}
+
+/* Every count of digits, and every one of them the first below a thousandth. */
+static void test_halves(size_t step) {
+    static const uint64_t sizes[] = {0, 1, 2, 3, 9, 10, 99, 998, 999999998, 999999999, 1000000000, 1000000001, 99999999999999999};
+    for (size_t n = 1; n <= 18; n++)
+        for (size_t below = 1; below <= n; below++)
+            for (size_t k = 0; k < sizeof sizes / sizeof sizes[0]; k++)
+                test_ends(sizes[k], n - below, below, step);
 }
 
 /* ---- A plain model of resolving ---- */
@@ -2333,6 +2404,7 @@ static void test_known(int full) {
     test_beyond();
     test_rounded();
     test_all_rounded(4096);
+    test_halves(full ? 1 : 97);
     test_raw_rows();
     test_references(full ? 1 : 199);
     test_small_raw(full);

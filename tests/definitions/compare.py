@@ -75,12 +75,12 @@ def theorem(labels, values, sheets, specs):
     def part(start, end):
         return text[text.index(start):text.index(end)]
 
-    head = text[:text.index('-- ── document 01, labels 1 to 11 ──')].replace('use lib.IntN.{ℤ, pos}', 'use lib.IntN.{ℤ, pos, negsuc}')
     return ''.join([
-        head,
+        text[:text.index('-- ── document 01, labels 1 to 11 ──')],
         rows_of('documentRows', 'LabelRow', [row(l) for l in labels]),
         rows_of('standardRows', 'LabelRow', []),
         rows_of('tailRows', 'LabelRow', []),
+        rows_of('halfRows', 'LabelRow', []),
         part('-- a label and the count that is returned for it', '-- a row for each way to count'),
         rows_of('roundedRows', 'RoundedRow', [counted(l) for l in labels]),
         part('-- a raw value and what it resolves to', '-- a row for each way to resolve'),
@@ -130,4 +130,5 @@ def main():
           f' and {len(sheets)} sheets ({sum("no" in s["answer"] for s in sheets)} refused)')
 
 
-main()
+if __name__ == '__main__':
+    main()

@@ -34,7 +34,7 @@ LARGE_COUNTS = [n.encode() for n in (
 BAD_ENTRIES = NOT_WELL_FORMED + '''
     65536 065536 70000 99999999999999999999 4294967296 4294967301 18446744073709551621 (0)70000 (9)65536 70000,1e9
     5,1e9 5,1e001 5,1e+000 5,0e100 5,0000000000000000001 5,.0000000000000000001 5,1.000000000000000000 5,1e99 (0)5,1e9
-    5,1000000.0005 5,,1000000.001 5,,-1000000.0005 5,,,1e7 5,1,1,-1E+07
+    5,1000000.0006 5,,1000000.001 5,,-1000000.0006 5,,,1e7 5,1,1,-1E+07
     (0)5 (00)5 (0:1)5 (1:0)5 (0:0)5 (1:000)5 (2:0)5 (9)5'''.encode().split() \
     + [pattern % count for count in LARGE_COUNTS for pattern in (b'(%s)5', b'(1:%s)5')]
 
@@ -257,6 +257,70 @@ def tail_edges():
         for text, a, tail in ((pairs, 2, 2047), (b'A' + pairs[4:] + b'B', 1, 2048)):
             yield text, b'(%d:%d)9' % (a, glyphs - tail) + b';6' * (glyphs - tail - 1)
 
+# Whole thousandths below a half, even and odd in turn. The limit's half is the largest number that is accepted.
+LIMIT = labels.Limits.THOUSANDTHS
+WHOLE_BELOW = 0, 1, 2, 9, 10, 99, LIMIT - 2, LIMIT - 1
+
+def half_shapes():
+    """Every shape of a number that can be an exact half of a thousandth: its count of digits, up to 18, how many of these are
+    behind the point, the exponent, and how many count less than a thousandth. Of the latter the first is the 5."""
+    for f, e in product(range(19), range(-99, 100)):
+        lower = f - e - 3
+        for count in range(max(1, f, lower), 19) if lower > 0 else ():
+            yield count, f, e, lower
+
+def fitting(wholes, shape):
+    """Those of the whole thousandths that the shape has digits for."""
+    count, _, _, lower = shape
+    return [whole for whole in wholes if whole < 10 ** (count - lower)]
+
+def exponents(e):
+    """Spellings of an exponent."""
+    signs = ('-',) if e < 0 else ('', '+') if e else ('', '+', '-')
+    spelled = [mark + sign + digits for mark in 'eE' for sign in signs for digits in (str(abs(e)), f'{abs(e):02}')]
+    return spelled if e else [''] + spelled
+
+def around_half(shape, whole, steps, turn):
+    """The number of that shape that is a half above the whole thousandths, or so many steps of its last place away from it.
+    The spellings of the exponent take turns."""
+    count, f, e, lower = shape
+    m, spelled = whole * 10 ** lower + 10 ** lower // 2 + steps, exponents(e)
+    return in_digits(str(m).rjust(count, '0'), f, 0) + spelled[turn % len(spelled)]
+
+def in_fields(numbers, turn):
+    """A label with one of three numbers in each field. Fields and signs take turns, signs more slowly, so that in each field
+    each sign meets halves above even and odd thousandths."""
+    signs = ('', '+')[turn // 72 % 2], ('-', '', '+')[turn // 6 % 3], ('-', '-', '+', '')[turn // 18 % 4]
+    fields = [sign + numbers[(turn + k) % 3] for k, sign in enumerate(signs)]
+    return b'A', ('5,' + ','.join(fields)).encode()
+
+def half_edges():
+    """Change request 6: halves in every shape, above even and odd thousandths and above the limit, and the numbers next to
+    them; values that a half makes 0."""
+    for turn, shape in enumerate(half_shapes()):
+        wholes, slow = fitting(WHOLE_BELOW, shape), turn // 6                   # exponents take turns as slowly as signs
+        wholes = [wholes[(turn + k) % len(wholes)] for k in range(3)]
+        yield in_fields([around_half(shape, whole, 0, slow + k) for k, whole in enumerate(wholes)], turn)
+        yield in_fields([around_half(shape, whole, steps, slow) for whole, steps in zip(wholes, (-1, 1, 0))], turn)
+        if fitting([LIMIT], shape):
+            half, below = (around_half(shape, LIMIT, steps, slow) for steps in (0, -1))
+            yield in_fields([half, half, below], turn)
+            above = ((LIMIT, 1), (LIMIT + 1, -1), (LIMIT + 1, 0), (LIMIT + 1, 1), (LIMIT + 2, 0))[turn % 5]
+            yield in_fields([half, around_half(shape, *above, slow), below], turn)
+    for number in '''
+            1000000.0005 1000000.00050000000 1000000.000500000000 1000000.00050000001 1000000.0006 01000000.0005
+            00000001000000.0005 000000001000000.00050 1.0000000005E+06 .10000000005e7 10000000005e-4 100000000050000000e-11
+            1000000000500000000e-12 999999.9985 999999.9995'''.split():
+        for before, after in (('5,', ''), ('5,,-', ''), ('5,,,+', ''), ('5;6,', ';7'), ('(1:2)5;6,,', '')):
+            yield b'ABC', (before + number + after).encode()
+    for text, indices in (
+            ('A', '5,.0005 5,,.0005 5,,-.0005 5,,,-.0005 5,,.0005,-.0005 5,.0015,-.0015,.0015 5,.0025,-.0025,.0025 5,,.0015,.0005'),
+            ('A', ',.0005 ,,.0005 ,,-.0005,+.0005 ,,.0015 ,,,-.0025 (1:2)5,,.0005;6,.0005 (1:2)5,.0015;6,,,-.0005'),
+            ('AB', ',,.0005;,,-.0005 5;,,.0005 ,,.0005;5 5;,.0005 ,,.0015;,,.0005 (2)5,,.0005,-.0005 (2:2)5,.0025;6,,.0005'),
+            ('', '5,,.0005;6,.0005 5,.0015;6,,-.0025'), ('A' + GRIN, ',,.0005 ,,.0015 ,.0005 5,,,-.0005 5;(2)6,,.0005')):
+        for one in indices.split():
+            yield text.encode(), one.encode()
+
 def base_edges():
     for part in (slips, text_edges, entry_edges, number_edges, count_edges, size_edges):
         yield from part()
@@ -265,6 +329,7 @@ def label_edges():
     yield from base_edges()
     yield from rounding_edges()
     yield from tail_edges()
+    yield from half_edges()
 
 def line_edges():
     """Labels whose lines are at and above the limits of the programs."""

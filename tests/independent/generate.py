@@ -65,12 +65,13 @@ def decimal(rng, m, power):
     return spelled
 
 def spelling(rng, size):
-    """Some spelling of a size in thousandths, often with digits that rounding takes away."""
+    """Some spelling of a size in thousandths, often with digits that rounding takes away; a half goes to an even size only."""
     if rng.random() < .3:
         return labels.write_value(size)
     extra = rng.randint(0, 17 - len(str(size))) if rng.random() < .5 else 0
     half = 10 ** extra // 2
-    noise = rng.choice((0, half - 1, -half, rng.randint(-half, half - 1))) if half else 0
+    most = half if size % 2 == 0 else half - 1
+    noise = max(-most, rng.choice((0, most, -most, rng.randint(-half, half - 1)))) if half else 0
     return decimal(rng, max(0, size * 10 ** extra + noise), -3 - extra)
 
 def near_whole(rng):
@@ -543,7 +544,7 @@ def label_pool():
     rng = Random(0)
     pool = {number: [label for label in group if sum(map(len, label)) < 20_000] for number, group in edges.ANSWERED.items()}
     parts = edges.slips, edges.text_edges, edges.entry_edges, edges.rounding_edges, edges.tail_edges
-    fixed = [label for part in parts for label in part()]
+    fixed = [label for part in parts for label in part()] + list(edges.half_edges())[::7]       # of these many a seventh
     draw = chooser(rng, {kind: made for kind, made in LABEL_KINDS.items() if kind != 'large'})
     for label in dict.fromkeys(rng.sample(fixed, 1500) + [draw()[1] for _ in range(1500)]):
         group = pool[sheets.answer_to(*label)[0]]

@@ -3,8 +3,8 @@
 A plain reference to test other implementations with; each function quotes the words it implements.
 An answer is ('ok', ...) or ('no', number, place).
 
-CR 4 of document 02 changes document 01 in the unwritten tail, in soundness and in what the normal writing drops.
-Words quoted behind "CR 4" are its own.
+CR 4 of document 02 changes document 01 in the unwritten tail, in soundness and in what the normal writing drops;
+CR 6 changes what a half rounds to. Words quoted behind "CR 4" or "CR 6" are the request's own.
 """
 
 import re
@@ -133,19 +133,24 @@ def read_entry(entry):
     return Entry(counts, None if index is None else whole(index), numbers + [None] * (3 - len(numbers)))
 
 # "With m the digits before any exponent, read as one whole number, f the count of those behind the point and e
-# the exponent, the value is m * 10^(e - f) * 1000, rounded to the nearest whole number, a half going away from
-# zero; then the sign."
+# the exponent, the value is m * 10^(e - f) * 1000, rounded to the nearest whole number, [...]; then the sign."
+# CR 6, in place of "a half going away from zero": "Halves go to the even neighbour. [...] `.0005` now reads as 0,
+# `.0015` as 2, `.0025` as 2".
 def thousandths(number):
     m = int(number.before + number.behind)
     power = int(number.exponent_sign + (number.exponent or b'0')) - len(number.behind) + 3
     if power >= 0:
         value = m * 10 ** power
     else:
-        value = (2 * m + 10 ** -power) // (2 * 10 ** -power)
+        divisor = 10 ** -power
+        value, rest = divmod(m, divisor)
+        if 2 * rest > divisor or (2 * rest == divisor and value % 2 == 1):
+            value += 1
     return -value if number.sign == b'-' else value
 
 # "above 18 digits before the exponent, above 2 in it, or size above 1,000,000,000 thousandths"; "Leading zeros
-# count as digits."
+# count as digits." The size is that of the rounded value. CR 6: "`1000000.0005` is accepted as 1,000,000,000;
+# `1000000.0006` is refused with 9."
 def above_limits(number):
     return (len(number.before + number.behind) > Limits.DIGITS or len(number.exponent) > Limits.EXPONENT_DIGITS
             or abs(thousandths(number)) > Limits.THOUSANDTHS)

@@ -58,7 +58,9 @@ def rows(seed, count):
     accepted = max(0, count - sum(share.values()))
     share['tail'] = (accepted + 3) // 4
     share.update({('ok', rounded): (accepted + rounded) // 4 for rounded in range(3)})
-    fixed = [label for label in edges.label_edges() if sum(map(len, label)) < BYTES]
+    some_halves = itertools.islice(edges.half_edges(), 0, None, 151)        # all would crowd out other rounded fields
+    every = itertools.chain(edges.base_edges(), edges.rounding_edges(), edges.tail_edges(), some_halves)
+    fixed = [label for label in every if sum(map(len, label)) < BYTES]
     rng.shuffle(fixed)
     draw = generate.chooser(rng, {kind: made for kind, made in generate.LABEL_KINDS.items() if kind != 'large'})
     seen = set()

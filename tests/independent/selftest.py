@@ -6,11 +6,13 @@ non-zero on any failure.
 
 import argparse
 import itertools
+import math
 import re
 import struct
 import sys
 from collections import Counter
-from decimal import ROUND_HALF_UP, Context, Decimal
+from decimal import ROUND_HALF_EVEN, Context, Decimal
+from fractions import Fraction
 from random import Random
 from xml.parsers import expat
 
@@ -67,11 +69,11 @@ def paper_labels():
     accepted(g, '{}{a', '', [(1, 1)] * 2, [FONT] * 2, ('{}{a', ''))
     check(g, labels.read(b'{}{a', b'')[1].units == [0x7B, 0x61])
     refused(g, 'A', '5,-1', 7)
-    accepted(g, 'A', '5,.0005', [(1, 1)], [(5, 1, 0, 0)], '5,.001')
-    accepted(g, 'A', '5,.0004', [(1, 1)], [(5, 0, 0, 0)], '5,0')
-    for number in ('1e6', '1000000.0004'):
+    for number in ('.0005', '.0004'):                                   # document 02: "Labels 6 and 7 change to match"
+        accepted(g, 'A', '5,' + number, [(1, 1)], [(5, 0, 0, 0)], '5,0')
+    for number in ('1e6', '1000000.0004', '1000000.0005'):
         accepted(g, 'A', '5,' + number, [(1, 1)], [(5, 10 ** 9, 0, 0)], '5,1000000')
-    refused(g, 'A', '5,1000000.0005', 9)
+    refused(g, 'A', '5,1000000.0006', 9)
     accepted(g, 'A', '065535', [(1, 1)], named(65535), '65535')
     refused(g, 'A', '65536', 8)
     refused(g, 'AB', '(2:2)5', 14, 0)
@@ -85,7 +87,9 @@ def paper_labels():
             (b'A', b'ok 1 1 1\nA\n\n'), (b'A\xf0\x9f\x98\x80', b'ok 3 2 2\nA\xf0\x9f\x98\x80\n\n'),
             (b'A\xf0\x9f\x98\x80\n;', b'no 13 2\n'), (b'\n5', b'ok 0 1 1\n\n5\n'), (b'A\r\n5', b'ok 2 2 2\nA\r\n5\n'),
             (b'A\n5\r', b'no 7 0\n'), (b'\xff\n' + b'5' * 32769, b'no 1 0\n'), (b'\xff\n' + b'5' * 32768, b'no 2 0\n'), (b'A' * 16385, b'no 1 0\n'),
-            (b'A\n' + b'0' * 32767 + b'5', b'ok 1 1 1\nA\n5\n'), (b'A\n' + b'0' * 32768 + b'5', b'no 1 0\n')):
+            (b'A\n' + b'0' * 32767 + b'5', b'ok 1 1 1\nA\n5\n'), (b'A\n' + b'0' * 32768 + b'5', b'no 1 0\n'),
+            (b'A\n5,.0005', b'ok 1 1 1\nA\n5,0\n'), (b'A\n5,,.0005', b'ok 1 1 1\nA\n5\n'), (b'A\n5,.0015,-.0025', b'ok 1 1 1\nA\n5,.002,-.002\n'),
+            (b'A\n5,1000000.0005', b'ok 1 1 1\nA\n5,1000000\n'), (b'A\n5,1000000.0006', b'no 9 0\n')):
         for more in ((b'', b'\n', b'\nthird', b'\n\n\n') if b'\n' in stdin else (b'', b'\n', b'\n\n', b'\n\nthird')):
             check('relabel', labels.relabel(stdin + more) == stdout, stdin[:40], more, labels.relabel(stdin + more), stdout)
 
@@ -171,12 +175,13 @@ def choices_of_rounding():
             # a cluster's further glyphs count
             ('A', '(1:3)5,.0005;6,1e-4,1.0000;7,,.0004,-.0005', 4), ('A', '(1:2)5;6,.0005', 1), ('AB', '(2:2)5,1;6,1,.0005', 1),
             ('', '5,.0005;6,1;7,.0001', 2), (GRIN, '(2)5,.0005', 1), ('A' + GRIN, '5,.0005', 1), (GRIN * 2, '(2)5,1,.0005,1e-4', 2),
+            ('A', '5,1000000.0005', 1), ('A', '5,.0005,1000000.0005', 2), ('A', '5,1000000.0005,,-1000000.0005', 2),
             (GRIN, '', 0), ('A' * 4096, ';'.join(['5,.0001,.0001,.0001'] * 4096), 12288)):
         counted(text, indices, count)
     for number, text, indices in (
             (1, 'A' * 16385, '5,.0005'), (2, b'\xff', '5,.0005'), (3, '\1', '5,.0005'), (4, '{A', '5,.0005'), (5, 'A' * 4097, '5,.0005'),
             (6, '', ''), (7, 'AB', '5,.0005;x'), (7, 'A', '5,.0005,x'), (7, 'A', '5,-.0005'), (8, 'AB', '5,.0005;65536'), (8, 'A', '65536,.0005'),
-            (9, 'A', '5,1000000.0005'), (9, 'A', '5,.0005,1000000.0005'), (9, 'A', '5,1000000.0005,.0005'), (9, 'A', '5,1000000.0004,,-1e7'),
+            (9, 'A', '5,1000000.0006'), (9, 'A', '5,.0005,1000000.0006'), (9, 'A', '5,1000000.0006,.0005'), (9, 'A', '5,1000000.0004,,-1e7'),
             (9, 'AB', '5,.0005;6,1e99'), (9, 'A', '5,1e-100'), (9, 'A', '5,.' + '0' * 18 + '1'), (9, 'A', '5,1e-4,1e-004'), (10, 'A', '(0)5,.0005'),
             (10, 'AB', '5,.0005;(1:0)5'), (11, 'A', '(1:2)5,.0005;,.0005'), (11, '', ',.0005'), (12, 'A', '5,.0005;6,.0005'),
             (12, 'A', '(2)5,.0005'), (13, GRIN, '5,.0005'), (13, 'A' + GRIN, '5,.0005;'), (14, 'A', '(1:2)5,.0005'),
@@ -188,7 +193,51 @@ def choices_of_rounding():
         answer = labels.read_into(b'ABC', indices, *sizes)
         check(g, (answer[1] if answer[0] == 'no' else None) == number and labels.rounded(indices, answer) == count, sizes, answer)
     # no part of the run
-    check(g, labels.read(b'A', b'5,.0005,,1e-4') == labels.read(b'A', b'5,.001'))
+    check(g, labels.read(b'A', b'5,.0005,,1e-4') == labels.read(b'A', b'5,0'))
+
+def choices_of_halves():
+    """A number's thousandths and their normal writing, in each field and with each sign; None for 9. Each accepted one is one rounded field."""
+    g = 'choices: halves'
+    for number, value, normal in (
+            # the examples of document 02
+            ('.0005', 0, '0'), ('.0015', 2, '.002'), ('.0025', 2, '.002'), ('1000000.0005', 10 ** 9, '1000000'), ('1000000.0006', None, ''),
+            # the neighbour above, or that below
+            ('.0035', 4, '.004'), ('.0045', 4, '.004'), ('.0095', 10, '.01'), ('.0105', 10, '.01'), ('.0995', 100, '.1'), ('.1005', 100, '.1'),
+            ('.9985', 998, '.998'), ('.9995', 1000, '1'), ('1.0005', 1000, '1'), ('1.0015', 1002, '1.002'), ('54.9995', 55000, '55'),
+            ('999999.9985', 10 ** 9 - 2, '999999.998'), ('999999.9995', 10 ** 9, '1000000'),
+            # no half
+            ('.00049999', 0, '0'), ('.00050001', 1, '.001'), ('.00149999', 1, '.001'), ('.00150001', 2, '.002'), ('.00249999', 2, '.002'),
+            ('.00250001', 3, '.003'), ('.000500000000000001', 1, '.001'), ('.002499999999999999', 2, '.002'),
+            ('.002500000000000001', 3, '.003'), ('.0014', 1, '.001'), ('.0016', 2, '.002'), ('.0024', 2, '.002'), ('.0026', 3, '.003'),
+            # the limit
+            ('1000000.00049999', 10 ** 9, '1000000'), ('1000000.00050001', None, ''), ('1000000.00050000000', 10 ** 9, '1000000'),
+            ('1000000.00050000001', None, ''), ('1000000.000500000000', None, ''), ('1000000.001', None, ''), ('1000000.0015', None, ''),
+            ('1000000.0014', None, ''), ('1000000.0025', None, ''),
+            # other spellings
+            ('5e-4', 0, '0'), ('15e-4', 2, '.002'), ('25E-04', 2, '.002'), ('.5e-3', 0, '0'), ('.00015e1', 2, '.002'),
+            ('.000000000000025e+11', 2, '.002'), ('00000000000000.0015', 2, '.002'), ('0.00250000000000000', 2, '.002'),
+            ('500000000000000000e-21', 0, '0'), ('150000000000000000E-20', 2, '.002'), ('250000000000000000e-20', 2, '.002'),
+            ('.000000000000000005e14', 0, '0'), ('.000000000000000015e+14', 2, '.002'), ('.000000000000000025E14', 2, '.002'),
+            ('10000000005e-4', 10 ** 9, '1000000'), ('.10000000005e7', 10 ** 9, '1000000'), ('.10000000006e7', None, ''),
+            ('100000000050000000e-11', 10 ** 9, '1000000'), ('100000000050000001e-11', None, '')):
+        for at, signs in enumerate((('', '+'), ('', '+', '-'), ('', '+', '-'))):
+            for sign in signs:
+                indices, record = '5' + ',' * (at + 1) + sign + number, [5, -1, 0, 0]
+                if value is None:
+                    refused(g, 'A', indices, 9)
+                    continue
+                record[at + 1] = -value if sign == '-' else value
+                shown = ('-' if sign == '-' and value else '') + normal
+                accepted(g, 'A', indices, [(1, 1)], [tuple(record)], '5' + (',' * (at + 1) + shown if value or at == 0 else ''))
+                check(g, labels.rounded(indices.encode(), labels.read(b'A', indices.encode())) == 1, indices)
+    # an offset that is 0 is not written, an advance that is 0 is; either was rounded
+    for indices, same, count in (
+            ('5,,.0005', '5', 1), ('5,,,-.0005', '5', 1), ('5,,-.0005,.0005', '5', 2), ('5,.0005', '5,0', 1), ('5,.0005,.0005,.0005', '5,0', 3),
+            ('5,,.0015', '5,,.002', 1), ('5,,.0015', '5,,.0025', 1), ('5,,-.0015', '5,,-.0025', 1), ('5,.0015', '5,.0025', 1),
+            (',,.0005', ',', 1), (',.0005', ',0', 1), (',,.0005,-.0015', ',,,-.002', 2)):
+        answer = labels.read(b'A', indices.encode())
+        check(g, answer[0] == 'ok' and answer == labels.read(b'A', same.encode()), indices, same, answer)
+        check(g, labels.rounded(indices.encode(), answer) == count, indices, count)
 
 def choices_of_runs():
     g, five = 'choices: runs', [5, -1, 0, 0]
@@ -321,9 +370,10 @@ def choices_of_equality():
     """Indices in groups: within one the runs are equal and so are the normal writings, across groups neither are; `_` is a pair."""
     g = 'choices: equal runs, equal bytes'
     for text, *groups in (
-            ('AB_', ['', ';', ',', ';,', ',;', ',,;,,,', ',,-0;,,.0004'], ['5', '5;', '05;,', '(1)5;', '5,,0'],
-             [';5', ',;5', ';(1:1)5,,'], [',0', ',.0004;'], [';,0'], [',,.0005', ',,.001;'], [';;(2)9', ',;,;(2:1)09'], [';(3)9'],
-             ['(2)9'], ['(4)9'], ['5;6;(2)9']),
+            ('AB_', ['', ';', ',', ';,', ',;', ',,;,,,', ',,-0;,,.0004', ',,.0005', ',,-.0005;,,,.0005'],
+             ['5', '5;', '05;,', '(1)5;', '5,,0', '5,,.0005', '5;,,,-.0005'], [';5', ',;5', ';(1:1)5,,'], [',0', ',.0004;', ',.0005'],
+             [';,0'], [',,.001;', ',,.00050001'], [',,.002', ',,.0015', ',,.0025;,'], [',,-.002', ',,-.0015', ',,-.0025'],
+             [';;(2)9', ',;,;(2:1)09'], [';(3)9'], ['(2)9'], ['(4)9'], ['5;6;(2)9']),
             ('_', [''], ['(2)9', '(2:1)9', '(02)09,,,'], ['(2)9,0'], ['(2:2)9;9'], ['(2)0']),
             ('__', [''], ['(2)9', '(2)9,'], ['(2)9;(2)9'], ['(4)9'], ['(2:2)9;9']),
             ('_A', [''], ['(2)9', '(2)9;', '(2)9;,,'], ['(2)9;5'], ['(2)9;,0'], ['(3)9']),
@@ -581,18 +631,47 @@ def grammar():
             check('grammar of short entries', well_formed == (entry.fullmatch(text) is not None), text)
 
 def rounding(rng, count):
-    """Values, and whether they are exact, against the decimal module; its ROUND_HALF_UP takes a half away from zero."""
+    """Values, and whether they are exact, against the decimal module; its ROUND_HALF_EVEN takes a half to the even neighbour."""
     context = Context(prec=300)
     numbers = [indices.split(b',')[-1] for _, indices in itertools.chain(edges.number_edges(), edges.rounding_edges())]
+    numbers += [field for _, indices in edges.half_edges() for entry in indices.split(b';') for field in entry.split(b',')[1:]]
     numbers += [generate.number_label(rng)[1].split(b',')[-1] for _ in range(count)]
     numbers += [generate.near_whole(rng).encode() for _ in range(count)]
     for field in numbers:
         number = labels.read_number(labels.OFFSET, field)
         if number and len(number.exponent) <= 3:
             exact = Decimal(field.decode()).scaleb(3, context)
-            rounded = int(exact.quantize(Decimal(1), ROUND_HALF_UP, context))
+            rounded = int(exact.quantize(Decimal(1), ROUND_HALF_EVEN, context))
             check('rounding against decimal', labels.thousandths(number) == rounded, field)
             check('exact against decimal', labels.is_whole(field) == (exact == rounded), field)
+
+def nearest(exact):
+    """The nearest whole number, of two as near the even one."""
+    below = math.floor(exact)
+    return min(below, below + 1, key=lambda whole: (abs(exact - whole), whole % 2))
+
+def halves():
+    """Halves above even and odd thousandths of every count of digits, in every shape, and the numbers next to them, against
+    fractions: the value, that with a minus, and around the limit the label with both."""
+    around_limit = [10 ** 9 + more for more in range(-2, 3)]
+    wholes = [0, *around_limit] + [10 ** digits - less for digits in range(1, 18) if digits != 9 for less in (1, 2)]
+    for turn, shape in enumerate(edges.half_shapes()):
+        for whole, steps in itertools.product(edges.fitting(wholes, shape), (-1, 0, 1)):
+            field, middle = edges.around_half(shape, whole, steps, turn + whole).encode(), whole + Fraction(1, 2)
+            exact = Fraction(field.decode()) * 1000
+            check('halves, or next to them', (exact > middle) - (exact < middle) == steps, field, whole, steps)
+            value, plus, minus = nearest(exact), *(labels.read_number(labels.OFFSET, sign + field) for sign in (b'', b'-'))
+            check('halves against fractions', labels.thousandths(plus) == value, field, value)
+            check('halves with a minus', labels.thousandths(minus) == -value, field, value)
+            if whole in around_limit:
+                answer = labels.read(b'A', b'5,%s,-%s' % (field, field))
+                expected = ('ok', [(5, value, -value, 0)]) if value <= 10 ** 9 else ('no', 9, 0)
+                check('halves around the limit', (('ok', answer[1].glyphs) if answer[0] == 'ok' else answer) == expected, field, answer)
+
+def parity_below_half(field):
+    """0 or 1, of the whole thousandths below, where the number is an exact half; else None."""
+    exact = abs(Fraction(field.decode())) * 1000
+    return math.floor(exact) % 2 if exact.denominator == 2 else None
 
 def has_lower_digit(number):
     """Whether a digit that isn't 0 counts less than a thousandth."""
@@ -628,6 +707,9 @@ def round_trips(rng, count):
             checks['labels accepted, with rounded fields'] += rounded > 0
             numbers = [number for entry in labels.split_entries(indices) for number in labels.read_entry(entry).numbers if number]
             check('rounded fields against digits', rounded == sum(map(has_lower_digit, numbers)), text, indices, rounded)
+            parities = {parity_below_half(field) for entry in indices.split(b';') for field in entry.split(b',')[1:] if field}
+            checks['labels accepted, with halves above even numbers'] += 0 in parities
+            checks['labels accepted, with halves above odd numbers'] += 1 in parities
             counts = sum(a for a, b in run.clusters), sum(b for a, b in run.clusters)
             check('every unit and glyph in one cluster', counts == (len(run.units), len(run.glyphs)), text, indices)
             tail, glyphs, characters = tail_by_decoder(run, len(labels.split_entries(indices)))
@@ -644,7 +726,8 @@ def round_trips(rng, count):
             check('written back unchanged', labels.write(*labels.flat(labels.read(*normal[1:])[1])) == normal, text, indices)
     for _ in range(count):
         run = rng.choice((generate.sound_run, generate.sound_run, generate.tail_run))(rng)
-        check('written any way, read as the run', labels.flat(labels.read(*generate.spelled_label(rng, run))[1]) == run, run)
+        answer = labels.read(*generate.spelled_label(rng, run))
+        check('written any way, read as the run', answer[0] == 'ok' and labels.flat(answer[1]) == run, run, answer)
     makers = (generate.sound_run, generate.nearly_run, generate.nearly_run, generate.random_run, generate.tail_run,
               generate.nearly_tail_run, generate.random_tail_run)
     drawn = (rng.choice(makers)(rng) for _ in range(2 * count))
@@ -860,10 +943,10 @@ def main():
     parser.add_argument('--count', type=int, default=5000)
     options = parser.parse_args()
     rng = Random(options.seed)
-    for part in (paper_labels, standard_examples, choices_of_text, choices_of_entries, choices_of_rounding, choices_of_runs,
-                 choices_of_tails, choices_of_tail_runs, choices_of_tail_picks, choices_of_equality, choices_of_writing,
-                 choices_of_calls, choices_of_resolving, choices_of_raw_labels, choices_of_escaping, choices_of_files,
-                 choices_of_answers, utf8, grammar, short_runs, fixed_sheet):
+    for part in (paper_labels, standard_examples, choices_of_text, choices_of_entries, choices_of_rounding, choices_of_halves,
+                 choices_of_runs, choices_of_tails, choices_of_tail_runs, choices_of_tail_picks, choices_of_equality,
+                 choices_of_writing, choices_of_calls, choices_of_resolving, choices_of_raw_labels, choices_of_escaping,
+                 choices_of_files, choices_of_answers, utf8, grammar, halves, short_runs, fixed_sheet):
         part()
     for part in (rounding, round_trips, picks, faults, resolving, escaping, files, whole_sheets):
         part(rng, options.count)

@@ -98,4 +98,5 @@ def main():
     sys.exit('NOT REFUSED' in totals)
 
 
-main()
+if __name__ == '__main__':
+    main()

@@ -24,3 +24,4 @@ pub mod Places
 pub mod Sheets
 pub mod Answering
 pub mod Encoding
+pub mod Rounding

@@ -2,11 +2,11 @@
 -- Assumes nothing.
 use Prim.Native.Nat.{ℕ, zero, suc, _+_, _*_, _-_, _/_, _%_, _^_, _≤_, _<_}
 use native.Mathlib.Omega.{arith}
-use native.Mathlib.Nat.{div-eq-of-lt-le}
+use native.Mathlib.Nat.{mul-mod-left, mul-div-cancel}
 use mathlib.Core.Path.{_≡_, refl, sym, _∙_}
 use mathlib.Core.Bool.{true, false, not, false≢true}
 use mathlib.Core.List.{List, [], _∷_, _++_, append-nil}
-use borrow.Author.Tests.{le-leb, eq-eqb, eqb-true}
+use borrow.Author.Tests.{lt-ltb, le-leb, eq-eqb, eqb-true}
 use lib.Dec.{eqb}
 use lib.ListN.{length, getD, length-append}
 use Rattle.label.specs.Bytes.{empty, cut, isDigit, allDigits, digits, valueFrom, value, decimal}
@@ -92,7 +92,7 @@ plain-exact v figs frac p h = rw (p .figs-are, p .frac-are, p .exp-are, p .up) (
 -- the only law of the rounding that the way back needs: a whole number is itself
 pub nearest-exact : (a b v : ℕ) → 0 < b → a ≡ v * b → nearest a b ≡ v
 unfolding nearest
-nearest-exact a b v h e = rw e (div-eq-of-lt-le (2 * b) (omega arith) (omega arith))
+nearest-exact a b v h e = rw (e, mul-mod-left v b, lt-ltb 0 b h) (mul-div-cancel v h)
 
 -- what the reader has to know of the bytes of the value n
 pub record Writes (n : ℕ) (v : List ℕ) : Type 0 where

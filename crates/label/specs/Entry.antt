@@ -1,9 +1,9 @@
 -- "The entries": when an entry is well formed (7), its index (8), its numbers (9), and what it says.
 -- Assumes nothing.
-use Prim.Native.Nat.{ℕ, _+_, _*_, _/_, _^_}
+use Prim.Native.Nat.{ℕ, _+_, _*_, _/_, _%_, _^_}
 use mathlib.Core.Bool.{Bool, true, cond, not, _&&_, _||_}
 use mathlib.Core.List.{List, [], _++_}
-use lib.Dec.{leb, eqb}
+use lib.Dec.{leb, ltb, eqb}
 use lib.IntN.{ℤ, pos, negℤ}
 use lib.ListN.{length, getD, drop}
 use Rattle.label.specs.Limits.{maxIndex, maxDigits, maxExponentDigits, maxThousandths}
@@ -64,9 +64,14 @@ fractionDigits s = atPoint s .after
 unfoldable pub exponentDigits : List ℕ → List ℕ
 exponentDigits s = unsigned (atExponent s .after)
 
--- "rounded to the nearest whole number, a half going away from zero; then the sign": a / b before its sign, so a half goes up
+-- the "even neighbour" of n and a half: the even one of n and n + 1
+abbrev pub evenNeighbour : ℕ → ℕ
+evenNeighbour n = n + n % 2
+
+-- "rounded to the nearest whole number"; in place of "a half going away from zero" document 02, CR 6: "Halves go to the even neighbour."
+-- Of a / b, before the sign, which plays no part: what a / b has above the whole number below it is less than a half, more, or a half.
 unfoldable pub nearest : ℕ → ℕ → ℕ
-nearest a b = (2 * a + b) / (2 * b)
+nearest a b = cond (ltb (2 * (a % b)) b) (a / b) (cond (ltb b (2 * (a % b))) (a / b + 1) (evenNeighbour (a / b)))
 
 -- "the value is m × 10^(e − f) × 1000, rounded": `down` where e is negative
 unfoldable pub scaled : ℕ → ℕ → Bool → ℕ → ℕ

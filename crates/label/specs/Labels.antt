@@ -1,11 +1,11 @@
--- "Labels to prove and to run": labels 1 to 11 of document 01 in a single theorem over a list of rows, the worked examples of ECMA-388 and labels with pairs
--- in the tail likewise, the counts of rounded fields, raw attribute values, escaped bytes, sheets, and the example of `relabel`. Each is computed from the
--- definitions.
+-- "Labels to prove and to run": labels 1 to 11 of document 01 in a single theorem over a list of rows, the worked examples of ECMA-388, labels with pairs in
+-- the tail and labels with halves likewise, the counts of rounded fields, raw attribute values, escaped bytes, sheets, and the example of `relabel`. Each is
+-- computed from the definitions.
 -- Assumes nothing.
 use Prim.Native.Nat.{ℕ}
 use mathlib.Core.Path.{_≡_, refl}
 use mathlib.Core.List.{List, [], _∷_, _++_, map}
-use lib.IntN.{ℤ, pos}
+use lib.IntN.{ℤ, pos, negsuc}
 use lib.ListN.{take, replicate}
 use Rattle.label.specs.Outcome.{Outcome, ok, no}
 use Rattle.label.specs.Bytes.{ascii, begins, split, cut, allDigits, valueFrom, joinRest, join, trim, decimalFrom, decimal}
@@ -88,14 +88,15 @@ documentRows =
     row (ascii "{}") [] (refused 6 0) ∷
     row (ascii "{a") [] (refused 4 0) ∷
     row (ascii "{}{a") [] (reads (ascii "{a") (one ∷ one ∷ []) (fontGlyph ∷ fontGlyph ∷ []) (ascii "{}{a") []) ∷
-    -- 6. `A`, `5,-1`: 7. `A`, `5,.0005`: advance 1; `5,.0004`: advance 0, normal `5,0`
+    -- 6. `A`, `5,-1`: 7. `A`, `5,.0005`: document 02, CR 6, makes it advance 0, normal `5,0`; `5,.0004`: the same
     row (ascii "A") (ascii "5,-1") (refused 7 0) ∷
-    row (ascii "A") (ascii "5,.0005") (reads (ascii "A") (one ∷ []) (advanced 5 1 ∷ []) (ascii "A") (ascii "5,.001")) ∷
+    row (ascii "A") (ascii "5,.0005") (reads (ascii "A") (one ∷ []) (advanced 5 0 ∷ []) (ascii "A") (ascii "5,0")) ∷
     row (ascii "A") (ascii "5,.0004") (reads (ascii "A") (one ∷ []) (advanced 5 0 ∷ []) (ascii "A") (ascii "5,0")) ∷
-    -- 7. `A`, `5,1e6`: 1,000,000,000. `5,1000000.0004`: the same. `5,1000000.0005`: 9
+    -- 7. `A`, `5,1e6`: 1,000,000,000. `5,1000000.0004`: the same. `5,1000000.0005`: document 02, CR 6, makes it the same; `5,1000000.0006`: 9
     row (ascii "A") (ascii "5,1e6") (reads (ascii "A") (one ∷ []) (advanced 5 1_000_000_000 ∷ []) (ascii "A") (ascii "5,1000000")) ∷
     row (ascii "A") (ascii "5,1000000.0004") (reads (ascii "A") (one ∷ []) (advanced 5 1_000_000_000 ∷ []) (ascii "A") (ascii "5,1000000")) ∷
-    row (ascii "A") (ascii "5,1000000.0005") (refused 9 0) ∷
+    row (ascii "A") (ascii "5,1000000.0005") (reads (ascii "A") (one ∷ []) (advanced 5 1_000_000_000 ∷ []) (ascii "A") (ascii "5,1000000")) ∷
+    row (ascii "A") (ascii "5,1000000.0006") (refused 9 0) ∷
     -- 8. `A`, `065535`: normal `65535`. `65536`: 8
     row (ascii "A") (ascii "065535") (reads (ascii "A") (one ∷ []) (glyph 65535 ∷ []) (ascii "A") (ascii "65535")) ∷
     row (ascii "A") (ascii "65536") (refused 8 0) ∷
@@ -172,6 +173,40 @@ tailRows =
     row (ascii "A" ++ grin) (ascii "(1:2)5") (refused 14 0) ∷
     []
 
+-- ── document 02, CR 6: halves go to the even neighbour ──
+
+-- `A` with these indices: one glyph, and its normal indices
+abbrev glyphRow : List ℕ → Glyph → List ℕ → LabelRow
+glyphRow i g n = row (ascii "A") i (reads (ascii "A") (one ∷ []) (g ∷ []) (ascii "A") n)
+
+-- glyph 5 with this advance and these offsets
+abbrev valued : ℕ → ℤ → ℤ → Glyph
+valued a u v = record { index = Named 5; advance = Given a; u = u; v = v }
+
+-- a row for each side of a half, each sign, with an exponent and without, and the limit
+unfoldable pub halfRows : List LabelRow
+halfRows =
+    -- "`.0005` now reads as 0, `.0015` as 2, `.0025` as 2"
+    glyphRow (ascii "5,.0005,.0015,.0025") (valued 0 (pos 2) (pos 2)) (ascii "5,0,.002,.002") ∷
+    -- the sign plays no part
+    glyphRow (ascii "5,+.0025,-.0015,-.0025") (valued 2 (negsuc 1) (negsuc 1)) (ascii "5,.002,-.002,-.002") ∷
+    glyphRow (ascii "5,+.0015,+.0035,-.0035") (valued 2 (pos 4) (negsuc 3)) (ascii "5,.002,.004,-.004") ∷
+    -- an offset that goes to 0 is as one that is not given
+    glyphRow (ascii "5,,.0005,-.0005") (glyph 5) (ascii "5") ∷
+    -- the nearest, a last place below a half and above it
+    glyphRow (ascii "5,.000499999999999999,.001499999999999999,-.002499999999999999") (valued 0 (pos 1) (negsuc 1)) (ascii "5,0,.001,-.002") ∷
+    glyphRow (ascii "5,.000500000000000001,.001500000000000001,-.002500000000000001") (valued 1 (pos 2) (negsuc 2)) (ascii "5,.001,.002,-.003") ∷
+    -- with an exponent of either sign, in few digits and in 18
+    glyphRow (ascii "5,5e-4,15000E-7,-.25e-02") (valued 0 (pos 2) (negsuc 1)) (ascii "5,0,.002,-.002") ∷
+    glyphRow (ascii "5,.00005e1,.000015E+2,-.0000000000000025e12") (valued 0 (pos 2) (negsuc 1)) (ascii "5,0,.002,-.002") ∷
+    glyphRow (ascii "5,.500000000000000000e-3,150000000000000000e-20,-250000000000000000e-20") (valued 0 (pos 2) (negsuc 1)) (ascii "5,0,.002,-.002") ∷
+    -- "`1000000.0005` is accepted as 1,000,000,000; `1000000.0006` is refused with 9" (label 7): with either sign; halves below the limit; numbers above its half
+    glyphRow (ascii "5,999999.9985,1000000.0005,-1000000.0005") (valued 999_999_998 (pos 1_000_000_000) (negsuc 999_999_999)) (ascii "5,999999.998,1000000,-1000000") ∷
+    glyphRow (ascii "5,999999.9995") (advanced 5 1_000_000_000) (ascii "5,1000000") ∷
+    row (ascii "A") (ascii "5,1000000.00050001") (refused 9 0) ∷
+    row (ascii "A") (ascii "5,,,-1000000.0006") (refused 9 0) ∷
+    []
+
 -- ── document 02, CR 1: how many values were rounded ──
 
 -- a label and the count that is returned for it
@@ -187,9 +222,10 @@ countRow t i n = record { text = t; indices = i; count = n }
 -- a row for each way to count
 unfoldable pub roundedRows : List RoundedRow
 roundedRows =
-    -- "whether its exact value was a whole count of thousandths": `.0005` and `.0006` are not, `.001`, `1.0000` and `0e-99` are,
-    -- `1e-4` is not, though it reads as 0; `12345e-5` is not, `12345e-2` is
+    -- "whether its exact value was a whole count of thousandths": `.0005` is not, though it reads as 0 and the offset as if it were not given;
+    -- `.0006` is not, `.001`, `1.0000` and `0e-99` are, `1e-4` is not; `12345e-5` is not, `12345e-2` is
     countRow (ascii "A") (ascii "5,.0005") 1 ∷
+    countRow (ascii "A") (ascii "5,,.0005") 1 ∷
     countRow (ascii "A") (ascii "5,.0006") 1 ∷
     countRow (ascii "A") (ascii "5,.001") 0 ∷
     countRow (ascii "A") (ascii "5,1.0000") 0 ∷
@@ -368,9 +404,9 @@ sheetRows =
     []
 
 -- each row's label is answered as the row says
-pub labels : map (λ (r : LabelRow). said (read (r .text) (r .indices))) (documentRows ++ (standardRows ++ tailRows))
-    ≡ map (λ (r : LabelRow). r .answer) (documentRows ++ (standardRows ++ tailRows))
-unfolding documentRows standardRows tailRows ascii split cut allDigits valueFrom joinRest join trim decimalFrom decimal table rowFits fitting starts moreBytes following scalar xmlChar unitsOf decode textUnits unsigned isDecimals isNumber mantissaDigits fractionDigits exponentDigits nearest scaled thousandths numberFits isIndexPart indexDigits mapUnits mapGlyphs isAdvance isOffset wellFormed fieldFits indexOf advanceOf offsetOf entryOf entry entries tail placed step walk runFrom read utf8 unitBytes unitsBytes textOf fraction valueBytes advanceBytes offsetBytes mapBytes indexBytes entryBytes written indicesOf
+pub labels : map (λ (r : LabelRow). said (read (r .text) (r .indices))) (documentRows ++ (standardRows ++ (tailRows ++ halfRows)))
+    ≡ map (λ (r : LabelRow). r .answer) (documentRows ++ (standardRows ++ (tailRows ++ halfRows)))
+unfolding documentRows standardRows tailRows halfRows ascii split cut allDigits valueFrom joinRest join trim decimalFrom decimal table rowFits fitting starts moreBytes following scalar xmlChar unitsOf decode textUnits unsigned isDecimals isNumber mantissaDigits fractionDigits exponentDigits nearest scaled thousandths numberFits isIndexPart indexDigits mapUnits mapGlyphs isAdvance isOffset wellFormed fieldFits indexOf advanceOf offsetOf entryOf entry entries tail placed step walk runFrom read utf8 unitBytes unitsBytes textOf fraction valueBytes advanceBytes offsetBytes mapBytes indexBytes entryBytes written indicesOf
 labels = refl
 
 -- each row's label has the count that the row says

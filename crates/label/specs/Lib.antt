@@ -21,3 +21,4 @@ pub mod Demands
 pub mod Restoring
 pub mod Answering
 pub mod Encoding
+pub mod Rounding

@@ -1,17 +1,19 @@
 -- Laws of rounding, of exactness, of powers of ten and of the limit. Assumes nothing.
-use mathlib.Core.Path.{_≡_, refl, ap, _∙_}
+use mathlib.Core.Path.{_≡_, refl, sym, ap, _∙_}
 use mathlib.Core.Bool.{Bool, true, false, cond, not}
 use Prim.Native.Nat.{ℕ, suc, zero, _+_, _-_, _*_, _/_, _%_, _^_, _≤_, _<_}
 use native.Mathlib.Omega.{arith}
-use native.Mathlib.Nat.{add-zero, zero-mul, div-eq-of-lt-le, mul-div-mul-right, mul-div-cancel, mul-mod-left, div-eq-of-lt, mul-assoc, one-le-pow, mod-lt, mod-eq-of-lt, lt-of-lt-of-le, div-add-mod', pow-le-pow-right, mul-le-mul, mul-le-mul-right}
+use native.Mathlib.Nat.{add-zero, zero-mul, mul-div-mul-right, mul-div-cancel, mul-mod-left, div-eq-of-lt, mul-assoc, one-le-pow, mod-lt, mod-eq-of-lt, lt-of-lt-of-le, pow-le-pow-right, mul-le-mul, mul-le-mul-right, mul-lt-mul-of-pos-right}
 use lib.Arith.{mod-mul}
 use lib.Pow.{pow-add}
 use lib.Dec.{ltb, eqb, lit<}
-use borrow.Author.Tests.{le-leb, lt-leb, ltb-true, ltb-false, ne-eqb}
+use borrow.Author.Tests.{le-leb, lt-leb, lt-ltb, le-ltb, ltb-true, ltb-false, ne-eqb}
 use Rattle.label.specs.Limits.{maxThousandths}
 use Rattle.label.specs.Entry.{nearest, scaled}
 use Rattle.label.specs.Rounded.{isWhole}
 use Rattle.label.proofs.Basics.{cases}
+use Rattle.label.proofs.Values.{nearest-exact}
+use Rattle.label.proofs.Rounding.{nearest-below, nearest-above, nearest-half, three}
 use Rattle.number.specs.declared.Thousandths.the-variants.{Of, Over}
 use Rattle.number.specs.Digits.{cap}
 use Rattle.number.specs.Numbers.{sized}
@@ -41,43 +43,43 @@ last-key (suc n) k h a = cases (ltb k (suc n)) (λ e. absurd (a .1 (last-key n k
 
 -- ── rounding ──
 
-nearest-exact : (n d : ℕ) → 0 < d → nearest (n * d) d ≡ n
-unfolding nearest
-nearest-exact n d h = div-eq-of-lt-le (2 * d) (omega arith) (omega arith)
+-- a factor of both
+mod-cancel : (m d c : ℕ) → 0 < d → 0 < c → m * c % (d * c) ≡ m % d * c
+mod-cancel m d c h k = rw (mod-mul (m * c) h k, mul-div-cancel m k, mul-mod-left m c) (add-zero (m % d * c))
 
-nearest-cancel : (m d c : ℕ) → 0 < c → nearest (m * c) (d * c) ≡ nearest m d
+ltb-cancel : (x y c : ℕ) → 0 < c → ltb (x * c) (y * c) ≡ ltb x y
+ltb-cancel x y c h =
+    cases (ltb x y)
+    (λ t. lt-ltb (x * c) (y * c) (mul-lt-mul-of-pos-right (ltb-true x y t) h) ∙ sym t)
+    (λ t. le-ltb (x * c) (y * c) (mul-le-mul-right c (ltb-false x y t)) ∙ sym t)
+
+nearest-cancel : (m d c : ℕ) → 0 < d → 0 < c → nearest (m * c) (d * c) ≡ nearest m d
 unfolding nearest
-nearest-cancel m d c h =
-    let e₁ : 2 * (m * c) + d * c ≡ (2 * m + d) * c = omega arith in
-    let e₂ : 2 * (d * c) ≡ 2 * d * c = omega arith in
-    rw (e₁, e₂) (mul-div-mul-right (2 * m + d) (2 * d) h)
+nearest-cancel m d c h k =
+    rw (mod-cancel m d c h k, mul-div-mul-right m d k, ← mul-assoc 2 (m % d) c, ltb-cancel (2 * (m % d)) d c k, ltb-cancel d (2 * (m % d)) c k)
 
 nearest-none : (m d : ℕ) → 2 * m < d → nearest m d ≡ 0
-unfolding nearest
-nearest-none m d h = div-eq-of-lt (omega arith)
+nearest-none m d h =
+    let l : m < d = omega arith in nearest-below m d (rw (mod-eq-of-lt l) h) ∙ div-eq-of-lt l
 
-nearest-up : (m d q r : ℕ) → q * d + r ≡ m → r < d → d ≤ r * 2 → nearest m d ≡ q + 1
-unfolding nearest
-nearest-up m d q r e h k = div-eq-of-lt-le (2 * d) (omega arith) (omega arith)
+-- more than a half goes up, and a half where the quotient is odd
+pub round-up : (m d : ℕ) → d < 2 * (m % d) + m / d % 2 → nearest m d ≡ m / d + 1
+round-up m d h = three (2 * (m % d)) d (λ t. absurd (omega arith)) (nearest-above m d) (λ t. nearest-half m d t ∙ omega arith)
 
-nearest-down : (m d q r : ℕ) → q * d + r ≡ m → r < d → r * 2 < d → nearest m d ≡ q
-unfolding nearest
-nearest-down m d q r e h k = div-eq-of-lt-le (2 * d) (omega arith) (omega arith)
+pub round-down : (m d : ℕ) → 2 * (m % d) + m / d % 2 ≤ d → nearest m d ≡ m / d
+round-down m d h = three (2 * (m % d)) d (nearest-below m d) (λ t. absurd (omega arith)) (λ t. nearest-half m d t ∙ omega arith)
 
--- by quotient and remainder
-pub round-up : (m d : ℕ) → 0 < d → d ≤ (m % d) * 2 → nearest m d ≡ m / d + 1
-round-up m d h k = nearest-up m d (m / d) (m % d) (div-add-mod' m d) (mod-lt m h) k
-
-pub round-down : (m d : ℕ) → 0 < d → (m % d) * 2 < d → nearest m d ≡ m / d
-round-down m d h k = nearest-down m d (m / d) (m % d) (div-add-mod' m d) (mod-lt m h) k
+-- the remainder's double, and one more, has room
+pub twice-small : (m k : ℕ) → k ≤ 18 → 2 * (m % 10 ^ k) + 1 < 2 * cap
+twice-small m k h = omega (arith, mod-lt m (ten-pos k), ten-mono k 18 h)
 
 -- ── one shift ──
 
 pub scale-grow : (m up down : ℕ) → down ≤ up → nearest (m * 10 ^ up) (10 ^ down) ≡ m * 10 ^ (up - down)
-scale-grow m up down h = rw (ten-split up down h, ← mul-assoc m (10 ^ (up - down)) (10 ^ down)) (nearest-exact (m * 10 ^ (up - down)) (10 ^ down) (ten-pos down))
+scale-grow m up down h = rw (ten-split up down h, ← mul-assoc m (10 ^ (up - down)) (10 ^ down)) (nearest-exact (m * 10 ^ (up - down) * 10 ^ down) (10 ^ down) (m * 10 ^ (up - down)) (ten-pos down) refl)
 
 pub scale-shrink : (m up down : ℕ) → up ≤ down → nearest (m * 10 ^ up) (10 ^ down) ≡ nearest m (10 ^ (down - up))
-scale-shrink m up down h = rw (ten-split down up h) (nearest-cancel m (10 ^ (down - up)) (10 ^ up) (ten-pos up))
+scale-shrink m up down h = rw (ten-split down up h) (nearest-cancel m (10 ^ (down - up)) (10 ^ up) (ten-pos (down - up)) (ten-pos up))
 
 pub shrink-none : (m k : ℕ) → m < cap → 18 < k → nearest m (10 ^ k) ≡ 0
 shrink-none m k h b = nearest-none m (10 ^ k) (omega (arith, ten-mono 19 k b))
@@ -99,7 +101,7 @@ grow-whole m up down h = rw (ten-split up down h, ← mul-assoc m (10 ^ (up - do
 
 pub shrink-whole : (m up down : ℕ) → up ≤ down → eqb (m * 10 ^ up % 10 ^ down) 0 ≡ eqb (m % 10 ^ (down - up)) 0
 shrink-whole m up down h =
-    rw (ten-split down up h, mod-mul (m * 10 ^ up) (ten-pos (down - up)) (ten-pos up), mul-div-cancel m (ten-pos up), mul-mod-left m (10 ^ up), add-zero)
+    rw (ten-split down up h, mod-cancel m (10 ^ (down - up)) (10 ^ up) (ten-pos (down - up)) (ten-pos up))
     (product-zero (m % 10 ^ (down - up)) (10 ^ up) (ten-pos up))
 
 pub none-whole : (m k : ℕ) → m < cap → 18 < k → eqb (m % 10 ^ k) 0 ≡ eqb m 0

@@ -143,7 +143,8 @@ fn grown(m: u64, k: usize) -> Thousandths
     limited(m * power(k), true)
 }
 
-// m / 10^k, rounded: the one place where a value is rounded, by its quotient and its remainder. It is exact where nothing remains.
+// m / 10^k, rounded: the one place where a value is rounded, by its quotient and its remainder. More than a half goes up, and a half where the quotient is
+// odd. The value is exact where nothing remains.
 fn shrunk(m: u64, k: usize) -> Thousandths
     requires { ⌜ m < cap ⌝ }
     ensures { λ r. ⌜ r ≡ sized (nearest m (10 ^ k)) (eqb (m % 10 ^ k) 0) ⌝ }
@@ -155,7 +156,7 @@ fn shrunk(m: u64, k: usize) -> Thousandths
     let q = m / d;
     let r = m % d;
     let exact = r == 0;
-    if d <= r * 2 {
+    if d < 2 * r + q % 2 {
         limited(q + 1, exact)
     } else {
         limited(q, exact)

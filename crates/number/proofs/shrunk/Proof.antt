@@ -1,8 +1,8 @@
 -- `number::shrunk` meets its contract. Assumes nothing.
-use native.Mathlib.Nat.{mod-lt, div-le-self}
+use native.Mathlib.Nat.{div-le-self}
 use native.Mathlib.Omega.{arith}
 use borrow.Author.Needs.{needs}
-use Rattle.number.proofs.ValueLaws.{shrink-none, none-whole, round-up, round-down, ten-pos, ten-mono}
+use Rattle.number.proofs.ValueLaws.{shrink-none, none-whole, round-up, round-down, ten-pos, twice-small}
 use Rattle.number.proofs.shrunk.Statement.{statement}
 use Rattle.number.proofs.shrunk.Tie as tie
 
@@ -22,7 +22,10 @@ rem-r : tie.Need-rem-r
 rem-r c = rw (c .power .ensures) (ten-pos _)
 
 mul-if2 : tie.Need-mul-if2
-mul-if2 c = rw (c .power .ensures) (omega (arith, mod-lt (c .before .before .args .m) (ten-pos (c .before .before .args .k)), ten-mono (c .before .before .args .k) 18 (omega arith)))
+mul-if2 c = rw (c .power .ensures) (omega (arith, twice-small (c .before .before .args .m) (c .before .before .args .k) (omega arith)))
+
+add-if2 : tie.Need-add-if2
+add-if2 c = rw (c .power .ensures) (omega (arith, twice-small (c .before .before .args .m) (c .before .before .args .k) (omega arith)))
 
 add-limited : tie.Need-add-limited
 add-limited c = omega (arith, div-le-self (c .before .before .before .args .m) (c .before .power .result))
@@ -34,10 +37,10 @@ limited-requires-2 : tie.Need-limited-requires-2
 limited-requires-2 c κs = search needs
 
 returns-2 : tie.Need-returns-2
-returns-2 c = rw (← c .before .before .power .ensures, round-up _ _ (rw (c .before .before .power .ensures) (ten-pos _)) (c .before .if2 .taken)) (c .limited .ensures)
+returns-2 c = rw (← c .before .before .power .ensures, round-up _ _ (c .before .if2 .taken)) (c .limited .ensures)
 
 returns-3 : tie.Need-returns-3
-returns-3 c = rw (← c .before .before .power .ensures, round-down _ _ (rw (c .before .before .power .ensures) (ten-pos _)) (c .before .if2 .left)) (c .limited2 .ensures)
+returns-3 c = rw (← c .before .before .power .ensures, round-down _ _ (c .before .if2 .left)) (c .limited2 .ensures)
 
 pub shrunk-spec : {M : Type 1} → statement M
 shrunk-spec =
@@ -49,6 +52,7 @@ shrunk-spec =
     div-q
     rem-r
     mul-if2
+    add-if2
     add-limited
     limited-requires
     limited-requires-2
