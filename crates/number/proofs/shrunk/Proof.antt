@@ -37,10 +37,10 @@ limited-requires-2 : tie.Need-limited-requires-2
 limited-requires-2 c κs = search needs
 
 returns-2 : tie.Need-returns-2
-returns-2 c = rw (← c .before .before .power .ensures, round-up _ _ (c .before .if2 .taken)) (c .limited .ensures)
+returns-2 c = rw (← c .before .before .power .ensures, round-up (c .before .before .before .before .args .m) (c .before .before .power .result) (omega (arith, c .before .if2 .taken))) (c .limited .ensures)
 
 returns-3 : tie.Need-returns-3
-returns-3 c = rw (← c .before .before .power .ensures, round-down _ _ (c .before .if2 .left)) (c .limited2 .ensures)
+returns-3 c = rw (← c .before .before .power .ensures, round-down (c .before .before .before .before .args .m) (c .before .before .power .result) (omega (arith, c .before .if2 .left))) (c .limited2 .ensures)
 
 pub shrunk-spec : {M : Type 1} → statement M
 shrunk-spec =
