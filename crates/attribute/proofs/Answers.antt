@@ -1,5 +1,6 @@
 -- The call that resolves a raw value: one law for each return.
 -- Assumes nothing.
+use Rattle.label.proofs.Steps.{resolve-into-steps}
 use Prim.Native.Nat.{ℕ, _<_, _≤_}
 use native.Mathlib.Omega.{arith}
 use mathlib.Core.Path.{_≡_, refl, sym, ap, subst, _∙_}
@@ -7,12 +8,12 @@ use mathlib.Core.List.{List}
 use borrow.Author.Tests.{le-leb, lt-leb}
 use lib.ListN.{length}
 use Rattle.label.specs.Outcome.{Outcome, ok, no}
-use Rattle.label.specs.Attribute.{resolve}
-use Rattle.label.specs.Calls.{refusal, fillingOutcome, resolveInto, filledCount, filledAfter}
+use Rattle.label.specs.Calls.{refusal, fillingOutcome, filledCount, filledAfter}
+use Rattle.label.specs.Requests.Attribute.{resolve, resolveInto}
 use Rattle.label.specs.declared.Filling.{Filling}
 use Rattle.label.specs.declared.Filling.the-variants.{Filled, Refused}
 use Rattle.label.proofs.Basics.{no-ok}
-use Rattle.label.proofs.Walks.{ok-path}
+use Rattle.label.proofs.Run.{ok-path}
 use Rattle.words.proofs.Puts.{put-room}
 use Rattle.attribute.specs.declared.Stored.{Stored}
 use Rattle.attribute.specs.declared.Stored.the-variants.{Bytes, Bad}
@@ -31,12 +32,12 @@ module _ (raw T w : List ℕ) (e : resolve raw ≡ ok w) where
   too-short k h = refuses 24 (length w) T k is
     where
       is : resolveInto (length T) raw ≡ no 24 (length w)
-      is = unfold resolveInto in rw (e, lt-leb (length w) (length T) h)
+      is = resolve-into-steps (length T) raw ∙ rw (e, lt-leb (length w) (length T) h)
 
   stored : length w ≤ length T → {T′ : List ℕ} (s : Stored) → Stores raw T s T′ → Answer (resolveInto (length T) raw) (Filled (length w)) T T′
   stored h (Bad p) k = no-ok 23 p w (sym k ∙ e)
   stored h (Bytes m) k =
-      let a : resolveInto (length T) raw ≡ ok w = unfold resolveInto in rw (e, le-leb (length w) (length T) h) in
+      let a : resolveInto (length T) raw ≡ ok w = resolve-into-steps (length T) raw ∙ rw (e, le-leb (length w) (length T) h) in
       let q : k .0 ≡ w = ok-path (k .0) w (sym (k .1) ∙ e) in
       rw (a, ← q) (refl, put-room (k .2) (omega (arith, ap length q)))
 
@@ -46,7 +47,7 @@ module _ (raw T old new : List ℕ) (s : Stored) (f : Stores raw old s new) wher
   refuses-23 {p} e k = refuses 23 p T k is
     where
       is : resolveInto (length T) raw ≡ no 23 p
-      is = unfold resolveInto in rw (subst (λ (x : Stored). Stores raw old x new) e f)
+      is = resolve-into-steps (length T) raw ∙ rw (subst (λ (x : Stored). Stores raw old x new) e f)
 
   module _ {n : ℕ} (e : s ≡ Bytes n) where
     -- what came out

@@ -14,10 +14,10 @@ use lib.ListN.{length, getD, drop, drop-of-length-le}
 use lib.Seq.{drop-cons, getD-drop}
 use Rattle.label.specs.Bytes.{empty}
 use Rattle.label.specs.Text.{xmlChar}
-use Rattle.label.specs.Attribute.{digitValue, allOf, valueBehind, numbered, body, isClosed}
-use Rattle.label.proofs.Attributes.{closed-none, closed-here, body-here, closed-further, body-further}
+use Rattle.label.specs.Requests.Attribute.{digitValue, allOf, valueBehind, numbered, body, isClosed}
+use Rattle.label.proofs.Requests.Attribute.{closed-none, closed-here, body-here, closed-further, body-further}
 use Rattle.label.proofs.Basics.{clash, cases}
-use Rattle.label.proofs.Texts.{xml-range}
+use Rattle.label.proofs.Text.{xml-range}
 use Rattle.attribute.specs.declared.Number.{Number}
 use Rattle.attribute.specs.declared.Reference.the-variants.{To, Bad}
 use Rattle.attribute.specs.References.{beyond, front, numberAt, referenceBy}

@@ -12,8 +12,8 @@ use lib.Dec.{eqb}
 use lib.ListN.{length, getD, drop}
 use lib.Seq.{drop-cons, getD-drop}
 use Rattle.label.specs.Bytes.{cut}
-use Rattle.label.specs.Attribute.{predefined, numbered, referred, body, isClosed}
-use Rattle.label.proofs.Attributes.{body-here, closed-further, body-further}
+use Rattle.label.specs.Requests.Attribute.{predefined, numbered, referred, body, isClosed}
+use Rattle.label.proofs.Requests.Attribute.{body-here, closed-further, body-further}
 use Rattle.label.proofs.Basics.{cases}
 use Rattle.attribute.specs.References.{referenceBy}
 

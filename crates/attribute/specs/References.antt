@@ -6,7 +6,7 @@ use mathlib.Core.List.{List, [], _∷_}
 use lib.Dec.{ltb}
 use lib.ListN.{length, drop}
 use Rattle.label.specs.Text.{xmlChar}
-use Rattle.label.specs.Attribute.{digitValue, valueBehind, body, isClosed}
+use Rattle.label.specs.Requests.Attribute.{digitValue, valueBehind, body, isClosed}
 use Rattle.attribute.specs.declared.Number.{Number}
 use Rattle.attribute.specs.declared.Reference.{Reference}
 use Rattle.attribute.specs.declared.Reference.the-variants.{To, Bad}

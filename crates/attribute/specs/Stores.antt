@@ -7,7 +7,7 @@ use mathlib.Core.List.{List}
 use lib.Dec.{eqb}
 use lib.ListN.{getD}
 use Rattle.label.specs.Outcome.{ok, no}
-use Rattle.label.specs.Attribute.{resolve}
+use Rattle.label.specs.Requests.Attribute.{resolve}
 use Rattle.words.specs.Puts.{Put}
 use Rattle.attribute.specs.declared.Stored.{Stored}
 use Rattle.attribute.specs.declared.Stored.the-variants.{Bytes, Bad}

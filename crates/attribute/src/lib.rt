@@ -2,8 +2,8 @@
 ghost use mathlib.Core.Path.{_≡_};
 ghost use Prim.Native.Nat.{_+_, _*_, _≤_, _<_, min};
 ghost use lib.ListN.{length};
-ghost use Rattle.label.specs.Attribute.{predefined, digitValue, numbered, referred, spaced};
-ghost use Rattle.label.specs.Calls.{fillingOutcome, resolveInto, filledCount, filledAfter};
+ghost use Rattle.label.specs.Calls.{fillingOutcome, filledCount, filledAfter};
+ghost use Rattle.label.specs.Requests.Attribute.{predefined, digitValue, numbered, referred, spaced, resolveInto};
 ghost use Rattle.attribute.specs.References.{beyond, numberAt, referenceBy};
 ghost use Rattle.attribute.specs.Stores.{widthAt, Stores};
 use label::Filling;

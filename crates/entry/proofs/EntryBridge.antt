@@ -1,5 +1,6 @@
 -- An entry scanned in one pass is the entry of the definitions: the same refusal, or the same values.
 -- Assumes nothing.
+use Rattle.label.proofs.Steps.{entry-steps}
 use mathlib.Core.Path.{_≡_, refl, ap, sym, _∙_, subst}
 use mathlib.Core.Bool.{Bool, true, false, not, cond, _&&_, and-false, and-true}
 use mathlib.Core.List.{List, [], _∷_, _++_, append-nil, append-assoc}
@@ -10,16 +11,17 @@ use lib.Seq.{drop-drop}
 use lib.Dec.{leb, ltb, eqb}
 use borrow.Author.Tests.{eqb-true, leb-true, leb-false, le-leb, lt-leb, lt-ltb}
 use Rattle.label.specs.Limits.{maxIndex}
-use Rattle.label.specs.Outcome.{Outcome, ok, need, _>>_}
-use Rattle.label.specs.Bytes.{empty, Cut, split, value}
-use Rattle.label.specs.Entry.{Entry, entry, part, minus, unsigned, numberFits, hasMap, mapUnits, mapGlyphs, isIndexPart, indexDigits, isAdvance, isOffset, fieldFits, wellFormed, indexOf, advanceOf, offsetOf, entryOf}
-use Rattle.label.specs.Rounded.{roundedField, roundedEntry}
+use Rattle.label.specs.Outcome.{Outcome, ok, _>>_, need}
+use Rattle.label.specs.Bytes.{empty, split, Cut, value}
+use Rattle.label.specs.Entry.{minus, unsigned, numberFits, part, hasMap, isIndexPart, indexDigits, mapUnits, mapGlyphs, isAdvance, isOffset, wellFormed, fieldFits, indexOf, advanceOf, offsetOf, Entry, entryOf}
+use Rattle.label.specs.Steps.{entry}
+use Rattle.label.specs.Requests.RoundedCount.{roundedField, roundedEntry}
 use Rattle.label.specs.declared.Index.the-variants.{Named, Font}
 use Rattle.label.proofs.Basics.{and-l, and-r, clash, cases}
 use Rattle.label.proofs.Splits.{none, empty-nil}
 use Rattle.label.proofs.Cursors.{split-rest, split-all}
 use Rattle.number.specs.Digits.{ends, isBreak}
-use Rattle.number.specs.Numbers.{within}
+use Rattle.number.specs.Numbers.{numberWithin}
 use Rattle.number.proofs.Scan.{Cutting, whole, parted, cutting, none-or, none-left, none-right}
 use Rattle.entry.specs.Items.{isSemi, here, entryRead, entryHere}
 use Rattle.entry.specs.Parts.{Parts, partsOf, mapOf, indexAt, frontOk, fieldOf, wellParted, indexChoice, advanceChoice, offsetBy, roundedBy, roundedParts, scanned}
@@ -269,7 +271,7 @@ field-says : (x r t : List ℕ) → isOffset x ≡ true → Fielded x r t → Fi
 field-says x r t h (fb.good o k d v m z) = record { rest = d; given = v; negative = m; size = z }
 field-says x r t h (fb.wrong o w) = clash (isOffset x) h o
 
-within-is : (x : List ℕ) → within (fieldSize x) ≡ fieldFits x
+within-is : (x : List ℕ) → numberWithin (fieldSize x) ≡ fieldFits x
 unfolding fieldFits
 within-is [] = refl
 within-is (b ∷ x) = cases (numberFits (unsigned (b ∷ x))) (λ e. rw e) (λ e. rw e)
@@ -323,7 +325,7 @@ definedBy p0 p1 p2 p3 =
 
 answer : (n k : ℕ) (p0 p1 p2 p3 : List ℕ)
     → entryRead n (roundedBy (fieldSize p1) + roundedBy (fieldSize p2) + roundedBy (fieldSize p3))
-    (checked k (leb (value (indexDigits p0)) maxIndex) (within (fieldSize p1) && within (fieldSize p2) && within (fieldSize p3)) (scannedBy p0 p1 p2 p3))
+    (checked k (leb (value (indexDigits p0)) maxIndex) (numberWithin (fieldSize p1) && numberWithin (fieldSize p2) && numberWithin (fieldSize p3)) (scannedBy p0 p1 p2 p3))
     ≡ entryRead n (roundedField p1 + roundedField p2 + roundedField p3)
     (checked k (leb (value (indexDigits p0)) maxIndex) (fieldFits p1 && fieldFits p2 && fieldFits p3) (definedBy p0 p1 p2 p3))
 unfolding indexOf
@@ -407,9 +409,10 @@ module _ (k : ℕ) (t en r0 : List ℕ) (te : t ≡ en ++ r0) (k0 : ends isSemi 
     digits-same = refl
 
     well-bridge : entryRead (partsOf t .used) (roundedParts (partsOf t)) (scanned k t) ≡ entryRead (length en) (roundedEntry en) (entry k en)
-    unfolding scanned entry entryOf roundedEntry
+    unfolding scanned entryOf roundedEntry
     well-bridge =
         rw (
+          entry-steps k en,
           well-same t en r0 te k0 c x y z,
           e,
           map-same,
@@ -436,8 +439,8 @@ module _ (k : ℕ) (t en r0 : List ℕ) (te : t ≡ en ++ r0) (k0 : ends isSemi 
         (answer (length en) k (c .p) (x .p) (y .p) (z .p))
 
   bridge-parts : entryRead (partsOf t .used) (roundedParts (partsOf t)) (scanned k t) ≡ entryRead (length en) (roundedEntry en) (entry k en)
-  unfolding scanned entry entryRead
-  bridge-parts = cases (wellFormed en) well-bridge (λ e. rw (well-same t en r0 te k0 c x y z, e))
+  unfolding scanned entryRead
+  bridge-parts = cases (wellFormed en) well-bridge (λ e. rw (entry-steps k en, well-same t en r0 te k0 c x y z, e))
 
 -- an entry en and what follows it
 bridge-entry : (k : ℕ) (t en r0 : List ℕ) → t ≡ en ++ r0 → none isSemi en ≡ true → ends isSemi r0 ≡ true → partsOf t .used ≤ length t

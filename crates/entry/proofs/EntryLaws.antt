@@ -22,7 +22,7 @@ use Rattle.number.specs.declared.Thousandths.{Thousandths}
 use Rattle.number.specs.declared.Digits.{Digits}
 use Rattle.number.specs.declared.Number.{Number}
 use Rattle.number.specs.Digits.{cap, headOf, ends, isBreak, lead, digitsFrom}
-use Rattle.number.specs.Numbers.{within, Small, signLength, numberOf}
+use Rattle.number.specs.Numbers.{numberWithin, Small, signLength, numberOf}
 use Rattle.number.proofs.NumberLaws.{number-small}
 use Rattle.entry.specs.declared.MapPart.{MapPart}
 use Rattle.entry.specs.declared.Front.{Front}
@@ -120,7 +120,7 @@ Well s f x y z =
     (f .ok && ((x .ok && not (x .negative)) && (y .ok && z .ok))) && ends isSemi (drop (f .used + x .used + y .used + z .used) s)
 
 unfoldable pub Fit : Thousandths → Thousandths → Thousandths → Bool
-Fit x y z = within x && within y && within z
+Fit x y z = numberWithin x && numberWithin y && numberWithin z
 
 -- the code found these parts
 pub record Parted (s : List ℕ) (f : Front) (x y z : Field) : Type 0 where
@@ -198,7 +198,7 @@ pub well-chain : (s : List ℕ) (f : Front) (x y z : Field) {a b fields g e r : 
 unfolding Well
 well-chain s f x y z e1 e2 e3 e4 e5 e6 = rw (← e1, ← e2, ← e3, ← e4, ← e5) e6
 
-pub within-chain : (x y z : Thousandths) {a b c q r : Bool} → a ≡ within x → b ≡ within y → c ≡ within z → q ≡ (a && b) → r ≡ (q && c)
+pub within-chain : (x y z : Thousandths) {a b c q r : Bool} → a ≡ numberWithin x → b ≡ numberWithin y → c ≡ numberWithin z → q ≡ (a && b) → r ≡ (q && c)
     → r ≡ Fit x y z
 unfolding Fit
 within-chain x y z e1 e2 e3 e4 e5 = rw (← e1, ← e2, ← e3, ← e4) e5
@@ -236,11 +236,11 @@ module _ (k : ℕ) (s : List ℕ) (f : Front) (x : Field) (ef : f ≡ frontOf s)
     one-index l = code-index k s f x (notGiven 0) (notGiven 0) one-parted (one-well ∙ w) l
 
     module _ (l : f .index ≤ maxIndex) where
-      pub one-limit : within (x .size) ≡ false → Refused (refusal 9 k) ≡ entryHere k s
+      pub one-limit : numberWithin (x .size) ≡ false → Refused (refusal 9 k) ≡ entryHere k s
       unfolding Fit
       one-limit n = code-limits k s f x (notGiven 0) (notGiven 0) one-parted (one-well ∙ w) l (rw n)
 
-      pub one-read : within (x .size) ≡ true → (i : Index) → i ≡ indexChoice (f .named) (f .index) → (a : Advance) → a ≡ advanceChoice (x .given) (x .size) → (n : ℕ) → n ≡ roundedBy (x .size)
+      pub one-read : numberWithin (x .size) ≡ true → (i : Index) → i ≡ indexChoice (f .named) (f .index) → (a : Advance) → a ≡ advanceChoice (x .given) (x .size) → (n : ℕ) → n ≡ roundedBy (x .size)
           → Read (record {
             mapped = f .mapped;
             units = f .units;

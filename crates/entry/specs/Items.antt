@@ -10,9 +10,10 @@ use lib.ListN.{length}
 use Rattle.label.specs.Limits.{maxIndex}
 use Rattle.label.specs.Outcome.{Outcome, ok, no}
 use Rattle.label.specs.Bytes.{cut}
-use Rattle.label.specs.Entry.{Entry, entry}
-use Rattle.label.specs.Rounded.{roundedEntry}
+use Rattle.label.specs.Entry.{Entry}
+use Rattle.label.specs.Steps.{entry}
 use Rattle.label.specs.Calls.{refusal}
+use Rattle.label.specs.Requests.RoundedCount.{roundedEntry}
 use Rattle.label.specs.declared.Index.the-variants.{Named}
 use Rattle.label.specs.declared.Advance.the-variants.{Own}
 use Rattle.number.specs.declared.Digits.{Digits}
@@ -45,7 +46,14 @@ entryHere k t = entryRead (length (here t)) (roundedEntry (here t)) (entry k (he
 -- what the digits d alone say
 abbrev pub indexItem : Digits → Item
 indexItem d =
-    record { mapped = false; units = 1; glyphs = 1; glyph = record { index = Named (d .value); advance = Own; u = pos 0; v = pos 0 }; used = d .count; rounded = 0 }
+    record {
+      mapped = false;
+      units = 1;
+      glyphs = 1;
+      glyph = record { index = Named (d .value); advance = Own; u = pos 0; v = pos 0 };
+      used = d .count;
+      rounded = 0;
+    }
 
 -- the entry in front, whatever its number, is read as the digits d alone
 abbrev pub IsIndex : List ℕ → Digits → Type 0

@@ -7,7 +7,7 @@ use lib.ListN.{length, drop}
 use lib.Dec.{leb, ltb, eqb}
 use lib.IntN.{ℤ, pos, negℤ}
 use Rattle.label.specs.Limits.{maxIndex}
-use Rattle.label.specs.Outcome.{Outcome, ok, need, _>>=_, _>>_}
+use Rattle.label.specs.Outcome.{Outcome, ok, _>>=_, _>>_, need}
 use Rattle.label.specs.Bytes.{value}
 use Rattle.label.specs.Entry.{Entry}
 use Rattle.label.specs.declared.Index.{Index}
@@ -18,7 +18,7 @@ use Rattle.number.specs.declared.Thousandths.{Thousandths}
 use Rattle.number.specs.declared.Thousandths.the-variants.{Of, Over}
 use Rattle.number.specs.declared.Number.{Number}
 use Rattle.number.specs.Digits.{cap, headOf, ends, isBreak, lead}
-use Rattle.number.specs.Numbers.{signLength, numberOf, within}
+use Rattle.number.specs.Numbers.{signLength, numberOf, numberWithin}
 use Rattle.entry.specs.declared.MapPart.{MapPart}
 use Rattle.entry.specs.declared.Front.{Front}
 use Rattle.entry.specs.declared.Field.{Field}
@@ -189,7 +189,7 @@ abbrev pub judged : ℕ → Parts → List ℕ → Outcome Entry
 judged k p t = do
   need (wellParted p t) 7 k
   need (leb (value (p .digits)) maxIndex) 8 k
-  need (within (p .x .size) && within (p .y .size) && within (p .z .size)) 9 k
+  need (numberWithin (p .x .size) && numberWithin (p .y .size) && numberWithin (p .z .size)) 9 k
   ok (saidBy p)
 
 unfoldable pub scanned : ℕ → List ℕ → Outcome Entry

@@ -7,7 +7,7 @@ ghost use lib.ListN.{length, drop};
 ghost use Rattle.label.specs.Limits.{maxIndex, maxThousandths};
 ghost use Rattle.label.specs.Calls.{refusal};
 ghost use Rattle.number.specs.Digits.{headOf, ends, isBreak, digitsFrom};
-ghost use Rattle.number.specs.Numbers.{within, Small};
+ghost use Rattle.number.specs.Numbers.{numberWithin, Small};
 ghost use Rattle.entry.specs.declared.EntryRead.the-variants.{Refused};
 ghost use Rattle.entry.specs.Items.{isSemi, entryHere, indexItem, IsIndex};
 ghost use Rattle.entry.specs.Parts.{mapOf, noMap, badMap, cutMap, frontOf, notGiven, fieldOf, indexChoice, advanceChoice, signedBy, offsetBy, roundedBy};
@@ -226,7 +226,7 @@ fn field_at(s: &[u8], at: usize) -> Field
 }
 
 fn is_within(z: Thousandths) -> bool
-    ensures { λ r. ⌜ r ≡ within z ⌝ }
+    ensures { λ r. ⌜ r ≡ numberWithin z ⌝ }
 {
     match z {
         Thousandths::Of { .. } => true,

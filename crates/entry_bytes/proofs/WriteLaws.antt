@@ -3,18 +3,17 @@ use mathlib.Core.Path.{_≡_, refl, sym, ap, _∙_}
 use mathlib.Core.Bool.{Bool, true, false, cond, not, _&&_, and-true}
 use mathlib.Core.List.{List, [], _∷_, _++_, append-nil}
 use Prim.Native.Nat.{ℕ, _+_, _/_, _%_}
-use native.Mathlib.Omega.{arith}
 use borrow.Author.Tests.{eq-eqb, ne-eqb}
 use lib.Dec.{leb, eqb}
 use lib.IntN.{ℤ, pos, negsuc}
-use Rattle.label.specs.Bytes.{empty, join, joinRest, trim, decimal}
-use Rattle.label.specs.Write.{fraction, valueBytes, offsetBytes, advanceBytes, indexBytes, mapBytes, entryBytes}
-use Rattle.label.specs.Sound.{natural, size, numberIndex, numberAdvance}
+use Rattle.label.specs.Bytes.{empty, joinRest, join, trim, decimal}
+use Rattle.label.specs.Sound.{natural, numberIndex, numberAdvance, size}
+use Rattle.label.specs.Write.{fraction, valueBytes, advanceBytes, offsetBytes, mapBytes, indexBytes, entryBytes}
 use Rattle.label.proofs.Basics.{clash}
 use Rattle.label.proofs.Splits.{empty-nil, trim-empty}
 use Rattle.label.proofs.Outputs.{advance-empty, offset-empty}
-use Rattle.words.proofs.Signs.{given-is}
-use Rattle.words.specs.Places.{glyphAt, place}
+use Rattle.wire.specs.Numbers.{glyphOf}
+use Rattle.wire.proofs.Tests.{given-is}
 use Rattle.entry_bytes.specs.Fields.{partsV, partsUV, partsAUV, fields}
 
 -- ── values ──
@@ -119,7 +118,7 @@ pub fields-blank : (l : List (List ℕ)) {b : Bool} → b ≡ empty (trim l) →
 unfolding fields joinRest
 fields-blank l e k = rw (empty-nil (trim l) (sym e ∙ k))
 
-fields-more : (x : List ℕ) (l : List (List ℕ)) {b : Bool} → b ≡ empty (trim (x ∷ l)) → b ≡ false → (44 ∷ []) ++ (x ++ fields l) ≡ fields (x ∷ l)
+pub fields-more : (x : List ℕ) (l : List (List ℕ)) {b : Bool} → b ≡ empty (trim (x ∷ l)) → b ≡ false → (44 ∷ []) ++ (x ++ fields l) ≡ fields (x ∷ l)
 unfolding fields joinRest trim
 fields-more x l e k = rw (sym (trim-empty x l) ∙ sym e ∙ k)
 
@@ -141,10 +140,6 @@ join-cond c [] [] = refl
 join-cond c [] (y ∷ l) = refl
 join-cond c (x ∷ xs) l = refl
 
-pub entry-is : (a b : ℕ) (s : List ℤ) (k : ℕ)
-    → indexBytes a b (numberIndex (place s k)) ++ fields (partsAUV (place s (k + 1)) (place s (k + 1 + 1)) (place s (k + 1 + 1 + 1))) ≡ entryBytes a b (glyphAt s k)
-unfolding entryBytes glyphAt fields partsAUV partsUV partsV trim
-entry-is a b s k =
-    let e : k + 1 + 1 ≡ k + 2 = omega arith in
-    let f : k + 2 + 1 ≡ k + 3 = omega arith in
-    rw (e, f) (sym (join-cond 44 (indexBytes a b (numberIndex (place s k))) (trim (partsAUV (place s (k + 1)) (place s (k + 2)) (place s (k + 3))))))
+pub entry-is : (a b : ℕ) (i d u v : ℤ) → indexBytes a b (numberIndex i) ++ fields (partsAUV d u v) ≡ entryBytes a b (glyphOf i d u v)
+unfolding entryBytes glyphOf fields partsAUV partsUV partsV trim
+entry-is a b i d u v = sym (join-cond 44 (indexBytes a b (numberIndex i)) (trim (partsAUV d u v)))

@@ -4,8 +4,8 @@ use Prim.Native.Nat.{ℕ}
 use mathlib.Core.List.{List, [], _∷_}
 use lib.IntN.{ℤ}
 use Rattle.label.specs.Bytes.{joinRest, trim}
-use Rattle.label.specs.Write.{advanceBytes, offsetBytes}
 use Rattle.label.specs.Sound.{numberAdvance}
+use Rattle.label.specs.Write.{advanceBytes, offsetBytes}
 
 -- an entry's fields from the v offset on, from the u offset on, from the advance on
 unfoldable pub partsV : ℤ → List (List ℕ)

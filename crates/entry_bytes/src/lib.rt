@@ -3,13 +3,13 @@ ghost use mathlib.Core.Path.{_≡_};
 ghost use mathlib.Core.Bool.{cond};
 ghost use mathlib.Core.List.{[], _∷_};
 ghost use Prim.Native.Nat.{_+_, _≤_, _<_};
-ghost use lib.ListN.{length};
 ghost use lib.Dec.{eqb};
-ghost use Rattle.label.specs.Bytes.{empty, decimal, trim};
+ghost use Rattle.label.specs.Bytes.{empty, trim, decimal};
+ghost use Rattle.label.specs.Wire.{signed};
 ghost use Rattle.label.specs.Sound.{numberIndex, numberAdvance};
-ghost use Rattle.label.specs.Write.{fraction, valueBytes, offsetBytes, advanceBytes, indexBytes, mapBytes, entryBytes};
-ghost use Rattle.words.specs.Places.{glyphAt, place};
+ghost use Rattle.label.specs.Write.{fraction, valueBytes, advanceBytes, offsetBytes, mapBytes, indexBytes, entryBytes};
 ghost use Rattle.words.specs.Puts.{Put};
+ghost use Rattle.wire.specs.Numbers.{glyphOf};
 ghost use Rattle.entry_bytes.specs.Fields.{partsV, partsUV, partsAUV, fields};
 
 // Each `put_..` stores its bytes from `at` on and returns the place behind them; where `out` ends, it only counts.
@@ -78,31 +78,31 @@ fn put_value(out: &mut [u8], at: usize, n: u32) -> usize
     put_fraction(out, q, n % 1000)
 }
 
-// The offset at place k; nothing for 0.
-fn put_offset_at(out: &mut [u8], at: usize, s: &[i32], k: usize) -> usize
-    requires { ⌜ (at < 1152921504606844000) × (k < length (now s)) ⌝ }
-    ensures { λ r. ⌜ Put (now (out .entry)) at (offsetBytes (place (now (s .entry)) k)) r (now (out .exit)) ⌝ }
+// An offset; nothing for 0.
+fn put_offset(out: &mut [u8], at: usize, n: u32) -> usize
+    requires { ⌜ at < 1152921504606844000 ⌝ }
+    ensures { λ r. ⌜ Put (now (out .entry)) at (offsetBytes (signed n)) r (now (out .exit)) ⌝ }
     ensures bounds { λ r. ⌜ r ≤ at + 15 ⌝ }
 {
-    let size = words::size_at(s, k);
+    let size = wire::size(n);
     if size == 0 {
         return at;
     }
-    if words::natural_at(s, k) {
+    if wire::is_natural(n) {
         return put_value(out, at, size);
     }
     let p = words::put_byte(out, at, 45);
     put_value(out, p, size)
 }
 
-// The advance at place k; nothing for the font's own.
-fn put_advance_at(out: &mut [u8], at: usize, s: &[i32], k: usize) -> usize
-    requires { ⌜ (at < 1152921504606844000) × (k < length (now s)) ⌝ }
-    ensures { λ r. ⌜ Put (now (out .entry)) at (advanceBytes (numberAdvance (place (now (s .entry)) k))) r (now (out .exit)) ⌝ }
+// An advance; nothing for the font's own.
+fn put_advance(out: &mut [u8], at: usize, n: u32) -> usize
+    requires { ⌜ at < 1152921504606844000 ⌝ }
+    ensures { λ r. ⌜ Put (now (out .entry)) at (advanceBytes (numberAdvance (signed n))) r (now (out .exit)) ⌝ }
     ensures bounds { λ r. ⌜ r ≤ at + 14 ⌝ }
 {
-    if words::natural_at(s, k) {
-        return put_value(out, at, words::size_at(s, k));
+    if wire::is_natural(n) {
+        return put_value(out, at, wire::size(n));
     }
     at
 }
@@ -135,87 +135,93 @@ fn put_map(out: &mut [u8], at: usize, a: u32, b: u32) -> usize
     words::put_byte(out, t, 41)
 }
 
-// The index at place k with its map a:b; nothing for one that the font chooses.
-fn put_index_at(out: &mut [u8], at: usize, a: u32, b: u32, s: &[i32], k: usize) -> usize
-    requires { ⌜ (at < 1152921504606843000) × (k < length (now s)) ⌝ }
-    ensures { λ r. ⌜ Put (now (out .entry)) at (indexBytes a b (numberIndex (place (now (s .entry)) k))) r (now (out .exit)) ⌝ }
+// An index with its map a:b; nothing for one that the font chooses.
+fn put_index(out: &mut [u8], at: usize, a: u32, b: u32, n: u32) -> usize
+    requires { ⌜ at < 1152921504606843000 ⌝ }
+    ensures { λ r. ⌜ Put (now (out .entry)) at (indexBytes a b (numberIndex (signed n))) r (now (out .exit)) ⌝ }
     ensures bounds { λ r. ⌜ r ≤ at + 33 ⌝ }
 {
-    if words::natural_at(s, k) {
+    if wire::is_natural(n) {
         let p = put_map(out, at, a, b);
-        return put_decimal(out, p, words::size_at(s, k));
+        return put_decimal(out, p, wire::size(n));
     }
     at
 }
 
 // Whether there is nothing to write from a field on, and the fields from it on, each behind its comma: v; u and v; all three.
-fn blank_v(s: &[i32], k: usize) -> bool
-    requires { ⌜ k < length (now s) ⌝ }
-    ensures { λ r. ⌜ r ≡ empty (trim (partsV (place (now (s .entry)) k))) ⌝ }
+fn blank_v(v: u32) -> bool
+    ensures { λ r. ⌜ r ≡ empty (trim (partsV (signed v))) ⌝ }
 {
-    words::size_at(s, k) == 0
+    wire::size(v) == 0
 }
 
-fn blank_uv(s: &[i32], k: usize) -> bool
-    requires { ⌜ k + 1 < length (now s) ⌝ }
-    ensures { λ r. ⌜ r ≡ empty (trim (partsUV (place (now (s .entry)) k) (place (now (s .entry)) (k + 1)))) ⌝ }
+fn blank_uv(u: u32, v: u32) -> bool
+    ensures { λ r. ⌜ r ≡ empty (trim (partsUV (signed u) (signed v))) ⌝ }
 {
-    let n = words::size_at(s, k);
-    words::both(n == 0, blank_v(s, k + 1))
+    let n = wire::size(u);
+    words::both(n == 0, blank_v(v))
 }
 
-fn blank_auv(s: &[i32], k: usize) -> bool
-    requires { ⌜ k + 2 < length (now s) ⌝ }
-    ensures { λ r. ⌜ r ≡ empty (trim (partsAUV (place (now (s .entry)) k) (place (now (s .entry)) (k + 1)) (place (now (s .entry)) (k + 1 + 1)))) ⌝ }
+fn blank_auv(a: u32, u: u32, v: u32) -> bool
+    ensures { λ r. ⌜ r ≡ empty (trim (partsAUV (signed a) (signed u) (signed v))) ⌝ }
 {
-    let n = words::natural_at(s, k);
-    words::both(!n, blank_uv(s, k + 1))
+    let n = wire::is_natural(a);
+    words::both(!n, blank_uv(u, v))
 }
 
-fn put_v(out: &mut [u8], at: usize, s: &[i32], k: usize) -> usize
-    requires { ⌜ (at < 1152921504606843000) × (k < length (now s)) ⌝ }
-    ensures { λ r. ⌜ Put (now (out .entry)) at (fields (partsV (place (now (s .entry)) k))) r (now (out .exit)) ⌝ }
+fn put_v(out: &mut [u8], at: usize, v: u32) -> usize
+    requires { ⌜ at < 1152921504606843000 ⌝ }
+    ensures { λ r. ⌜ Put (now (out .entry)) at (fields (partsV (signed v))) r (now (out .exit)) ⌝ }
     ensures bounds { λ r. ⌜ r ≤ at + 16 ⌝ }
 {
-    if blank_v(s, k) {
+    if blank_v(v) {
         return at;
     }
     let p = words::put_byte(out, at, 44);
-    put_offset_at(out, p, s, k)
+    put_offset(out, p, v)
 }
 
-fn put_uv(out: &mut [u8], at: usize, s: &[i32], k: usize) -> usize
-    requires { ⌜ (at < 1152921504606842000) × (k + 1 < length (now s)) ⌝ }
-    ensures { λ r. ⌜ Put (now (out .entry)) at (fields (partsUV (place (now (s .entry)) k) (place (now (s .entry)) (k + 1)))) r (now (out .exit)) ⌝ }
+fn put_uv(out: &mut [u8], at: usize, u: u32, v: u32) -> usize
+    requires { ⌜ at < 1152921504606842000 ⌝ }
+    ensures { λ r. ⌜ Put (now (out .entry)) at (fields (partsUV (signed u) (signed v))) r (now (out .exit)) ⌝ }
     ensures bounds { λ r. ⌜ r ≤ at + 32 ⌝ }
 {
-    if blank_uv(s, k) {
+    if blank_uv(u, v) {
         return at;
     }
     let p = words::put_byte(out, at, 44);
-    let q = put_offset_at(out, p, s, k);
-    put_v(out, q, s, k + 1)
+    let q = put_offset(out, p, u);
+    put_v(out, q, v)
 }
 
-fn put_auv(out: &mut [u8], at: usize, s: &[i32], k: usize) -> usize
-    requires { ⌜ (at < 1152921504606841000) × (k + 2 < length (now s)) ⌝ }
-    ensures { λ r. ⌜ Put (now (out .entry)) at (fields (partsAUV (place (now (s .entry)) k) (place (now (s .entry)) (k + 1)) (place (now (s .entry)) (k + 1 + 1)))) r (now (out .exit)) ⌝ }
+fn put_auv(out: &mut [u8], at: usize, a: u32, u: u32, v: u32) -> usize
+    requires { ⌜ at < 1152921504606841000 ⌝ }
+    ensures { λ r. ⌜ Put (now (out .entry)) at (fields (partsAUV (signed a) (signed u) (signed v))) r (now (out .exit)) ⌝ }
     ensures bounds { λ r. ⌜ r ≤ at + 47 ⌝ }
 {
-    if blank_auv(s, k) {
+    if blank_auv(a, u, v) {
         return at;
     }
     let p = words::put_byte(out, at, 44);
-    let q = put_advance_at(out, p, s, k);
-    put_uv(out, q, s, k + 1)
+    let q = put_advance(out, p, a);
+    put_uv(out, q, u, v)
 }
 
-// The entry of the glyph at place k of a run's numbers, which opens a cluster a:b.
-pub fn put_entry(out: &mut [u8], at: usize, a: u32, b: u32, s: &[i32], k: usize) -> usize
-    requires { ⌜ (at < 1152921504606840000) × (k + 3 < length (now s)) ⌝ }
-    ensures { λ r. ⌜ Put (now (out .entry)) at (entryBytes a b (glyphAt (now (s .entry)) k)) r (now (out .exit)) ⌝ }
+// The entry of a glyph, which opens a cluster a:b.
+pub fn put_entry(
+    out: &mut [u8],
+    at: usize,
+    a: u32,
+    b: u32,
+    index: u32,
+    advance: u32,
+    u: u32,
+    v: u32,
+) -> usize
+    requires { ⌜ at < 1152921504606840000 ⌝ }
+    ensures { λ r. ⌜ Put (now (out .entry)) at (entryBytes a b (glyphOf (signed index) (signed advance) (signed u) (signed v))) r (now (out .exit)) ⌝ }
     ensures bounds { λ r. ⌜ r ≤ at + 80 ⌝ }
 {
-    let p = put_index_at(out, at, a, b, s, k);
-    put_auv(out, p, s, k + 1)
+    let p = put_index(out, at, a, b, index);
+    put_auv(out, p, advance, u, v)
 }

@@ -10,7 +10,7 @@ use borrow.Author.Tests.{lt-ltb, le-ltb, ltb-true, ltb-false, leb-true, leb-fals
 use lib.Dec.{ltb, leb}
 use lib.ListN.{length, getD, take, drop}
 use Rattle.label.specs.Entry.{entries}
-use Rattle.label.specs.Fault.{ofText, ofEntry, startOf, portion, faultPart, partBytes, partPtr}
+use Rattle.label.specs.Fault.{ofText, ofEntry, entryStart, portion, faultPart, partBytes, partPtr}
 use Rattle.label.specs.declared.Part.{Part}
 use Rattle.label.proofs.Basics.{cases, and-r}
 use Rattle.entry.specs.Items.{here}
@@ -21,7 +21,7 @@ use Rattle.survey.proofs.Entries.{leftFrom, left-is, left-none, left-all, here-
 -- ── entry k, by a walk over the entries ──
 
 abbrev partIn : List (List ℕ) → ℕ → ℕ → Part
-partIn es i k = cond (ltb k (length es)) (portion true (i + startOf es k) (length (getD es k []))) (portion false 0 0)
+partIn es i k = cond (ltb k (length es)) (portion true (i + entryStart es k) (length (getD es k []))) (portion false 0 0)
 
 -- entry number r of those from place i on
 unfoldable pub partFrom : List ℕ → ℕ → ℕ → Part
@@ -32,13 +32,13 @@ unfolding entryPart partFrom
 from-start [] k i h =
     let n : entries [] ≡ [] = left-all [] ∙ left-none [] 1 (omega arith) in
     rw (h, left-none [] 1 (omega arith), n, le-ltb k 0 (omega arith))
-from-start (b ∷ s) k i h = rw (h, ← left-all (b ∷ s), zero-add (startOf (entries (b ∷ s)) k))
+from-start (b ∷ s) k i h = rw (h, ← left-all (b ∷ s), zero-add (entryStart (entries (b ∷ s)) k))
 
 -- passing an entry
 in-next : (h : List ℕ) (es : List (List ℕ)) (i r : ℕ) → partIn (h ∷ es) i (suc r) ≡ partIn es (i + length h + 1) r
-unfolding startOf
+unfolding entryStart
 in-next h es i r =
-    let e : i + (length h + 1 + startOf es r) ≡ i + length h + 1 + startOf es r = omega arith in
+    let e : i + (length h + 1 + entryStart es r) ≡ i + length h + 1 + entryStart es r = omega arith in
     cases (ltb r (length es))
     (λ t. rw (t, lt-ltb (suc r) (suc (length es)) (omega (arith, ltb-true r (length es) t)), e))
     (λ t. rw (t, le-ltb (suc r) (suc (length es)) (omega (arith, ltb-false r (length es) t))))
@@ -52,7 +52,7 @@ module _ (s : List ℕ) (i end : ℕ) (hi : i ≤ length s) (he : end ≡ i + le
       rw (left-is s i hi, he, d) (in-next (here (drop i s)) (leftFrom s (i + length (here (drop i s)) + 1)) i r)
 
   pub from-here : (r : ℕ) → r ≡ 0 → portion true i (end - i) ≡ partFrom s i r
-  unfolding partFrom startOf
+  unfolding partFrom entryStart
   from-here r z =
       let n : end - i ≡ length (here (drop i s)) = omega arith in
       rw (z, left-is s i hi, n, lt-ltb 0 (suc (length (leftFrom s (i + length (here (drop i s)) + 1)))) (omega arith), add-zero i)
@@ -89,8 +89,8 @@ some-left s k i h =
     (λ t. leb-true i (length s) t)
     (λ t. let e : length (leftFrom s i) ≡ 0 = ap length (left-none s i (leb-false i (length s) t)) in absurd (omega arith))
 
-from-inside : (s : List ℕ) (k i : ℕ) → k < length (leftFrom s i) → i + startOf (leftFrom s i) k + length (getD (leftFrom s i) k []) ≤ length s
-unfolding startOf
+from-inside : (s : List ℕ) (k i : ℕ) → k < length (leftFrom s i) → i + entryStart (leftFrom s i) k + length (getD (leftFrom s i) k []) ≤ length s
+unfolding entryStart
 from-inside s zero i h =
     let hi = some-left s 0 i h in
     rw (left-is s i hi, add-zero i) (here-inside s i hi)
@@ -99,10 +99,10 @@ from-inside s (suc k) i h =
     let e = left-is s i hi in
     let j = i + length (here (drop i s)) + 1 in
     let h′ : suc k < suc (length (leftFrom s j)) = rw e at h in
-    let r : j + startOf (leftFrom s j) k + length (getD (leftFrom s j) k []) ≤ length s = from-inside s k j (omega arith) in
+    let r : j + entryStart (leftFrom s j) k + length (getD (leftFrom s j) k []) ≤ length s = from-inside s k j (omega arith) in
     rw e (omega arith)
 
-entry-inside : (s : List ℕ) (k : ℕ) → k < length (entries s) → startOf (entries s) k + length (getD (entries s) k []) ≤ length s
+entry-inside : (s : List ℕ) (k : ℕ) → k < length (entries s) → entryStart (entries s) k + length (getD (entries s) k []) ≤ length s
 entry-inside s k h =
     let e = left-all s in
     let r = from-inside s k (firstPlace s) (rw e at h) in

@@ -6,10 +6,10 @@ use mathlib.Core.List.{List, []}
 use lib.Dec.{ltb}
 use lib.ListN.{length, getD}
 use Rattle.label.specs.Entry.{entries}
-use Rattle.label.specs.Fault.{startOf, portion}
+use Rattle.label.specs.Fault.{entryStart, portion}
 use Rattle.label.specs.declared.Part.{Part}
 
 -- entry k, or "where no such place exists the empty start of the text"
 unfoldable pub entryPart : List ℕ → ℕ → Part
 entryPart s k =
-    cond (ltb k (length (entries s))) (portion true (startOf (entries s) k) (length (getD (entries s) k []))) (portion false 0 0)
+    cond (ltb k (length (entries s))) (portion true (entryStart (entries s) k) (length (getD (entries s) k []))) (portion false 0 0)

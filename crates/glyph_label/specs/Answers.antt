@@ -1,6 +1,6 @@
 -- The answers for C: number 0 and the values, or a refusal's number and place with the other fields 0.
 -- Assumes nothing.
-use Prim.Native.Nat.{ℕ, min}
+use Prim.Native.Nat.{ℕ}
 use mathlib.Core.Bool.{cond}
 use Rattle.label.specs.Outcome.{Outcome, ok, no}
 use Rattle.label.specs.declared.Counts.{Counts}
@@ -13,6 +13,10 @@ use Rattle.glyph_label.specs.declared.GlyphLabelFilled.{GlyphLabelFilled
 use Rattle.glyph_label.specs.declared.GlyphLabelStretch.{GlyphLabelStretch}
 use Rattle.glyph_label.specs.declared.GlyphLabelPart.{GlyphLabelPart}
 
+-- raised by every landing that changes a call, a struct or an answer
+abbrev pub version : ℕ
+version = 1
+
 -- how many units, clusters and glyphs were read, and beside them how many fields were rounded
 abbrev pub readingAnswer : Outcome Counts → ℕ → GlyphLabelReading
 readingAnswer (ok n) k = record { number = 0; place = 0; units = n .units; clusters = n .clusters; glyphs = n .glyphs; rounded = k }
@@ -23,10 +27,10 @@ abbrev pub writingAnswer : Outcome Lengths → GlyphLabelWriting
 writingAnswer (ok n) = record { number = 0; place = 0; text = n .text; indices = n .indices }
 writingAnswer (no n p) = record { number = n; place = p; text = 0; indices = 0 }
 
--- how many places of a lent buffer were filled. A refusal's place has 32 bits here; one beyond them is given as the largest.
+-- how many places of a lent buffer were filled
 abbrev pub filledAnswer : Outcome ℕ → GlyphLabelFilled
 filledAnswer (ok n) = record { number = 0; place = 0; filled = n }
-filledAnswer (no n p) = record { number = n; place = min p 0xffff_ffff; filled = 0 }
+filledAnswer (no n p) = record { number = n; place = p; filled = 0 }
 
 -- the stretch picked
 abbrev pub stretchAnswer : Outcome Stretch → GlyphLabelStretch

@@ -1,14 +1,17 @@
 // The calls for programs in C. A run's numbers are bytes here: a unit is 2 and every other number 4, two's complement, low byte first.
+ghost use Prim.Native.Nat.{_/_};
+ghost use Rattle.label.specs.Places.{places};
+ghost use Rattle.label.specs.Requests.Sheet.{sheetInto};
+ghost use Rattle.label.specs.Pick.{pickGlyphs, pickUnits};
 ghost use mathlib.Core.Path.{_≡_};
-ghost use mathlib.Core.Bool.{true};
-ghost use Prim.Native.Nat.{min};
+ghost use mathlib.Core.Bool.{true, false};
 ghost use lib.ListN.{length};
-ghost use Rattle.label.specs.Rounded.{rounded as roundedIn};
-ghost use Rattle.label.specs.Calls.{readingOutcome, readingRounded, writingOutcome, pickOutcome, counted, lengths, textAfter, indicesAfter, fillingOutcome, filledCount, filledAfter, resolveInto};
-ghost use Rattle.label.specs.Wire.{readBytes, unitBytesAfter, clusterBytesAfter, glyphBytesAfter, writeBytes, writeAskedBytes, pickUnitsBytes, pickGlyphsBytes, numberBytesAfter};
-ghost use Rattle.label.specs.Sheet.{sheetIntoBytes};
 ghost use Rattle.label.specs.Fault.{faultPart};
-ghost use Rattle.glyph_label.specs.Answers.{readingAnswer, writingAnswer, filledAnswer, stretchAnswer, partAnswer};
+ghost use Rattle.label.specs.Calls.{readingOutcome, readingRounded, writingOutcome, pickOutcome, fillingOutcome, filledCount, filledAfter, numbersAfter, counted, unitsAfter, clustersAfter, glyphsAfter, lengths, textAfter, indicesAfter, readInto, writeInto, writeAsked, roomOf, outputs};
+ghost use Rattle.label.specs.Requests.RoundedCount.{rounded as roundedIn};
+ghost use Rattle.label.specs.Requests.Attribute.{resolveInto};
+ghost use Rattle.glyph_label.specs.Promises.{ReadCall, WriteCall};
+ghost use Rattle.glyph_label.specs.Answers.{version, readingAnswer, writingAnswer, filledAnswer, stretchAnswer, partAnswer};
 ghost use Rattle.glyph_label.specs.Fits.{Small32, ReadingFits, WritingFits, StretchFits, FilledFits};
 
 // ── answers ──
@@ -34,11 +37,11 @@ pub struct GlyphLabelWriting {
     pub indices: u32,
 }
 
-// How many places of a lent buffer were filled: bytes, or numbers of an answer list.
+// How many places of a lent buffer were filled: bytes, or numbers of an answer list. A raw value and a file have any size, and so has a place in them.
 #[repr(C)]
 pub struct GlyphLabelFilled {
     pub number: u32,
-    pub place: u32,
+    pub place: usize,
     pub filled: usize,
 }
 
@@ -103,17 +106,6 @@ fn writing_answer(r: label::Writing) -> GlyphLabelWriting
     }
 }
 
-// A place in 32 bits: the largest of them stands for itself and every place beyond.
-fn place_32(p: usize) -> u32
-    ensures { λ r. ⌜ r ≡ min p 4294967295 ⌝ }
-{
-    if p < 0xffff_ffff {
-        p as u32
-    } else {
-        0xffff_ffff
-    }
-}
-
 fn filled_answer(r: label::Filling) -> GlyphLabelFilled
     requires { ⌜ FilledFits (fillingOutcome r) ⌝ }
     ensures { λ a. ⌜ a ≡ filledAnswer (fillingOutcome r) ⌝ }
@@ -126,7 +118,7 @@ fn filled_answer(r: label::Filling) -> GlyphLabelFilled
         },
         label::Filling::Refused(x) => GlyphLabelFilled {
             number: x.number as u32,
-            place: place_32(x.place),
+            place: x.place,
             filled: 0,
         },
     }
@@ -171,6 +163,14 @@ fn part_answer(x: label::Part) -> GlyphLabelPart
 
 // ── the calls ──
 
+// Which calls, structs and answers these are.
+#[no_mangle]
+pub extern "C" fn glyph_label_version() -> u32
+    ensures { λ r. ⌜ r ≡ version ⌝ }
+{
+    1
+}
+
 // Reads a label: its run as bytes into three lent buffers, where none of 1 to 18 holds.
 #[no_mangle]
 pub extern "C" fn glyph_label_read(
@@ -180,12 +180,9 @@ pub extern "C" fn glyph_label_read(
     clusters: &mut [u8],
     glyphs: &mut [u8],
 ) -> GlyphLabelReading
-    ensures result { λ r. ⌜ r ≡ readingAnswer (counted (readBytes (length (now (units .entry))) (length (now (clusters .entry))) (length (now (glyphs .entry))) (now (text .entry)) (now (indices .entry)))) (roundedIn (now (indices .entry))) ⌝ }
-    ensures units { λ _. ⌜ now (units .exit) ≡ unitBytesAfter (readBytes (length (now (units .entry))) (length (now (clusters .entry))) (length (now (glyphs .entry))) (now (text .entry)) (now (indices .entry))) (now (units .entry)) ⌝ }
-    ensures clusters { λ _. ⌜ now (clusters .exit) ≡ clusterBytesAfter (readBytes (length (now (units .entry))) (length (now (clusters .entry))) (length (now (glyphs .entry))) (now (text .entry)) (now (indices .entry))) (now (clusters .entry)) ⌝ }
-    ensures glyphs { λ _. ⌜ now (glyphs .exit) ≡ glyphBytesAfter (readBytes (length (now (units .entry))) (length (now (clusters .entry))) (length (now (glyphs .entry))) (now (text .entry)) (now (indices .entry))) (now (glyphs .entry)) ⌝ }
+    ensures { λ r. ⌜ ReadCall (now (text .entry)) (now (indices .entry)) (now (units .entry)) (now (clusters .entry)) (now (glyphs .entry)) r (now (units .exit)) (now (clusters .exit)) (now (glyphs .exit)) ⌝ }
 {
-    reading_answer(run_bytes::read_bytes(text, indices, units, clusters, glyphs))
+    reading_answer(reader::read(text, indices, units, clusters, glyphs))
 }
 
 // Writes a run handed in as bytes: its normal writing into two lent buffers, where none of 19 to 21 holds.
@@ -197,11 +194,9 @@ pub extern "C" fn glyph_label_write(
     text: &mut [u8],
     indices: &mut [u8],
 ) -> GlyphLabelWriting
-    ensures result { λ r. ⌜ r ≡ writingAnswer (lengths (writeBytes (length (now (text .entry))) (length (now (indices .entry))) (now (units .entry)) (now (clusters .entry)) (now (glyphs .entry)))) ⌝ }
-    ensures text { λ _. ⌜ now (text .exit) ≡ textAfter (writeBytes (length (now (text .entry))) (length (now (indices .entry))) (now (units .entry)) (now (clusters .entry)) (now (glyphs .entry))) (now (text .entry)) ⌝ }
-    ensures indices { λ _. ⌜ now (indices .exit) ≡ indicesAfter (writeBytes (length (now (text .entry))) (length (now (indices .entry))) (now (units .entry)) (now (clusters .entry)) (now (glyphs .entry))) (now (indices .entry)) ⌝ }
+    ensures { λ r. ⌜ WriteCall false (places (now (units .entry)) (now (clusters .entry)) (now (glyphs .entry))) (now (text .entry)) (now (indices .entry)) r (now (text .exit)) (now (indices .exit)) ⌝ }
 {
-    writing_answer(run_bytes::write_bytes(false, units, clusters, glyphs, text, indices))
+    writing_answer(writer::write_as(false, units, clusters, glyphs, text, indices))
 }
 
 // The same with `&`, `<`, `"`, tab, line feed and carriage return of the text as references, counted in 20.
@@ -213,11 +208,9 @@ pub extern "C" fn glyph_label_write_escaped(
     text: &mut [u8],
     indices: &mut [u8],
 ) -> GlyphLabelWriting
-    ensures result { λ r. ⌜ r ≡ writingAnswer (lengths (writeAskedBytes true (length (now (text .entry))) (length (now (indices .entry))) (now (units .entry)) (now (clusters .entry)) (now (glyphs .entry)))) ⌝ }
-    ensures text { λ _. ⌜ now (text .exit) ≡ textAfter (writeAskedBytes true (length (now (text .entry))) (length (now (indices .entry))) (now (units .entry)) (now (clusters .entry)) (now (glyphs .entry))) (now (text .entry)) ⌝ }
-    ensures indices { λ _. ⌜ now (indices .exit) ≡ indicesAfter (writeAskedBytes true (length (now (text .entry))) (length (now (indices .entry))) (now (units .entry)) (now (clusters .entry)) (now (glyphs .entry))) (now (indices .entry)) ⌝ }
+    ensures { λ r. ⌜ WriteCall true (places (now (units .entry)) (now (clusters .entry)) (now (glyphs .entry))) (now (text .entry)) (now (indices .entry)) r (now (text .exit)) (now (indices .exit)) ⌝ }
 {
-    writing_answer(run_bytes::write_bytes(true, units, clusters, glyphs, text, indices))
+    writing_answer(writer::write_as(true, units, clusters, glyphs, text, indices))
 }
 
 // The code units of all clusters touched by glyphs `first` up to and without `end`.
@@ -229,9 +222,9 @@ pub extern "C" fn glyph_label_units_of(
     first: usize,
     end: usize,
 ) -> GlyphLabelStretch
-    ensures { λ r. ⌜ r ≡ stretchAnswer (pickUnitsBytes (now (units .entry)) (now (clusters .entry)) (now (glyphs .entry)) first end) ⌝ }
+    ensures { λ r. ⌜ r ≡ stretchAnswer (pickUnits (places (now (units .entry)) (now (clusters .entry)) (now (glyphs .entry))) first end) ⌝ }
 {
-    stretch_answer(run_bytes::pick_bytes(units, clusters, glyphs, false, first, end))
+    stretch_answer(picks::units_of(units, clusters, glyphs, first, end))
 }
 
 // The glyphs of all clusters touched by code units `first` up to and without `end`.
@@ -243,9 +236,9 @@ pub extern "C" fn glyph_label_glyphs_of(
     first: usize,
     end: usize,
 ) -> GlyphLabelStretch
-    ensures { λ r. ⌜ r ≡ stretchAnswer (pickGlyphsBytes (now (units .entry)) (now (clusters .entry)) (now (glyphs .entry)) first end) ⌝ }
+    ensures { λ r. ⌜ r ≡ stretchAnswer (pickGlyphs (places (now (units .entry)) (now (clusters .entry)) (now (glyphs .entry))) first end) ⌝ }
 {
-    stretch_answer(run_bytes::pick_bytes(units, clusters, glyphs, true, first, end))
+    stretch_answer(picks::glyphs_of(units, clusters, glyphs, first, end))
 }
 
 // One raw attribute value resolved into `out`, where neither 23 nor 24 holds.
@@ -260,10 +253,10 @@ pub extern "C" fn glyph_label_resolve(raw: &[u8], out: &mut [u8]) -> GlyphLabelF
 // The answers to the labels of a sheet's file, as bytes, two numbers a label, where none of 25 to 27 holds.
 #[no_mangle]
 pub extern "C" fn glyph_label_sheet(file: &[u8], answers: &mut [u8]) -> GlyphLabelFilled
-    ensures result { λ r. ⌜ r ≡ filledAnswer (filledCount (sheetIntoBytes (length (now (answers .entry))) (now (file .entry)))) ⌝ }
-    ensures answers { λ _. ⌜ now (answers .exit) ≡ numberBytesAfter (sheetIntoBytes (length (now (answers .entry))) (now (file .entry))) (now (answers .entry)) ⌝ }
+    ensures result { λ r. ⌜ r ≡ filledAnswer (filledCount (sheetInto (length (now (answers .entry)) / 4) (now (file .entry)))) ⌝ }
+    ensures answers { λ _. ⌜ now (answers .exit) ≡ numbersAfter (sheetInto (length (now (answers .entry)) / 4) (now (file .entry))) (now (answers .entry)) ⌝ }
 {
-    filled_answer(sheet::read_sheet_bytes(file, answers))
+    filled_answer(sheet::read_sheet(file, answers))
 }
 
 // The offending part of a refused label, as offsets into the text or the indices.

@@ -4,7 +4,7 @@
 use Prim.Native.Nat.{ℕ, zero, suc, _+_, _-_, _≤_}
 use native.Mathlib.Omega.{arith}
 use native.Mathlib.Nat.{add-zero, add-suc, suc-add}
-use mathlib.Core.Path.{_≡_, refl, _∙_, ap, subst}
+use mathlib.Core.Path.{_≡_, refl, sym, _∙_, ap, subst}
 use mathlib.Core.Bool.{Bool, true, false, not}
 use mathlib.Core.List.{List, [], _∷_, _++_, append-assoc, append-nil}
 use borrow.Author.Tests.{eq-eqb, not-true}
@@ -13,12 +13,13 @@ use lib.ListN.{length, take, drop, length-drop, drop-of-length-le}
 use lib.Seq.{take-all}
 use Rattle.label.specs.Outcome.{Outcome, ok, no, _>>=_}
 use Rattle.label.specs.Bytes.{split}
-use Rattle.label.specs.Text.{decode}
 use Rattle.label.specs.Entry.{Entry}
-use Rattle.label.specs.Run.{Parts, State, opens, takes, cluster, before, next, step, walk}
+use Rattle.label.specs.Run.{Parts, cluster, addGlyph, State, opens, takes, next}
+use Rattle.label.specs.Steps.{decode, step, walk}
 use Rattle.label.specs.declared.Glyph.{Glyph}
 use Rattle.label.specs.declared.Cluster.{Cluster}
 use Rattle.label.proofs.Basics.{and-l, and-r}
+use Rattle.label.proofs.Steps.{decode-none, decode-inside, walk-first}
 use Rattle.label.proofs.Splits.{free, split-join, rest-nil, split-hit, split-miss}
 
 -- ── parts ──
@@ -46,15 +47,13 @@ onto-onto us vs (ok ws) = rw append-assoc
 onto-onto us vs (no n p) = refl
 
 pub decode-skip : (k at : ℕ) (s : List ℕ) → decode k at s ≡ decode 0 (at + k) (drop k s)
-unfolding decode
-decode-skip zero at [] = refl
+decode-skip zero at [] = decode-none 0 at ∙ sym (decode-none 0 (at + 0))
 decode-skip zero at (b ∷ s) = rw (add-zero at)
-decode-skip (suc k) at [] = refl
-decode-skip (suc k) at (b ∷ s) = decode-skip k (suc at) s ∙ rw (add-suc at k, suc-add at k)
+decode-skip (suc k) at [] = decode-none (suc k) at ∙ sym (decode-none 0 (at + suc k))
+decode-skip (suc k) at (b ∷ s) = decode-inside k at b s ∙ decode-skip k (suc at) s ∙ rw (add-suc at k, suc-add at k)
 
 pub decode-end : (s : List ℕ) (i : ℕ) → length s ≤ i → decode 0 i (drop i s) ≡ ok []
-unfolding decode
-decode-end s i h = rw (drop-of-length-le s h)
+decode-end s i h = rw (drop-of-length-le s h) (decode-none 0 i)
 
 -- ── entries ──
 
@@ -67,24 +66,22 @@ after p o = o >>= (λ q. ok (joined p q))
 
 -- what an entry adds
 abbrev pub added : Bool → State → Entry → Parts
-added bare st e = before (opens st) (cluster (takes bare st e) (e .glyphs)) (e .glyph) (record { clusters = []; glyphs = [] })
+added bare st e = addGlyph (opens st) (cluster (takes bare st e) (e .glyphs)) (e .glyph) (record { clusters = []; glyphs = [] })
 
-before-is : (o : Bool) (c : Cluster) (g : Glyph) (q : Parts) → before o c g q ≡ joined (before o c g (record { clusters = []; glyphs = [] })) q
+before-is : (o : Bool) (c : Cluster) (g : Glyph) (q : Parts) → addGlyph o c g q ≡ joined (addGlyph o c g (record { clusters = []; glyphs = [] })) q
 before-is true c g q = refl
 before-is false c g q = refl
 
 pub walk-good : (bare : Bool) (st : State) (s : List ℕ) (ss : List (List ℕ)) (e : Entry) → step bare st s ≡ ok e
     → walk bare st (s ∷ ss) ≡ after (added bare st e) (walk bare (next bare st e) ss)
-unfolding walk
-walk-good bare st s ss e h = rw h (go (walk bare (next bare st e) ss))
+walk-good bare st s ss e h = walk-first bare st s ss ∙ rw h (go (walk bare (next bare st e) ss))
   where
-    go : (o : Outcome Parts) → (o >>= (λ p. ok (before (opens st) (cluster (takes bare st e) (e .glyphs)) (e .glyph) p))) ≡ after (added bare st e) o
+    go : (o : Outcome Parts) → (o >>= (λ p. ok (addGlyph (opens st) (cluster (takes bare st e) (e .glyphs)) (e .glyph) p))) ≡ after (added bare st e) o
     go (ok p) = ap ok (before-is (opens st) (cluster (takes bare st e) (e .glyphs)) (e .glyph) p)
     go (no n q) = refl
 
 pub walk-bad : (bare : Bool) (st : State) (s : List ℕ) (ss : List (List ℕ)) (n p : ℕ) → step bare st s ≡ no n p → walk bare st (s ∷ ss) ≡ no n p
-unfolding walk
-walk-bad bare st s ss n p h = rw h
+walk-bad bare st s ss n p h = walk-first bare st s ss ∙ rw h
 
 -- `&s[a..]`
 pub part-rest : {A : Type 0} (s : List A) (a : ℕ) → take (length s - a) (drop a s) ≡ drop a s

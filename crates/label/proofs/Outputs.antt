@@ -11,7 +11,7 @@ use lib.IntN.{ℤ, pos, negsuc}
 use Rattle.label.specs.Bytes.{empty, decimal}
 use Rattle.label.specs.Run.{named, given, fontGlyph}
 use Rattle.label.specs.Sound.{size, isFont}
-use Rattle.label.specs.Write.{fraction, valueBytes, mapBytes, indexBytes, advanceBytes, offsetBytes, entryBytes}
+use Rattle.label.specs.Write.{fraction, valueBytes, advanceBytes, offsetBytes, mapBytes, indexBytes, entryBytes}
 use Rattle.label.specs.declared.Index.{Index}
 use Rattle.label.specs.declared.Index.the-variants.{Named, Font}
 use Rattle.label.specs.declared.Advance.{Advance}

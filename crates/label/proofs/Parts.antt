@@ -1,5 +1,4 @@
--- Parts by their counts: every place in exactly one; a run's counts add up; a run's numbers and back; the soundness test and "some label reads as it"; the stretch
--- that a pick gives; the cluster map.
+-- Parts by their counts: every place in exactly one; a run's counts add up; a run's numbers and back; the stretch that a pick gives; the cluster map.
 -- Assumes nothing.
 use Prim.Native.Nat.{ℕ, zero, suc, _+_, _*_, _-_, _≤_, _<_}
 use native.Mathlib.Omega.{arith}
@@ -11,11 +10,10 @@ use borrow.Author.Tests.{ltb-true, ltb-false, eqb-true}
 use lib.Dec.{ltb}
 use lib.IntN.{ℤ, pos, negsuc}
 use lib.ListN.{length, getD, drop, length-drop, length-append, replicate, length-replicate}
-use Rattle.label.specs.Run.{Run}
-use Rattle.label.specs.Write.{textOf, indicesOf}
-use Rattle.label.specs.Sound.{indexNumber, advanceNumber, flatClusters, flatGlyphs, Readable, choice, wholeClusters, wholeGlyphs, numberIndex, numberAdvance, clustersOf, glyphsOf, fits, soundRun, runOf, sound}
+use Rattle.label.specs.Places.{indexNumber, advanceNumber, flatClusters, flatGlyphs}
+use Rattle.label.specs.Sound.{choice, wholeClusters, wholeGlyphs, numberIndex, numberAdvance, clustersOf, glyphsOf, fits}
 use Rattle.label.specs.Pick.{stretch, touched, turned}
-use Rattle.label.specs.Demands.{startsAt, In, Divided, unitCounts, glyphCounts, Touches, ClustersTouched, clusterMap}
+use Rattle.label.specs.Statements.Demands.{partStart, In, Divided, unitCounts, glyphCounts, Touches, ClustersTouched, clusterMap}
 use Rattle.label.specs.declared.Index.{Index}
 use Rattle.label.specs.declared.Index.the-variants.{Named, Font}
 use Rattle.label.specs.declared.Advance.{Advance}
@@ -23,8 +21,7 @@ use Rattle.label.specs.declared.Advance.the-variants.{Given, Own}
 use Rattle.label.specs.declared.Glyph.{Glyph}
 use Rattle.label.specs.declared.Cluster.{Cluster}
 use Rattle.label.proofs.Basics.{and-l, and-r, clash, cases}
-use Rattle.label.proofs.Walks.{fits-further, Opening, fits-opening, Bare, may-bare, Opens, may-opens, fits-nil}
-use Rattle.label.proofs.Sounds.{read-sound, read-back}
+use Rattle.label.proofs.Run.{fits-further, Opening, fits-opening, Bare, may-bare, Opens, may-opens, fits-nil}
 use Rattle.label.proofs.Picks.{holding-is}
 
 -- ── parts by their counts ──
@@ -53,7 +50,7 @@ order (n ∷ ns) i i′ (suc j) (suc k) h x y =
     (record { part = omega (arith, y .part); from = omega (arith, y .from); below = omega (arith, y .below, y .from) }) in
     omega arith
 
-starts-sum : (ns : List ℕ) (j : ℕ) → startsAt ns j ≤ sum ns
+starts-sum : (ns : List ℕ) (j : ℕ) → partStart ns j ≤ sum ns
 starts-sum ns zero = omega arith
 starts-sum [] (suc j) = omega arith
 starts-sum (n ∷ ns) (suc j) = omega (arith, starts-sum ns j)
@@ -101,7 +98,7 @@ fits-glyphs (g ∷ gs) false (c ∷ cs) us zero h =
 
 -- ── a run's numbers and back ──
 
-clusters-flat : (zs : List ℤ) → wholeClusters zs ≡ true → flatClusters (clustersOf zs) ≡ zs
+pub clusters-flat : (zs : List ℤ) → wholeClusters zs ≡ true → flatClusters (clustersOf zs) ≡ zs
 unfolding wholeClusters clustersOf flatClusters
 clusters-flat [] h = refl
 clusters-flat (a ∷ []) h = absurd (false≢true h)
@@ -114,7 +111,7 @@ unfolding clustersOf flatClusters
 clusters-of [] = refl
 clusters-of (c ∷ cs) = rw (clusters-of cs)
 
-clusters-whole : (cs : List Cluster) → wholeClusters (flatClusters cs) ≡ true
+pub clusters-whole : (cs : List Cluster) → wholeClusters (flatClusters cs) ≡ true
 unfolding wholeClusters flatClusters
 clusters-whole [] = refl
 clusters-whole (c ∷ cs) = clusters-whole cs
@@ -153,7 +150,7 @@ choice-advance : (a : Advance) → choice (advanceNumber a) ≡ true
 choice-advance (Given n) = refl
 choice-advance Own = refl
 
-glyphs-flat : (zs : List ℤ) → wholeGlyphs zs ≡ true → flatGlyphs (glyphsOf zs) ≡ zs
+pub glyphs-flat : (zs : List ℤ) → wholeGlyphs zs ≡ true → flatGlyphs (glyphsOf zs) ≡ zs
 unfolding wholeGlyphs glyphsOf flatGlyphs
 glyphs-flat [] h = refl
 glyphs-flat (i ∷ []) h = absurd (false≢true h)
@@ -168,39 +165,16 @@ unfolding glyphsOf flatGlyphs
 glyphs-of [] = refl
 glyphs-of (g ∷ gs) = rw (number-index (g .index), number-advance (g .advance), glyphs-of gs)
 
-glyphs-whole : (gs : List Glyph) → wholeGlyphs (flatGlyphs gs) ≡ true
+pub glyphs-whole : (gs : List Glyph) → wholeGlyphs (flatGlyphs gs) ≡ true
 unfolding wholeGlyphs flatGlyphs
 glyphs-whole [] = refl
 glyphs-whole (g ∷ gs) = rw (choice-index (g .index), choice-advance (g .advance)) (glyphs-whole gs)
-
--- the test holds exactly of what some accepted label reads as
-pub sound-readable : (us : List ℕ) (cs gs : List ℤ) → sound us cs gs ≡ true → Readable us cs gs
-unfolding sound
-sound-readable us cs gs h =
-    let p : (wholeClusters cs && wholeGlyphs gs) ≡ true = and-l (wholeClusters cs && wholeGlyphs gs) (soundRun (runOf us cs gs)) h in
-    record {
-      run = runOf us cs gs;
-      text = textOf us;
-      indices = indicesOf (clustersOf cs) (glyphsOf gs);
-      reads = read-back (runOf us cs gs) (and-r (wholeClusters cs && wholeGlyphs gs) (soundRun (runOf us cs gs)) h);
-      units-are = refl;
-      clusters-are = clusters-flat cs (and-l (wholeClusters cs) (wholeGlyphs gs) p);
-      glyphs-are = glyphs-flat gs (and-r (wholeClusters cs) (wholeGlyphs gs) p);
-    }
-
-pub run-sound : (r : Run) → soundRun r ≡ true → sound (r .units) (flatClusters (r .clusters)) (flatGlyphs (r .glyphs)) ≡ true
-unfolding sound
-run-sound r h = rw (clusters-whole (r .clusters), glyphs-whole (r .glyphs), clusters-of (r .clusters), glyphs-of (r .glyphs)) h
-
-pub readable-sound : (us : List ℕ) (cs gs : List ℤ) → Readable us cs gs → sound us cs gs ≡ true
-readable-sound us cs gs w =
-    rw (← w .units-are, ← w .clusters-are, ← w .glyphs-are) (run-sound (w .run) (read-sound (w .text) (w .indices) (w .run) (w .reads)))
 
 -- ── picks ──
 
 -- the stretch between the clusters that hold the first and the last place
 holding-whole : (ns to : List ℕ) (first end j k : ℕ) → first < end → In ns j first → In ns k (end - 1)
-    → ClustersTouched ns to first end (stretch (startsAt to j) (startsAt to (suc k)))
+    → ClustersTouched ns to first end (stretch (partStart to j) (partStart to (suc k)))
 holding-whole ns to first end j k h x y =
     let tj : Touches ns first end j = record { at = first; from = omega arith; below = h; is = x } in
     let tk : Touches ns first end k = record { at = end - 1; from = omega arith; below = omega arith; is = y } in
@@ -221,7 +195,7 @@ unfolding touched
 touched-whole cs first end h l =
     let (j, x) = find (glyphCounts cs) first (omega arith) in
     let (k, y) = find (glyphCounts cs) (end - 1) (omega arith) in
-    rw (holding-is cs first 0 j x, holding-is cs (end - 1) 0 k y, zero-add (startsAt (unitCounts cs) j), zero-add (startsAt (unitCounts cs) (suc k)))
+    rw (holding-is cs first 0 j x, holding-is cs (end - 1) 0 k y, zero-add (partStart (unitCounts cs) j), zero-add (partStart (unitCounts cs) (suc k)))
     (holding-whole (glyphCounts cs) (unitCounts cs) first end j k h x y)
 
 pub turned-glyphs : (cs : List Cluster) → glyphCounts (turned cs) ≡ unitCounts cs
@@ -251,7 +225,7 @@ behind-it zero g k r h = let e : k - 0 ≡ k = omega arith in rw e
 behind-it (suc n) g zero r h = absurd (not-suc-le-zero h)
 behind-it (suc n) g (suc k) r h = let e : suc k - suc n ≡ k - n = omega arith in rw e (behind-it n g k r (omega arith))
 
-pub map-at : (cs : List Cluster) (g j k : ℕ) → In (unitCounts cs) j k → getD (clusterMap g cs) k 0 ≡ g + startsAt (glyphCounts cs) j
+pub map-at : (cs : List Cluster) (g j k : ℕ) → In (unitCounts cs) j k → getD (clusterMap g cs) k 0 ≡ g + partStart (glyphCounts cs) j
 unfolding clusterMap
 map-at [] g j k x = absurd (not-suc-le-zero (x .part))
 map-at (c ∷ cs) g zero k x =

@@ -7,11 +7,11 @@ use mathlib.Core.Path.{_≡_, _∙_}
 use mathlib.Core.List.{List, [], _∷_}
 use borrow.Author.Tests.{lt-ltb, le-ltb}
 use Rattle.label.specs.Pick.{stretch, holding}
-use Rattle.label.specs.Demands.{startsAt, In, unitCounts, glyphCounts}
+use Rattle.label.specs.Statements.Demands.{partStart, In, unitCounts, glyphCounts}
 use Rattle.label.specs.declared.Cluster.{Cluster}
 
 pub holding-is : (cs : List Cluster) (n u j : ℕ) → In (glyphCounts cs) j n
-    → holding n u cs ≡ stretch (u + startsAt (unitCounts cs) j) (u + startsAt (unitCounts cs) (suc j))
+    → holding n u cs ≡ stretch (u + partStart (unitCounts cs) j) (u + partStart (unitCounts cs) (suc j))
 unfolding holding
 holding-is [] n u j x = absurd (not-suc-le-zero (x .part))
 holding-is (c ∷ cs) n u zero x =
@@ -22,6 +22,6 @@ holding-is (c ∷ cs) n u zero x =
 holding-is (c ∷ cs) n u (suc j) x =
     let l : c .glyphs ≤ n = omega (arith, x .from) in
     let y : In (glyphCounts cs) j (n - c .glyphs) = record { part = omega (arith, x .part); from = omega (arith, x .from); below = omega (arith, x .below, x .from) } in
-    let a : u + c .units + startsAt (unitCounts cs) j ≡ u + (c .units + startsAt (unitCounts cs) j) = omega arith in
-    let b : u + c .units + startsAt (unitCounts cs) (suc j) ≡ u + (c .units + startsAt (unitCounts cs) (suc j)) = omega arith in
+    let a : u + c .units + partStart (unitCounts cs) j ≡ u + (c .units + partStart (unitCounts cs) j) = omega arith in
+    let b : u + c .units + partStart (unitCounts cs) (suc j) ≡ u + (c .units + partStart (unitCounts cs) (suc j)) = omega arith in
     rw (le-ltb n (c .glyphs) l) (holding-is cs (n - c .glyphs) (u + c .units) j y ∙ rw (a, b))

@@ -1,110 +1,102 @@
--- Where refusals are: their numbers and places are bounded.
+-- Places that are handed in: those of a run name the run, and the soundness test says exactly that some accepted label reads as them.
 -- Assumes nothing.
-use mathlib.Core.Path.{_≡_, refl}
-use mathlib.Core.Bool.{Bool, true, false, cond, not, _&&_, _||_}
-use mathlib.Core.List.{List, [], _∷_}
-use Prim.Native.Nat.{ℕ, zero, suc, _+_, _≤_}
+use Prim.Native.Nat.{ℕ, _+_}
 use native.Mathlib.Omega.{arith}
-use borrow.Author.Tests.{leb-true}
-use lib.Dec.{leb}
-use lib.ListN.{length, length-drop}
-use Rattle.label.specs.Limits.{maxTextBytes, maxIndicesBytes, maxUnits, maxGlyphs, maxIndex}
-use Rattle.label.specs.Outcome.{Outcome, ok, no, need, _>>=_, _>>_}
-use Rattle.label.specs.Bytes.{empty, value}
-use Rattle.label.specs.Text.{starts, following, codePoint, xmlChar, decode, braced, marked, unmarked, textUnits}
-use Rattle.label.specs.Entry.{part, indexDigits, wellFormed, fieldFits, Entry, entry, entries}
-use Rattle.label.specs.Run.{whole, State, start, opens, takes, allowed, next, placed, step, walk, runFrom, read}
+use mathlib.Core.Path.{_≡_, refl, sym, _∙_, ap}
+use mathlib.Core.Bool.{true, _&&_}
+use mathlib.Core.List.{List}
+use lib.ListN.{length}
+use Rattle.label.specs.Bytes.{empty}
+use Rattle.label.specs.Run.{Run}
+use Rattle.label.specs.Wire.{fromHalves, fromWords, halves, words, evenBytes, wordBytes}
+use Rattle.label.specs.Places.{flatClusters, flatGlyphs, Places, places, placesOf, Readable}
+use Rattle.label.specs.Sound.{wholeClusters, wholeGlyphs, clustersOf, glyphsOf, soundRun, runOf, noLeftOver, sound}
+use Rattle.label.specs.Write.{normal}
+use Rattle.label.specs.Statements.Demands.{unitCounts, glyphCounts, allBytes, inBytes}
 use Rattle.label.proofs.Basics.{and-l, and-r}
-use Rattle.label.proofs.Rounded.{entries-length}
-use Rattle.label.proofs.Walks.{step-ok}
-use Rattle.label.proofs.Sounds.{text-ok}
+use Rattle.label.proofs.Sound.{read-sound, read-back, SoundRun, sound-parts}
+use Rattle.label.proofs.Parts.{sum, fits-units, fits-glyphs, clusters-flat, clusters-of, clusters-whole, glyphs-flat, glyphs-of, glyphs-whole}
+use Rattle.label.proofs.Wire.{halves-back, halves-even, halves-forth, words-back, words-forth, words-whole, glyphs-32, clusters-32}
 
--- a refusal has a number from 1 to m and a place up to k
-pub data Placed {A : Type 0} (m k : ℕ) : Outcome A → Type 0 where
-  fine : {a : A} → Placed m k (ok a)
-  refused : {n p : ℕ} → 1 ≤ n → n ≤ m → p ≤ k → Placed m k (no n p)
+-- ── the places of a sound run ──
 
-module _ (m k : ℕ) where
-  pub need-placed : {A : Type 0} (t : Bool) (n p : ℕ) (o : Outcome A) → (1 ≤ n) × (n ≤ m) → p ≤ k → (t ≡ true → Placed m k o) → Placed m k (need t n p >> o)
-  need-placed true n p o a b f = f refl
-  need-placed false n p o a b f = refused (a .0) (a .1) b
+module _ (r : Run) (h : soundRun r ≡ true) where
+  parts : SoundRun r
+  parts = sound-parts r h
 
-  pub bind-placed : {A B : Type 0} (o : Outcome A) (f : A → Outcome B) → Placed m k o → ((a : A) → o ≡ ok a → Placed m k (f a)) → Placed m k (o >>= f)
-  bind-placed (ok a) f h g = g a refl
-  bind-placed (no n p) f (refused a b d) g = refused a b d
+  pub clusters-back : words (placesOf r .clusters) ≡ flatClusters (r .clusters)
+  clusters-back =
+      let u : sum (unitCounts (r .clusters)) ≡ length (r .units) = fits-units (r .glyphs) (empty (r .units)) (r .clusters) (r .units) 0 (parts .fit) in
+      let g : 0 + sum (glyphCounts (r .clusters)) ≡ length (r .glyphs) = fits-glyphs (r .glyphs) (empty (r .units)) (r .clusters) (r .units) 0 (parts .fit) in
+      words-back (flatClusters (r .clusters)) (clusters-32 (r .clusters) (omega (arith, u, parts .few-units)) (omega (arith, g, parts .few-glyphs)))
 
--- ── 1 to 15 ──
+  pub glyphs-back : words (placesOf r .glyphs) ≡ flatGlyphs (r .glyphs)
+  glyphs-back = words-back (flatGlyphs (r .glyphs)) (glyphs-32 (r .glyphs) (empty (r .units)) 0 (r .units) (r .clusters) (parts .fit))
 
-module _ (k : ℕ) where
-  decode-placed : (bs : List ℕ) (skip at : ℕ) → at + length bs ≤ k → Placed 15 k (decode skip at bs)
-  unfolding decode
-  decode-placed [] zero at h = fine
-  decode-placed [] (suc skip) at h = fine
-  decode-placed (b ∷ bs) (suc skip) at h = decode-placed bs skip (suc at) (omega arith)
-  decode-placed (b ∷ bs) zero at h =
-      need-placed 15 k (starts b bs) 2 at _ (omega arith, omega arith) (omega arith)
-      (λ _. need-placed 15 k (xmlChar (codePoint b bs)) 3 at _ (omega arith, omega arith) (omega arith)
-      (λ _. bind-placed 15 k (decode (following b bs) (suc at) bs) _ (decode-placed bs (following b bs) (suc at) (omega arith)) (λ _ _. fine)))
+  pub run-of : runOf (placesOf r) ≡ r
+  run-of = rw (halves-back (r .units), clusters-back, glyphs-back, clusters-of (r .clusters), glyphs-of (r .glyphs))
 
-  text-placed : (text : List ℕ) → length text ≤ k → Placed 15 k (textUnits text)
-  unfolding textUnits
-  text-placed text h =
-      bind-placed 15 k (decode 0 0 text) _ (decode-placed text 0 0 (omega arith))
-      (λ all _. need-placed 15 k (not (braced all) || marked all) 4 0 _ (omega arith, omega arith) (omega arith)
-      (λ _. need-placed 15 k (leb (length (unmarked all)) maxUnits) 5 0 _ (omega arith, omega arith) (omega arith) (λ _. fine)))
+  pub run-sound : sound (placesOf r) ≡ true
+  unfolding sound
+  run-sound =
+      rw (halves-even (r .units), words-whole (flatClusters (r .clusters)), words-whole (flatGlyphs (r .glyphs)), halves-back (r .units), clusters-back, glyphs-back)
+      (rw (clusters-whole (r .clusters), glyphs-whole (r .glyphs), clusters-of (r .clusters), glyphs-of (r .glyphs)) h)
 
-  entry-placed : (j : ℕ) (s : List ℕ) → j ≤ k → Placed 15 k (entry j s)
-  unfolding entry
-  entry-placed j s h =
-      need-placed 15 k (wellFormed s) 7 j _ (omega arith, omega arith) h
-      (λ _. need-placed 15 k (leb (value (indexDigits (part 0 s))) maxIndex) 8 j _ (omega arith, omega arith) h
-      (λ _. need-placed 15 k (fieldFits (part 1 s) && fieldFits (part 2 s) && fieldFits (part 3 s)) 9 j _ (omega arith, omega arith) h (λ _. fine)))
+-- ── sound places ──
 
-  checks-placed : (bare : Bool) (st : State) (e : Entry) → st .k ≤ k → st .at + length (st .rest) ≤ k → Placed 15 k (placed bare st e)
-  unfolding placed
-  checks-placed bare st e h r =
-      need-placed 15 k (leb 1 (e .units) && leb 1 (e .glyphs)) 10 (st .k) _ (omega arith, omega arith) h
-      (λ _. need-placed 15 k (allowed bare st e) 11 (st .k) _ (omega arith, omega arith) h
-      (λ _. need-placed 15 k (leb (takes bare st e) (length (st .rest))) 12 (st .k) _ (omega arith, omega arith) h
-      (λ t. let l = leb-true (takes bare st e) (length (st .rest)) t in need-placed 15 k (whole (takes bare st e) (st .rest)) 13 (st .at + takes bare st e) _ (omega arith, omega arith) (omega arith) (λ _. fine))))
+-- what the test says of places
+pub record SoundPlaces (z : Places) : Type 0 where
+  pub units-even : evenBytes (z .units) ≡ true
+  pub clusters-words : wordBytes (z .clusters) ≡ true
+  pub glyphs-words : wordBytes (z .glyphs) ≡ true
+  pub clusters-are : wholeClusters (words (z .clusters)) ≡ true
+  pub glyphs-are : wholeGlyphs (words (z .glyphs)) ≡ true
+  pub run-is : soundRun (runOf z) ≡ true
 
-  step-placed : (bare : Bool) (st : State) (s : List ℕ) → st .k ≤ k → st .at + length (st .rest) ≤ k → Placed 15 k (step bare st s)
-  unfolding step
-  step-placed bare st s h r = bind-placed 15 k (entry (st .k) s) _ (entry-placed (st .k) s h) (λ e _. checks-placed bare st e h r)
+pub sound-places : (z : Places) → sound z ≡ true → SoundPlaces z
+unfolding sound
+sound-places z h =
+    let eu = evenBytes (z .units) in
+    let wc = wordBytes (z .clusters) in
+    let wg = wordBytes (z .glyphs) in
+    let cs = wholeClusters (words (z .clusters)) in
+    let gs = wholeGlyphs (words (z .glyphs)) in
+    let r = soundRun (runOf z) in
+    let n = and-l (eu && wc && wg) (cs && gs && r) h in
+    let m = and-r (eu && wc && wg) (cs && gs && r) h in
+    record {
+      units-even = and-l eu wc (and-l (eu && wc) wg n);
+      clusters-words = and-r eu wc (and-l (eu && wc) wg n);
+      glyphs-words = and-r (eu && wc) wg n;
+      clusters-are = and-l cs gs (and-l (cs && gs) r m);
+      glyphs-are = and-r cs gs (and-l (cs && gs) r m);
+      run-is = and-r (cs && gs) r m;
+    }
 
-  cond-below : (b : Bool) {m n : ℕ} → m ≤ k → n ≤ k → cond b m n ≤ k
-  cond-below true p q = p
-  cond-below false p q = q
+-- sound places are those of the run that they name
+places-of : (z : Places) → inBytes z ≡ true → SoundPlaces z → placesOf (runOf z) ≡ z
+places-of z h s =
+    let bu = allBytes (z .units) in
+    let bc = allBytes (z .clusters) in
+    let bg = allBytes (z .glyphs) in
+    rw (
+      clusters-flat (words (z .clusters)) (s .clusters-are),
+      glyphs-flat (words (z .glyphs)) (s .glyphs-are),
+      halves-forth (z .units) (and-l bu bc (and-l (bu && bc) bg h)) (s .units-even),
+      words-forth (z .clusters) (and-r bu bc (and-l (bu && bc) bg h)) (s .clusters-words),
+      words-forth (z .glyphs) (and-r (bu && bc) bg h) (s .glyphs-words),
+    )
 
-  walk-placed : (ss : List (List ℕ)) (bare : Bool) (st : State) → st .k + length ss ≤ k → st .at + length (st .rest) ≤ k → st .opener ≤ k → Placed 15 k (walk bare st ss)
-  unfolding walk
-  walk-placed [] bare st h r o = need-placed 15 k (opens st) 14 (st .opener) _ (omega arith, omega arith) o (λ _. fine)
-  walk-placed (s ∷ ss) bare st h r o =
-      bind-placed 15 k (step bare st s) _ (step-placed bare st s (omega arith) r)
-      (λ e q.
-      let l = leb-true (takes bare st e) (length (st .rest)) (step-ok bare st s e q .twelve) in
-      let d = length-drop (takes bare st e) (st .rest) in
-      bind-placed 15 k (walk bare (next bare st e) ss) _
-      (walk-placed ss bare (next bare st e) (omega arith) (omega arith) (cond-below (opens st) (omega arith) o))
-      (λ _ _. fine))
+-- ── the test holds exactly of what some accepted label reads as ──
 
-  run-placed : (us indices : List ℕ) → length us ≤ k → length (entries indices) ≤ k → Placed 15 k (runFrom us indices)
-  unfolding runFrom
-  run-placed us indices h e =
-      need-placed 15 k (not (empty us && empty indices)) 6 0 _ (omega arith, omega arith) (omega arith)
-      (λ _. bind-placed 15 k (walk (empty us) (start us) (entries indices)) _ (walk-placed (entries indices) (empty us) (start us) (omega arith) (omega arith) (omega arith))
-      (λ p _. need-placed 15 k (leb (length (p .glyphs)) maxGlyphs) 15 0 _ (omega arith, omega arith) (omega arith) (λ _. fine)))
+pub sound-readable : (z : Places) → inBytes z ≡ true → sound z ≡ true → Readable z
+sound-readable z b h =
+    let s : SoundPlaces z = sound-places z h in
+    record { run = runOf z; text = normal (runOf z) .text; indices = normal (runOf z) .indices; reads = read-back (runOf z) (s .run-is); places-are = places-of z b s }
 
--- the units of an accepted text
-text-few : (text us : List ℕ) → textUnits text ≡ ok us → length us ≤ 4096
-text-few text us h = leb-true (length us) 4096 (text-ok text us h .fifth)
+pub readable-sound : (z : Places) → Readable z → sound z ≡ true
+readable-sound z w = rw (← w .places-are) (run-sound (w .run) (read-sound (w .text) (w .indices) (w .run) (w .reads)))
 
-pub read-placed : (text indices : List ℕ) → Placed 15 262145 (read text indices)
-unfolding read
-read-placed text indices =
-    need-placed 15 262145 (leb (length text) maxTextBytes && leb (length indices) maxIndicesBytes) 1 0 _ (omega arith, omega arith) (omega arith)
-    (λ t.
-    let a = leb-true (length text) 16384 (and-l (leb (length text) 16384) (leb (length indices) 262144) t) in
-    let b = leb-true (length indices) 262144 (and-r (leb (length text) 16384) (leb (length indices) 262144) t) in
-    bind-placed 15 262145 (textUnits text) _ (text-placed 262145 text (omega arith))
-    (λ us e. let f = text-few text us e in run-placed 262145 us indices (omega arith) (omega (arith, entries-length indices))))
+-- the run that readable places name is the one that was read
+pub readable-run : (z : Places) (w : Readable z) → runOf z ≡ w .run
+readable-run z w = rw (← w .places-are) (run-of (w .run) (read-sound (w .text) (w .indices) (w .run) (w .reads)))

@@ -1,6 +1,6 @@
 -- How large a sound run and its normal writing can be.
 -- Assumes nothing.
-use Prim.Native.Nat.{ℕ, zero, suc, _*_, _-_, _≤_}
+use Prim.Native.Nat.{ℕ, zero, suc, _-_, _≤_}
 use native.Mathlib.Omega.{arith}
 use mathlib.Core.Path.{_≡_}
 use mathlib.Core.Bool.{Bool, true}
@@ -9,17 +9,20 @@ use lib.ListN.{length, drop}
 use Rattle.label.specs.Limits.{maxTextBytes, maxIndicesBytes, maxUnits, maxGlyphs}
 use Rattle.label.specs.Outcome.{ok}
 use Rattle.label.specs.Bytes.{empty}
-use Rattle.label.specs.Run.{Run, read}
+use Rattle.label.specs.Run.{Run}
+use Rattle.label.specs.Checks.{read}
 use Rattle.label.specs.Sound.{fits, soundRun}
 use Rattle.label.specs.Write.{normal}
 use Rattle.label.specs.Calls.{readInto}
-use Rattle.label.specs.Demands.{Roomy, RoomyFor}
+use Rattle.label.specs.Statements.Demands.{Roomy, RoomyFor}
+use Rattle.label.specs.declared.Counts.{Counts}
+use Rattle.label.specs.declared.Lengths.{Lengths}
 use Rattle.label.specs.declared.Glyph.{Glyph}
 use Rattle.label.specs.declared.Cluster.{Cluster}
-use Rattle.label.proofs.Walks.{fits-nil, fits-further, fits-opening, Indices, indices-back}
-use Rattle.label.proofs.Texts.{text-back, proper-first}
-use Rattle.label.proofs.Sounds.{SoundRun, sound-parts, read-sound}
-use Rattle.label.proofs.Demands.{demand-3}
+use Rattle.label.proofs.Run.{fits-nil, fits-further, fits-opening, Indices, indices-back}
+use Rattle.label.proofs.Text.{text-back, proper-first}
+use Rattle.label.proofs.Sound.{SoundRun, sound-parts, read-sound}
+use Rattle.label.proofs.Statements.Demands.{demand-3}
 
 -- a cluster has a glyph
 pub fits-few : (gs : List Glyph) (bare : Bool) (cs : List Cluster) (us : List ℕ) (lack : ℕ) → fits bare lack us cs gs ≡ true → length cs ≤ length gs
@@ -30,13 +33,19 @@ fits-few (g ∷ gs) bare (c ∷ cs) us zero h =
     omega (arith, fits-few gs bare cs (drop (c .units) us) (c .glyphs - 1) (fits-opening bare us c cs g gs h .rest))
 
 -- the buffers that hold every run, and the outputs that hold every normal writing
-pub sound-roomy : (r : Run) → soundRun r ≡ true → Roomy r maxUnits (2 * maxGlyphs) (4 * maxGlyphs)
+abbrev pub largest : Counts
+largest = record { units = maxUnits; clusters = maxGlyphs; glyphs = maxGlyphs }
+
+abbrev pub longest : Lengths
+longest = record { text = maxTextBytes; indices = maxIndicesBytes }
+
+pub sound-roomy : (r : Run) → soundRun r ≡ true → Roomy r largest
 sound-roomy r h =
     let s : SoundRun r = sound-parts r h in
     let f : length (r .clusters) ≤ length (r .glyphs) = fits-few (r .glyphs) (empty (r .units)) (r .clusters) (r .units) 0 (s .fit) in
     record { for-units = s .few-units; for-clusters = omega (arith, s .few-glyphs); for-glyphs = omega (arith, s .few-glyphs) }
 
-pub sound-short : (r : Run) → soundRun r ≡ true → RoomyFor (normal r) maxTextBytes maxIndicesBytes
+pub sound-short : (r : Run) → soundRun r ≡ true → RoomyFor (normal r) longest
 sound-short r h =
     let s : SoundRun r = sound-parts r h in
     let i : Indices (empty (r .units)) (r .units) (r .clusters) (r .glyphs) =
@@ -44,5 +53,5 @@ sound-short r h =
     record { for-text = text-back (r .units) (s .proper) .short (s .few-units); for-indices = i .short }
 
 -- the reading into such buffers
-pub read-largest : (t i : List ℕ) (r : Run) → read t i ≡ ok r → readInto maxUnits (2 * maxGlyphs) (4 * maxGlyphs) t i ≡ ok r
-read-largest t i r h = demand-3 .reads t i r maxUnits (2 * maxGlyphs) (4 * maxGlyphs) h (sound-roomy r (read-sound t i r h))
+pub read-largest : (t i : List ℕ) (r : Run) → read t i ≡ ok r → readInto largest t i ≡ ok r
+read-largest t i r h = demand-3 .reads t i r largest h (sound-roomy r (read-sound t i r h))

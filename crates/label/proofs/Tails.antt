@@ -9,17 +9,17 @@ use mathlib.Core.List.{List, [], _∷_, _++_}
 use borrow.Author.Tests.{not-true, leb-false}
 use lib.Dec.{leb}
 use lib.ListN.{length, getD, drop}
-use Rattle.label.specs.Text.{xmlChar, isHigh, isLow, isPair, unitsOf}
-use Rattle.label.specs.Run.{fontGlyph, cluster, before, whole, tail}
-use Rattle.label.specs.Sound.{isFont, allFont}
-use Rattle.label.specs.Write.{entryBytes, written}
 use Rattle.label.specs.Bytes.{trim}
+use Rattle.label.specs.Text.{xmlChar, isHigh, isLow, isPair, unitsOf}
+use Rattle.label.specs.Run.{fontGlyph, cluster, addGlyph, whole, tail}
+use Rattle.label.specs.Sound.{isFont, allFont}
+use Rattle.label.specs.Write.{entryBytes, entryList}
 use Rattle.label.specs.declared.Glyph.{Glyph}
 use Rattle.label.specs.declared.Cluster.{Cluster}
 use Rattle.label.proofs.Basics.{and-l, and-r, cases}
 use Rattle.label.proofs.Splits.{trim-nil, trim-gone}
 use Rattle.label.proofs.Outputs.{font-empty}
-use Rattle.label.proofs.Texts.{xml-not-high, xml-halves}
+use Rattle.label.proofs.Text.{xml-not-high, xml-halves}
 
 -- an empty entry before others that are dropped
 gone : (x : List ℕ) (xs : List (List ℕ)) → x ≡ [] → trim xs ≡ [] → trim (x ∷ xs) ≡ []
@@ -35,13 +35,13 @@ tail-nil = refl
 abbrev pub wide : List ℕ → ℕ
 wide us = cond (isPair us) 2 1
 
-pub tail-cons : (u : ℕ) (us : List ℕ) → tail (u ∷ us) ≡ before true (cluster (wide (u ∷ us)) 1) fontGlyph (tail (drop (wide (u ∷ us)) (u ∷ us)))
+pub tail-cons : (u : ℕ) (us : List ℕ) → tail (u ∷ us) ≡ addGlyph true (cluster (wide (u ∷ us)) 1) fontGlyph (tail (drop (wide (u ∷ us)) (u ∷ us)))
 unfolding tail
 tail-cons u [] = let p : isPair (u ∷ []) ≡ false = and-false (isHigh u) in rw p
 tail-cons u (v ∷ us) = cases (isPair (u ∷ v ∷ us)) (λ p. rw p) (λ p. rw p)
 
 -- its first cluster, by how many units it has
-pub tail-first : (us : List ℕ) (a : ℕ) → 1 ≤ length us → wide us ≡ a → tail us ≡ before true (cluster a 1) fontGlyph (tail (drop a us))
+pub tail-first : (us : List ℕ) (a : ℕ) → 1 ≤ length us → wide us ≡ a → tail us ≡ addGlyph true (cluster a 1) fontGlyph (tail (drop a us))
 tail-first [] a h e = absurd (not-suc-le-zero h)
 tail-first (u ∷ us) a h e = rw (← e) (tail-cons u us)
 
@@ -74,23 +74,23 @@ pub font-cons : (g : Glyph) (gs : List Glyph) → allFont (g ∷ gs) ≡ true �
 unfolding allFont
 font-cons g gs h = (and-l (isFont g) (allFont gs) h, and-r (isFont g) (allFont gs) h)
 
-pub font-written : (gs : List Glyph) (lack : ℕ) (cs : List Cluster) → allFont gs ≡ true → trim (written lack cs gs) ≡ []
-unfolding written
+pub font-written : (gs : List Glyph) (lack : ℕ) (cs : List Cluster) → allFont gs ≡ true → trim (entryList lack cs gs) ≡ []
+unfolding entryList
 font-written [] zero [] h = trim-nil
 font-written [] zero (c ∷ cs) h = trim-nil
 font-written [] (suc n) cs h = trim-nil
 font-written (g ∷ gs) (suc n) cs h =
     let (f, k) = font-cons g gs h in
-    gone (entryBytes 1 1 g) (written n cs gs) (font-empty 1 1 g f) (font-written gs n cs k)
+    gone (entryBytes 1 1 g) (entryList n cs gs) (font-empty 1 1 g f) (font-written gs n cs k)
 font-written (g ∷ gs) zero [] h = trim-nil
 font-written (g ∷ gs) zero (c ∷ cs) h =
     let (f, k) = font-cons g gs h in
-    gone (entryBytes (c .units) (c .glyphs) g) (written (c .glyphs - 1) cs gs) (font-empty (c .units) (c .glyphs) g f) (font-written gs (c .glyphs - 1) cs k)
+    gone (entryBytes (c .units) (c .glyphs) g) (entryList (c .glyphs - 1) cs gs) (font-empty (c .units) (c .glyphs) g f) (font-written gs (c .glyphs - 1) cs k)
 
 -- ── the characters of its units ──
 
 -- each is one cluster
-pub tail-char : (c : ℕ) (us : List ℕ) → xmlChar c ≡ true → tail (unitsOf c ++ us) ≡ before true (cluster (length (unitsOf c)) 1) fontGlyph (tail us)
+pub tail-char : (c : ℕ) (us : List ℕ) → xmlChar c ≡ true → tail (unitsOf c ++ us) ≡ addGlyph true (cluster (length (unitsOf c)) 1) fontGlyph (tail us)
 unfolding unitsOf
 tail-char c us x =
     cases (leb c 65535)

@@ -11,8 +11,8 @@ use lib.Dec.{eqb}
 use lib.ListN.{length, getD, length-append}
 use Rattle.label.specs.Bytes.{empty, cut, isDigit, allDigits, digits, valueFrom, value, decimal}
 use Rattle.label.specs.Entry.{minus, plus, unsigned, isE, isPoint, atExponent, isDecimals, isNumber, mantissaDigits, fractionDigits, exponentDigits, nearest, scaled, thousandths, numberFits}
-use Rattle.label.specs.Rounded.{isWhole, isExact}
 use Rattle.label.specs.Write.{fraction, valueBytes}
+use Rattle.label.specs.Requests.RoundedCount.{isWhole, isExact}
 use Rattle.label.proofs.Basics.{and-l, and-r, clash, cases}
 use Rattle.label.proofs.Splits.{free, none-append}
 use Rattle.label.proofs.Decimals.{value-append, digits-append, digits-one, value-decimal, all-decimal, empty-decimal, length-decimal, digits-decimal, digits-none, cut-none, cut-found}

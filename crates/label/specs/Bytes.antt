@@ -93,3 +93,33 @@ decimalFrom (suc fuel) n = let r = decimalFrom fuel (n / 10) ++ ((48 + n % 10) �
 
 unfoldable pub decimal : ℕ → List ℕ
 decimal n = decimalFrom (suc n) n
+
+-- what each element gives, in order
+unfoldable pub each : {A B : Type 0} → (A → List B) → List A → List B
+each f [] = []
+each f (x ∷ xs) = f x ++ each f xs
+
+-- where a piece starts: the number of its first byte, this byte, and all bytes behind it
+pub record Piece : Type 0 where
+  pub place : ℕ
+  pub byte : ℕ
+  pub behind : List ℕ
+
+abbrev pub piece : ℕ → ℕ → List ℕ → Piece
+piece p b bs = record { place = p; byte = b; behind = bs }
+
+-- bytes cut into pieces from the left: `more` says how many bytes behind a piece's first belong to it; the first `skip` bytes belong to a piece before, and
+-- the first byte has number `at`
+unfoldable pub pieces : (ℕ → List ℕ → ℕ) → ℕ → ℕ → List ℕ → List Piece
+pieces more skip at [] = []
+pieces more (suc skip) at (b ∷ bs) = pieces more skip (suc at) bs
+pieces more zero at (b ∷ bs) = piece at b bs ∷ pieces more (more b bs) (suc at) bs
+
+-- what each element gives with its number, the first having number n
+unfoldable pub eachNumbered : {A B : Type 0} → (ℕ → A → List B) → ℕ → List A → List B
+eachNumbered f n [] = []
+eachNumbered f n (x ∷ xs) = f n x ++ eachNumbered f (suc n) xs
+
+-- the bytes from a piece's first on
+abbrev pub fromPiece : Piece → List ℕ
+fromPiece p = p .byte ∷ p .behind

@@ -1,29 +1,31 @@
--- The calls with their lent buffers: 16 to 18, 20, 21, 19 and 18 of the list of records, and document 02's 24; what each buffer holds afterwards; and for
--- every answer enum the papers' number, place and values of each of its cases, and document 02's count of rounded fields.
+-- The calls with their lent buffers: 16 to 18, 19 to 21, the list of records; what each buffer holds afterwards; and for every answer enum the papers'
+-- number, place and values of each of its cases.
 -- Assumes nothing.
-use Prim.Native.Nat.{ℕ, _*_}
-use mathlib.Core.Bool.{Bool}
-use mathlib.Core.List.{List, _++_}
-use lib.Dec.{leb}
+use Prim.Native.Nat.{ℕ, _/_}
+use mathlib.Core.Bool.{Bool, false}
+use mathlib.Core.List.{List, [], _++_, _∷_}
 use lib.IntN.{ℤ}
-use lib.ListN.{length, drop}
-use Rattle.label.specs.Outcome.{Outcome, ok, no, need, _>>=_, _>>_}
-use Rattle.label.specs.Run.{Run, read}
-use Rattle.label.specs.Sound.{flatClusters, flatGlyphs, sound, glyphsOf}
-use Rattle.label.specs.Write.{Label, write}
-use Rattle.label.specs.Attribute.{asAsked, resolve}
-use Rattle.label.specs.declared.Glyph.{Glyph}
-use Rattle.label.specs.declared.Refusal.{Refusal}
+use lib.ListN.{drop, length}
+use Rattle.label.specs.Outcome.{Outcome, ok, no, _>>_, Check, check, above, verdict}
+use Rattle.label.specs.Run.{Run, saidRun}
+use Rattle.label.specs.Checks.{labelChecks}
+use Rattle.label.specs.Wire.{fromWords}
+use Rattle.label.specs.Places.{Places, placesOf}
+use Rattle.label.specs.Sound.{runOf, soundChecks}
+use Rattle.label.specs.Write.{Label, normal}
+use Rattle.label.specs.Requests.Attribute.{asAsked}
 use Rattle.label.specs.declared.Counts.{Counts}
-use Rattle.label.specs.declared.Reading.{Reading}
-use Rattle.label.specs.declared.Reading.the-variants as R
-use Rattle.label.specs.declared.Lengths.{Lengths}
-use Rattle.label.specs.declared.Writing.{Writing}
-use Rattle.label.specs.declared.Writing.the-variants as W
-use Rattle.label.specs.declared.Stretch.{Stretch}
-use Rattle.label.specs.declared.Pick.{Pick}
-use Rattle.label.specs.declared.Pick.the-variants as P
 use Rattle.label.specs.declared.Filling.{Filling}
+use Rattle.label.specs.declared.Glyph.{Glyph}
+use Rattle.label.specs.declared.Lengths.{Lengths}
+use Rattle.label.specs.declared.Pick.{Pick}
+use Rattle.label.specs.declared.Reading.{Reading}
+use Rattle.label.specs.declared.Refusal.{Refusal}
+use Rattle.label.specs.declared.Stretch.{Stretch}
+use Rattle.label.specs.declared.Writing.{Writing}
+use Rattle.label.specs.declared.Reading.the-variants as R
+use Rattle.label.specs.declared.Writing.the-variants as W
+use Rattle.label.specs.declared.Pick.the-variants as P
 use Rattle.label.specs.declared.Filling.the-variants as F
 
 -- ── answers ──
@@ -61,9 +63,9 @@ abbrev pub filled : {A : Type 0} → List A → List A → List A
 filled vs old = vs ++ drop (length vs) old
 
 -- a buffer after a call that fills it with what the value gives; "every refusal, later numbers included, changes no lent place"
-abbrev pub after : {A B : Type 0} → (A → List B) → Outcome A → List B → List B
-after f (ok a) old = filled (f a) old
-after f (no n p) old = old
+abbrev pub bufferAfter : {A B : Type 0} → (A → List B) → Outcome A → List B → List B
+bufferAfter f (ok a) old = filled (f a) old
+bufferAfter f (no n p) old = old
 
 -- document 02: "a call that fills a lent list or buffer returns how many places it filled"
 abbrev pub filledCount : {A : Type 0} → Outcome (List A) → Outcome ℕ
@@ -72,18 +74,34 @@ filledCount (no n p) = no n p
 
 -- "and places behind them stay": such a list or buffer afterwards
 abbrev pub filledAfter : {A : Type 0} → Outcome (List A) → List A → List A
-filledAfter {A} o old = after (λ (vs : List A). vs) o old
+filledAfter {A} o old = bufferAfter (λ (vs : List A). vs) o old
+
+-- document 02: "From C, numbers in this and later lists are a run's 4 bytes": the bytes of a list of numbers after a call that fills it; bytes left over
+-- stay
+abbrev pub numbersAfter : Outcome (List ℤ) → List ℕ → List ℕ
+numbersAfter o old = bufferAfter fromWords o old
 
 -- ── the reader ──
 
--- with buffers of so many places, one a unit, two a cluster and four a glyph: "unit, cluster, glyph buffer too short" (16, 17, 18)
-unfoldable pub readInto : ℕ → ℕ → ℕ → List ℕ → List ℕ → Outcome Run
-readInto units clusters glyphs text indices = do
-  r ← read text indices
-  need (leb (length (r .units)) units) 16 (length (r .units))
-  need (leb (2 * length (r .clusters)) clusters) 17 (length (r .clusters))
-  need (leb (4 * length (r .glyphs)) glyphs) 18 (length (r .glyphs))
-  ok r
+-- the room of three buffers: a unit is 2 bytes, a cluster 8 and a glyph 16; "left-over bytes of an output hold no place"
+abbrev pub roomOf : List ℕ → List ℕ → List ℕ → Counts
+roomOf us cs gs = record { units = length us / 2; clusters = length cs / 8; glyphs = length gs / 16 }
+
+-- "unit, cluster, glyph buffer too short" (16, 17, 18): buffers of this room
+abbrev pub bufferChecks : Counts → Run → List Check
+bufferChecks room r =
+    check (above (length (r .units)) (room .units)) 16 (length (r .units)) ∷
+    check (above (length (r .clusters)) (room .clusters)) 17 (length (r .clusters)) ∷
+    check (above (length (r .glyphs)) (room .glyphs)) 18 (length (r .glyphs)) ∷
+    []
+
+-- 1 to 18
+unfoldable pub readChecks : Counts → List ℕ → List ℕ → List Check
+readChecks room text indices = labelChecks text indices ++ bufferChecks room (saidRun text indices)
+
+-- the reading into buffers of this room
+unfoldable pub readInto : Counts → List ℕ → List ℕ → Outcome Run
+readInto room text indices = verdict (readChecks room text indices) >> ok (saidRun text indices)
 
 -- what the reader returns of a run: how many units, clusters and glyphs it has
 abbrev pub counts : Run → Counts
@@ -94,25 +112,48 @@ abbrev pub counted : Outcome Run → Outcome Counts
 counted (ok r) = ok (counts r)
 counted (no n p) = no n p
 
--- the three buffers after a reading
+-- the three buffers after a reading: "Places behind the run stay", and bytes left over do too
 abbrev pub unitsAfter : Outcome Run → List ℕ → List ℕ
-unitsAfter o old = after (λ (r : Run). r .units) o old
+unitsAfter o old = bufferAfter (λ (r : Run). placesOf r .units) o old
 
-abbrev pub clustersAfter : Outcome Run → List ℤ → List ℤ
-clustersAfter o old = after (λ (r : Run). flatClusters (r .clusters)) o old
+abbrev pub clustersAfter : Outcome Run → List ℕ → List ℕ
+clustersAfter o old = bufferAfter (λ (r : Run). placesOf r .clusters) o old
 
-abbrev pub glyphsAfter : Outcome Run → List ℤ → List ℤ
-glyphsAfter o old = after (λ (r : Run). flatGlyphs (r .glyphs)) o old
+abbrev pub glyphsAfter : Outcome Run → List ℕ → List ℕ
+glyphsAfter o old = bufferAfter (λ (r : Run). placesOf r .glyphs) o old
 
 -- ── the writer ──
 
--- with outputs of so many bytes: "text, indices output too short" (20, 21)
-unfoldable pub writeInto : ℕ → ℕ → List ℕ → List ℤ → List ℤ → Outcome Label
-writeInto text indices us cs gs = do
-  l ← write us cs gs
-  need (leb (length (l .text)) text) 20 (length (l .text))
-  need (leb (length (l .indices)) indices) 21 (length (l .indices))
-  ok l
+-- a label as the caller asks for it: document 02, CR 2, "A caller may ask the writer to escape"
+abbrev pub askedFor : Bool → Label → Label
+askedFor asked l = record { text = asAsked asked (l .text); indices = asAsked asked (l .indices) }
+
+-- what the writer gives of a sound run
+abbrev pub saidLabel : Bool → Places → Label
+saidLabel asked p = askedFor asked (normal (runOf p))
+
+-- "text, indices output too short" (20, 21): outputs of so many bytes; what is escaped is "counted in 20 and 21"
+abbrev pub outputChecks : Lengths → Label → List Check
+outputChecks room l =
+    check (above (length (l .text)) (room .text)) 20 (length (l .text)) ∷
+    check (above (length (l .indices)) (room .indices)) 21 (length (l .indices)) ∷
+    []
+
+-- "The writer tests 19, 20, 21."
+unfoldable pub writeChecks : Bool → Lengths → Places → List Check
+writeChecks asked room p = soundChecks p ++ outputChecks room (saidLabel asked p)
+
+-- the writer, asked to escape or not
+unfoldable pub writeAsked : Bool → Lengths → Places → Outcome Label
+writeAsked asked room p = verdict (writeChecks asked room p) >> ok (saidLabel asked p)
+
+-- the writer of document 01 is not asked
+abbrev pub writeInto : Lengths → Places → Outcome Label
+writeInto room p = writeAsked false room p
+
+-- the room of two outputs, in bytes
+abbrev pub outputs : List ℕ → List ℕ → Lengths
+outputs tx ix = record { text = length tx; indices = length ix }
 
 -- what the writer returns of a label: how many bytes each output got
 abbrev pub lengthsOf : Label → Lengths
@@ -125,45 +166,17 @@ lengths (no n p) = no n p
 
 -- "Bytes behind either output stay."
 abbrev pub textAfter : Outcome Label → List ℕ → List ℕ
-textAfter o old = after (λ (l : Label). l .text) o old
+textAfter o old = bufferAfter (λ (l : Label). l .text) o old
 
 abbrev pub indicesAfter : Outcome Label → List ℕ → List ℕ
-indicesAfter o old = after (λ (l : Label). l .indices) o old
+indicesAfter o old = bufferAfter (λ (l : Label). l .indices) o old
 
 -- ── the list of glyph records ──
 
--- "filled by one thin call from a sound run (else 19; 18 where the list is too short; records behind stay)"
-unfoldable pub listInto : ℕ → List ℕ → List ℤ → List ℤ → Outcome (List Glyph)
-listInto room us cs gs = do
-  need (sound us cs gs) 19 0
-  need (leb (length (glyphsOf gs)) room) 18 (length (glyphsOf gs))
-  ok (glyphsOf gs)
+-- "from a sound run (else 19; 18 where the list is too short; records behind stay)": a list of `room` records
+unfoldable pub listChecks : ℕ → Places → List Check
+listChecks room p = soundChecks p ++ (check (above (length (runOf p .glyphs)) room) 18 (length (runOf p .glyphs)) ∷ [])
 
--- ── raw attribute values: document 02, CR 2 ──
-
--- into a buffer of `room` bytes: "24: lent buffer too short, place the bytes needed"
-unfoldable pub resolveInto : ℕ → List ℕ → Outcome (List ℕ)
-resolveInto room raw = do
-  s ← resolve raw
-  need (leb (length s) room) 24 (length s)
-  ok s
-
--- a raw text and raw indices, each resolved into a buffer of so many bytes, "text before indices [...], and the reading is of what comes out"; 23 and 24 of
--- each, "both before 1"
-unfoldable pub readRaw : ℕ → ℕ → List ℕ → List ℕ → Outcome Run
-readRaw a b text indices = do
-  t ← resolveInto a text
-  i ← resolveInto b indices
-  read t i
-
--- a label as the caller asks for it
-abbrev pub askedFor : Bool → Label → Label
-askedFor asked l = record { text = asAsked asked (l .text); indices = asAsked asked (l .indices) }
-
--- the writer asked to escape, or not: what it then writes is "counted in 20 and 21". Not asked, it is `writeInto` (law `unasked`).
-unfoldable pub writeAsked : Bool → ℕ → ℕ → List ℕ → List ℤ → List ℤ → Outcome Label
-writeAsked asked text indices us cs gs = do
-  l ← write us cs gs
-  need (leb (length (askedFor asked l .text)) text) 20 (length (askedFor asked l .text))
-  need (leb (length (askedFor asked l .indices)) indices) 21 (length (askedFor asked l .indices))
-  ok (askedFor asked l)
+-- "filled by one thin call"
+unfoldable pub listInto : ℕ → Places → Outcome (List Glyph)
+listInto room p = verdict (listChecks room p) >> ok (runOf p .glyphs)

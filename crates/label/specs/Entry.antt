@@ -6,9 +6,8 @@ use mathlib.Core.List.{List, [], _++_}
 use lib.Dec.{leb, ltb, eqb}
 use lib.IntN.{ℤ, pos, negℤ}
 use lib.ListN.{length, getD, drop}
-use Rattle.label.specs.Limits.{maxIndex, maxDigits, maxExponentDigits, maxThousandths}
-use Rattle.label.specs.Outcome.{Outcome, ok, need, _>>=_, _>>_}
-use Rattle.label.specs.Bytes.{empty, split, Cut, cut, digits, allDigits, value}
+use Rattle.label.specs.Limits.{maxDigits, maxExponentDigits, maxThousandths}
+use Rattle.label.specs.Bytes.{empty, split, Cut, cut, allDigits, digits, value}
 use Rattle.label.specs.declared.Index.{Index}
 use Rattle.label.specs.declared.Index.the-variants.{Named, Font}
 use Rattle.label.specs.declared.Advance.{Advance}
@@ -165,14 +164,6 @@ entryOf s =
       glyphs = mapGlyphs (part 0 s);
       glyph = record { index = indexOf (part 0 s); advance = advanceOf (part 1 s); u = offsetOf (part 2 s); v = offsetOf (part 3 s) };
     }
-
--- 7, 8, 9 of entry number k
-unfoldable pub entry : ℕ → List ℕ → Outcome Entry
-entry k s = do
-  need (wellFormed s) 7 k
-  need (leb (value (indexDigits (part 0 s))) maxIndex) 8 k
-  need (fieldFits (part 1 s) && fieldFits (part 2 s) && fieldFits (part 3 s)) 9 k
-  ok (entryOf s)
 
 -- "Zero bytes of indices are no entries. Otherwise entries are split at each `;`, so n semicolons make n + 1 entries, numbered from 0."
 unfoldable pub entries : List ℕ → List (List ℕ)

@@ -17,10 +17,10 @@ abbrev pub ofEntry : ℕ → Bool
 ofEntry n = (leb 7 n && leb n 12) || eqb n 14
 
 -- where entry k starts: behind the k entries before it and their semicolons
-unfoldable pub startOf : List (List ℕ) → ℕ → ℕ
-startOf [] k = 0
-startOf (e ∷ es) zero = 0
-startOf (e ∷ es) (suc k) = length e + 1 + startOf es k
+unfoldable pub entryStart : List (List ℕ) → ℕ → ℕ
+entryStart [] k = 0
+entryStart (e ∷ es) zero = 0
+entryStart (e ∷ es) (suc k) = length e + 1 + entryStart es k
 
 -- n bytes from byte a on, of the indices where i is true, else of the text
 abbrev pub portion : Bool → ℕ → ℕ → Part
@@ -32,7 +32,7 @@ unfoldable pub faultPart : List ℕ → List ℕ → ℕ → ℕ → Part
 faultPart text indices number place =
     cond (ofText number && ltb place (length text)) (portion false place (length text - place))
     (cond (ofEntry number && ltb place (length (entries indices)))
-    (portion true (startOf (entries indices) place) (length (getD (entries indices) place [])))
+    (portion true (entryStart (entries indices) place) (length (getD (entries indices) place [])))
     (portion false 0 0))
 
 -- its bytes, and where they stand, for a text at p and indices at q: "the caller's own bytes"

@@ -1,8 +1,11 @@
--- What a call comes to: a value, or a refusal with its number and its place. The checks of document 01's table follow each other by `do`:
--- the first whose cause holds gives the answer ("No number is given unless its cause holds and no earlier one does").
+-- What a call comes to: a value, or a refusal with its number and its place; and checks, the first of which whose cause holds decides. `need` and `_>>=_` serve
+-- the laws that say how a call goes by steps.
 -- Assumes nothing.
 use Prim.Native.Nat.{ℕ}
-use mathlib.Core.Bool.{Bool, true, false}
+use mathlib.Core.Path.{_≡_}
+use mathlib.Core.Bool.{Bool, true, false, cond, not, _||_}
+use mathlib.Core.List.{List, [], _∷_, _++_}
+use lib.Dec.{leb}
 
 infixl 10 _>>=_ _>>_
 -- a value; or a number of the table and its "Returned place"
@@ -24,3 +27,40 @@ _>>_ (no n p) o = no n p
 abbrev pub need : Bool → ℕ → ℕ → Outcome (Unit {0})
 need true n p = ok tt
 need false n p = no n p
+
+-- ── checks ──
+
+-- whether a row's cause holds, its number and its place
+pub record Check : Type 0 where
+  pub holds : Bool
+  pub number : ℕ
+  pub place : ℕ
+
+-- the row of a cause, a number and a place
+abbrev pub check : Bool → ℕ → ℕ → Check
+check h n p = record { holds = h; number = n; place = p }
+
+-- n is above the limit
+abbrev pub above : ℕ → ℕ → Bool
+above n limit = not (leb n limit)
+
+-- "No number is given unless its cause holds and no earlier one does": the first whose cause holds
+unfoldable pub verdict : List Check → Outcome (Unit {0})
+verdict [] = ok tt
+verdict (c ∷ cs) = cond (c .holds) (no (c .number) (c .place)) (verdict cs)
+
+-- some cause holds
+unfoldable pub refuses : List Check → Bool
+refuses [] = false
+refuses (c ∷ cs) = c .holds || refuses cs
+
+-- number n with place p is given by these checks: its cause holds, and no earlier one does
+pub record GivenBy (cs : List Check) (n p : ℕ) : Type 0 where
+  pub earlier : List Check
+  pub it : Check
+  pub later : List Check
+  pub in-order : cs ≡ earlier ++ (it ∷ later)
+  pub none-earlier : refuses earlier ≡ false
+  pub holds : it .holds ≡ true
+  pub number : it .number ≡ n
+  pub place : it .place ≡ p

@@ -1,14 +1,14 @@
 -- "Picks": between a stretch of glyphs and the stretch of units of all clusters touched.
 -- Assumes nothing.
 use Prim.Native.Nat.{ℕ, _+_, _-_}
-use mathlib.Core.Bool.{Bool, cond, _&&_}
-use mathlib.Core.List.{List, [], _∷_}
+use mathlib.Core.Bool.{Bool, cond, not, _&&_}
+use mathlib.Core.List.{List, [], _∷_, _++_}
 use lib.Dec.{leb, ltb}
-use lib.IntN.{ℤ}
 use lib.ListN.{length}
-use Rattle.label.specs.Outcome.{Outcome, ok, need, _>>=_, _>>_}
+use Rattle.label.specs.Outcome.{Outcome, ok, _>>_, Check, check, verdict}
 use Rattle.label.specs.Run.{cluster}
-use Rattle.label.specs.Sound.{sound, clustersOf, glyphsOf}
+use Rattle.label.specs.Places.{Places}
+use Rattle.label.specs.Sound.{runOf, soundChecks}
 use Rattle.label.specs.declared.Cluster.{Cluster}
 use Rattle.label.specs.declared.Stretch.{Stretch}
 
@@ -36,18 +36,15 @@ turned (c ∷ cs) = cluster (c .glyphs) (c .units) ∷ turned cs
 abbrev pub inside : ℕ → ℕ → ℕ → Bool
 inside first end count = ltb first end && leb end count
 
+-- "Soundness (19) is tested before 22": a pick among `count` glyphs or units
+unfoldable pub pickChecks : Places → ℕ → ℕ → ℕ → List Check
+pickChecks p first end count = soundChecks p ++ (check (not (inside first end count)) 22 0 ∷ [])
+
 -- "A pick takes a sound run and a stretch of glyphs"
--- "Soundness (19) is tested before 22."
 -- "In a run without units the first gives 0 to 0": every cluster there has 0 units
-unfoldable pub pickUnits : List ℕ → List ℤ → List ℤ → ℕ → ℕ → Outcome Stretch
-pickUnits us cs gs first end = do
-  need (sound us cs gs) 19 0
-  need (inside first end (length (glyphsOf gs))) 22 0
-  ok (touched first end (clustersOf cs))
+unfoldable pub pickUnits : Places → ℕ → ℕ → Outcome Stretch
+pickUnits p first end = verdict (pickChecks p first end (length (runOf p .glyphs))) >> ok (touched first end (runOf p .clusters))
 
 -- "another goes from units to glyphs"
-unfoldable pub pickGlyphs : List ℕ → List ℤ → List ℤ → ℕ → ℕ → Outcome Stretch
-pickGlyphs us cs gs first end = do
-  need (sound us cs gs) 19 0
-  need (inside first end (length us)) 22 0
-  ok (touched first end (turned (clustersOf cs)))
+unfoldable pub pickGlyphs : Places → ℕ → ℕ → Outcome Stretch
+pickGlyphs p first end = verdict (pickChecks p first end (length (runOf p .units))) >> ok (touched first end (turned (runOf p .clusters)))

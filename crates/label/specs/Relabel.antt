@@ -2,12 +2,13 @@
 -- Assumes nothing.
 use Prim.Native.Nat.{ℕ}
 use mathlib.Core.List.{List, [], _∷_, _++_}
-use lib.Dec.{leb, eqb}
+use lib.Dec.{eqb}
 use lib.ListN.{length}
 use Rattle.label.specs.Limits.{maxLineBytes}
-use Rattle.label.specs.Outcome.{Outcome, ok, no, need, _>>=_, _>>_}
+use Rattle.label.specs.Outcome.{Outcome, ok, no, _>>_, check, above, verdict}
 use Rattle.label.specs.Bytes.{Cut, cut, decimal}
-use Rattle.label.specs.Run.{Run, read}
+use Rattle.label.specs.Run.{Run, saidRun}
+use Rattle.label.specs.Checks.{labelChecks}
 use Rattle.label.specs.Write.{normal}
 
 -- "A line feed ends a line and is no part of it; a missing line is empty."
@@ -16,9 +17,7 @@ line s = cut (λ b. eqb b 10) s
 
 -- "the second up to 32,768 bytes (else it acts as for 1)"
 unfoldable pub relabelRead : List ℕ → List ℕ → Outcome Run
-relabelRead text indices = do
-  need (leb (length indices) maxLineBytes) 1 0
-  read text indices
+relabelRead text indices = verdict (check (above (length indices) maxLineBytes) 1 0 ∷ labelChecks text indices) >> ok (saidRun text indices)
 
 -- "prints `ok`, units, clusters, glyphs, then both normal lines; or `no`, number, place on one line, single spaces between"; every line ends in a line
 -- feed

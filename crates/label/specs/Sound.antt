@@ -1,57 +1,25 @@
--- A run as the numbers of the three buffers ("A run is handed in as exactly its places"), and when numbers from any hand are a sound run.
+-- The soundness test, computed: it holds exactly of the places that are `Readable` (`Demand2.sound-is`), so nothing here has to be believed. The byte
+-- limits of 1 never bite: the normal writing of such a run is within them.
 -- Assumes nothing.
-use Prim.Native.Nat.{ℕ, zero, suc, _-_}
-use mathlib.Core.Path.{_≡_}
-use mathlib.Core.Bool.{Bool, true, false, not, _&&_, _||_}
+use Prim.Native.Nat.{suc, zero, ℕ, _-_}
+use mathlib.Core.Bool.{Bool, false, not, true, _&&_, _||_}
 use mathlib.Core.List.{List, [], _∷_}
-use lib.Dec.{leb, eqb}
-use lib.IntN.{ℤ, pos, negsuc}
-use lib.ListN.{length, drop}
+use lib.Dec.{eqb, leb}
+use lib.IntN.{negsuc, pos, ℤ}
+use lib.ListN.{drop, length}
 use Rattle.label.specs.Limits.{maxUnits, maxGlyphs, maxIndex, maxThousandths}
-use Rattle.label.specs.Outcome.{ok}
+use Rattle.label.specs.Outcome.{Check, check}
 use Rattle.label.specs.Bytes.{empty}
-use Rattle.label.specs.Text.{isHigh, isLow, isPair, xmlChar}
-use Rattle.label.specs.Run.{Run, named, given, whole, cluster, read}
-use Rattle.label.specs.declared.Index.{Index}
-use Rattle.label.specs.declared.Index.the-variants.{Named, Font}
+use Rattle.label.specs.Text.{xmlChar, isHigh, isLow, isPair}
+use Rattle.label.specs.Run.{Run, named, given, cluster, whole}
+use Rattle.label.specs.Wire.{halves, words, evenBytes, wordBytes}
+use Rattle.label.specs.Places.{Places}
 use Rattle.label.specs.declared.Advance.{Advance}
 use Rattle.label.specs.declared.Advance.the-variants.{Given, Own}
-use Rattle.label.specs.declared.Glyph.{Glyph}
 use Rattle.label.specs.declared.Cluster.{Cluster}
-
--- ── a run's numbers ──
-
--- "index or −1 for the font, advance or −1"
-abbrev pub indexNumber : Index → ℤ
-indexNumber (Named n) = pos n
-indexNumber Font = negsuc 0
-
-abbrev pub advanceNumber : Advance → ℤ
-advanceNumber (Given n) = pos n
-advanceNumber Own = negsuc 0
-
--- "two a cluster (units, glyphs)"
-unfoldable pub flatClusters : List Cluster → List ℤ
-flatClusters [] = []
-flatClusters (c ∷ cs) = pos (c .units) ∷ pos (c .glyphs) ∷ flatClusters cs
-
--- "four a glyph (index or −1 for the font, advance or −1, u, v)"
-unfoldable pub flatGlyphs : List Glyph → List ℤ
-flatGlyphs [] = []
-flatGlyphs (g ∷ gs) = indexNumber (g .index) ∷ advanceNumber (g .advance) ∷ g .u ∷ g .v ∷ flatGlyphs gs
-
--- "some label that this paper accepts reads as it"
-pub record Readable (units : List ℕ) (clusters glyphs : List ℤ) : Type 0 where
-  pub run : Run
-  pub text : List ℕ
-  pub indices : List ℕ
-  pub reads : read text indices ≡ ok run
-  pub units-are : run .units ≡ units
-  pub clusters-are : flatClusters (run .clusters) ≡ clusters
-  pub glyphs-are : flatGlyphs (run .glyphs) ≡ glyphs
-
--- ── the same as a computed test ──
--- That the two agree are the laws `sound-readable` and `readable-sound`. The byte limits of 1 never bite: the normal writing of such a run is within them.
+use Rattle.label.specs.declared.Glyph.{Glyph}
+use Rattle.label.specs.declared.Index.{Index}
+use Rattle.label.specs.declared.Index.the-variants.{Font, Named}
 
 -- a number that is not below 0; the same, with −1 allowed
 abbrev pub natural : ℤ → Bool
@@ -160,10 +128,18 @@ soundRun r =
     properUnits false (r .units) && leb (length (r .units)) maxUnits && leb (length (r .glyphs)) maxGlyphs
     && not (empty (r .units) && empty (r .glyphs)) && fits (empty (r .units)) 0 (r .units) (r .clusters) (r .glyphs)
 
--- the run that these numbers name
-abbrev pub runOf : List ℕ → List ℤ → List ℤ → Run
-runOf us cs gs = record { units = us; clusters = clustersOf cs; glyphs = glyphsOf gs }
+-- the run that these places name
+abbrev pub runOf : Places → Run
+runOf p = record { units = halves (p .units); clusters = clustersOf (words (p .clusters)); glyphs = glyphsOf (words (p .glyphs)) }
+
+-- "left-over bytes of an output hold no place, and a run handed in with some is one that no label reads as, so not sound"
+abbrev pub noLeftOver : Places → Bool
+noLeftOver p = evenBytes (p .units) && wordBytes (p .clusters) && wordBytes (p .glyphs)
 
 -- "It is sound when it obeys every rule above"
-unfoldable pub sound : List ℕ → List ℤ → List ℤ → Bool
-sound us cs gs = wholeClusters cs && wholeGlyphs gs && soundRun (runOf us cs gs)
+unfoldable pub sound : Places → Bool
+sound p = noLeftOver p && (wholeClusters (words (p .clusters)) && wholeGlyphs (words (p .glyphs)) && soundRun (runOf p))
+
+-- "run handed in is not sound" (19)
+abbrev pub soundChecks : Places → List Check
+soundChecks p = check (not (sound p)) 19 0 ∷ []

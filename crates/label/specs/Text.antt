@@ -5,9 +5,7 @@ use mathlib.Core.Bool.{Bool, true, false, cond, not, _&&_, _||_}
 use mathlib.Core.List.{List, [], _∷_, _++_}
 use lib.Dec.{leb, eqb}
 use lib.ListN.{length, getD, drop}
-use Rattle.label.specs.Limits.{maxUnits}
-use Rattle.label.specs.Outcome.{Outcome, ok, need, _>>=_, _>>_}
-use Rattle.label.specs.Bytes.{empty}
+use Rattle.label.specs.Bytes.{empty, each, Piece, pieces}
 
 -- lo ≤ b ≤ hi
 abbrev pub within : ℕ → ℕ → ℕ → Bool
@@ -32,21 +30,21 @@ pub record Row : Type 0 where
   pub bytes : List Range
 
 -- the row of these code points with these bytes
-abbrev pub row : Range → List Range → Row
-row c bs = record { codes = c; bytes = bs }
+abbrev pub tableRow : Range → List Range → Row
+tableRow c bs = record { codes = c; bytes = bs }
 
 -- "Unicode's Table 3-7 decides UTF-8": its nine rows as they are printed, the code points, then the first byte, the second, the third, the fourth
 unfoldable pub table : List Row
 table =
-    row (0x0000 ‥ 0x007f) (0x00 ‥ 0x7f ∷ [])
-    ∷ row (0x0080 ‥ 0x07ff) (0xc2 ‥ 0xdf ∷ 0x80 ‥ 0xbf ∷ [])
-    ∷ row (0x0800 ‥ 0x0fff) (byte 0xe0 ∷ 0xa0 ‥ 0xbf ∷ 0x80 ‥ 0xbf ∷ [])
-    ∷ row (0x1000 ‥ 0xcfff) (0xe1 ‥ 0xec ∷ 0x80 ‥ 0xbf ∷ 0x80 ‥ 0xbf ∷ [])
-    ∷ row (0xd000 ‥ 0xd7ff) (byte 0xed ∷ 0x80 ‥ 0x9f ∷ 0x80 ‥ 0xbf ∷ [])
-    ∷ row (0xe000 ‥ 0xffff) (0xee ‥ 0xef ∷ 0x80 ‥ 0xbf ∷ 0x80 ‥ 0xbf ∷ [])
-    ∷ row (0x10000 ‥ 0x3ffff) (byte 0xf0 ∷ 0x90 ‥ 0xbf ∷ 0x80 ‥ 0xbf ∷ 0x80 ‥ 0xbf ∷ [])
-    ∷ row (0x40000 ‥ 0xfffff) (0xf1 ‥ 0xf3 ∷ 0x80 ‥ 0xbf ∷ 0x80 ‥ 0xbf ∷ 0x80 ‥ 0xbf ∷ [])
-    ∷ row (0x100000 ‥ 0x10ffff) (byte 0xf4 ∷ 0x80 ‥ 0x8f ∷ 0x80 ‥ 0xbf ∷ 0x80 ‥ 0xbf ∷ [])
+    tableRow (0x0000 ‥ 0x007f) (0x00 ‥ 0x7f ∷ [])
+    ∷ tableRow (0x0080 ‥ 0x07ff) (0xc2 ‥ 0xdf ∷ 0x80 ‥ 0xbf ∷ [])
+    ∷ tableRow (0x0800 ‥ 0x0fff) (byte 0xe0 ∷ 0xa0 ‥ 0xbf ∷ 0x80 ‥ 0xbf ∷ [])
+    ∷ tableRow (0x1000 ‥ 0xcfff) (0xe1 ‥ 0xec ∷ 0x80 ‥ 0xbf ∷ 0x80 ‥ 0xbf ∷ [])
+    ∷ tableRow (0xd000 ‥ 0xd7ff) (byte 0xed ∷ 0x80 ‥ 0x9f ∷ 0x80 ‥ 0xbf ∷ [])
+    ∷ tableRow (0xe000 ‥ 0xffff) (0xee ‥ 0xef ∷ 0x80 ‥ 0xbf ∷ 0x80 ‥ 0xbf ∷ [])
+    ∷ tableRow (0x10000 ‥ 0x3ffff) (byte 0xf0 ∷ 0x90 ‥ 0xbf ∷ 0x80 ‥ 0xbf ∷ 0x80 ‥ 0xbf ∷ [])
+    ∷ tableRow (0x40000 ‥ 0xfffff) (0xf1 ‥ 0xf3 ∷ 0x80 ‥ 0xbf ∷ 0x80 ‥ 0xbf ∷ 0x80 ‥ 0xbf ∷ [])
+    ∷ tableRow (0x100000 ‥ 0x10ffff) (byte 0xf4 ∷ 0x80 ‥ 0x8f ∷ 0x80 ‥ 0xbf ∷ 0x80 ‥ 0xbf ∷ [])
     ∷ []
 
 -- a row fits here: each of its bytes is there and in its range
@@ -55,14 +53,14 @@ rowFits [] s = true
 rowFits (r ∷ rs) [] = false
 rowFits (r ∷ rs) (b ∷ s) = within (r .lo) (r .hi) b && rowFits rs s
 
--- the rows that fit here, all of them; of the table's at most one does (Encoding.antt)
+-- the rows that fit here, all of them; of the table's at most one does (Statements/Encoding.antt)
 unfoldable pub fitting : List Row → List ℕ → List Row
 fitting [] s = []
 fitting (r ∷ rs) s = let others = fitting rs s in cond (rowFits (r .bytes) s) (r ∷ others) others
 
 -- a well-formed character starts at byte b, with bs behind it: a row fits
-unfoldable pub starts : ℕ → List ℕ → Bool
-starts b bs = not (empty (fitting table (b ∷ bs)))
+unfoldable pub startsChar : ℕ → List ℕ → Bool
+startsChar b bs = not (empty (fitting table (b ∷ bs)))
 
 -- how many bytes the first of some rows has behind its first byte; 0 where there is no row
 unfoldable pub moreBytes : List Row → ℕ
@@ -117,17 +115,6 @@ isPair us = isHigh (getD us 0 0) && isLow (getD us 1 0)
 unfoldable pub unitsOf : ℕ → List ℕ
 unitsOf c = cond (leb c 0xffff) (c ∷ []) ((0xd800 + (c - 0x10000) / 1024) ∷ (0xdc00 + (c - 0x10000) % 1024) ∷ [])
 
--- "the text from its left (2 and 3, whichever comes first)": the units of the bytes, of which the first `skip` belong to a character already read;
--- `at` is the place of the first byte
-unfoldable pub decode : ℕ → ℕ → List ℕ → Outcome (List ℕ)
-decode skip at [] = ok []
-decode (suc skip) at (b ∷ bs) = decode skip (suc at) bs
-decode zero at (b ∷ bs) = do
-  need (starts b bs) 2 at
-  need (xmlChar (codePoint b bs)) 3 at
-  us ← decode (following b bs) (suc at) bs
-  ok (unitsOf (codePoint b bs) ++ us)
-
 -- the text begins with `{`
 abbrev pub braced : List ℕ → Bool
 braced us = eqb (getD us 0 0) 123
@@ -140,10 +127,17 @@ marked us = braced us && eqb (getD us 1 0) 125
 abbrev pub unmarked : List ℕ → List ℕ
 unmarked us = cond (marked us) (drop 2 us) us
 
--- the units of a text: 2 and 3, whichever comes first, then 4, then 5. "Any other text that begins with `{` is refused"
-unfoldable pub textUnits : List ℕ → Outcome (List ℕ)
-textUnits text = do
-  all ← decode 0 0 text
-  need (not (braced all) || marked all) 4 0
-  need (leb (length (unmarked all)) maxUnits) 5 0
-  ok (unmarked all)
+-- where the characters of a text start, one behind the other
+abbrev pub characters : List ℕ → List Piece
+characters text = pieces following 0 0 text
+
+-- a character's units, "taken from the UTF-8 bits"
+abbrev pub charUnits : Piece → List ℕ
+charUnits c = unitsOf (codePoint (c .byte) (c .behind))
+
+-- the units of a text as lent, and without `{}`: "What remains becomes UTF-16 code units"
+abbrev pub lentUnits : List ℕ → List ℕ
+lentUnits text = each charUnits (characters text)
+
+abbrev pub saidUnits : List ℕ → List ℕ
+saidUnits text = unmarked (lentUnits text)

@@ -6,11 +6,9 @@ use mathlib.Core.List.{List, [], _∷_, _++_}
 use lib.Dec.{leb, eqb}
 use lib.IntN.{ℤ, pos, negsuc}
 use lib.ListN.{getD}
-use Rattle.label.specs.Outcome.{Outcome, ok, need, _>>=_, _>>_}
 use Rattle.label.specs.Bytes.{join, trim, decimal}
-use Rattle.label.specs.Text.{layout, isLow, isHigh, braced}
+use Rattle.label.specs.Text.{layout, isHigh, isLow, braced}
 use Rattle.label.specs.Run.{Run}
-use Rattle.label.specs.Sound.{sound, runOf}
 use Rattle.label.specs.declared.Index.{Index}
 use Rattle.label.specs.declared.Index.the-variants.{Named, Font}
 use Rattle.label.specs.declared.Advance.{Advance}
@@ -84,16 +82,16 @@ entryBytes a b g =
     (trim (indexBytes a b (g .index) ∷ advanceBytes (g .advance) ∷ offsetBytes (g .u) ∷ offsetBytes (g .v) ∷ []))
 
 -- "the clusters' glyphs in order": their entries; `lack` glyphs of the open cluster are still to come
-unfoldable pub written : ℕ → List Cluster → List Glyph → List (List ℕ)
-written lack cs [] = []
-written (suc n) cs (g ∷ gs) = entryBytes 1 1 g ∷ written n cs gs
-written zero [] (g ∷ gs) = []
-written zero (c ∷ cs) (g ∷ gs) = entryBytes (c .units) (c .glyphs) g ∷ written (c .glyphs - 1) cs gs
+unfoldable pub entryList : ℕ → List Cluster → List Glyph → List (List ℕ)
+entryList lack cs [] = []
+entryList (suc n) cs (g ∷ gs) = entryBytes 1 1 g ∷ entryList n cs gs
+entryList zero [] (g ∷ gs) = []
+entryList zero (c ∷ cs) (g ∷ gs) = entryBytes (c .units) (c .glyphs) g ∷ entryList (c .glyphs - 1) cs gs
 
 -- "joined by `;`"; "Trailing 1:1 entries that are wholly the font's drop", and a pair of the tail "like them" (document 02, CR 4): in a sound run those
 -- are the entries without bytes (law `empty-is-font`)
 unfoldable pub indicesOf : List Cluster → List Glyph → List ℕ
-indicesOf cs gs = join 59 (trim (written 0 cs gs))
+indicesOf cs gs = join 59 (trim (entryList 0 cs gs))
 
 -- "A label is a text with its indices."
 pub record Label : Type 0 where
@@ -103,9 +101,3 @@ pub record Label : Type 0 where
 -- the normal writing of a run
 abbrev pub normal : Run → Label
 normal r = record { text = textOf (r .units); indices = indicesOf (r .clusters) (r .glyphs) }
-
--- the writing of a run handed in as its numbers: "run handed in is not sound" (19)
-unfoldable pub write : List ℕ → List ℤ → List ℤ → Outcome Label
-write us cs gs = do
-  need (sound us cs gs) 19 0
-  ok (normal (runOf us cs gs))

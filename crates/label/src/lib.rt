@@ -1,8 +1,8 @@
 // The types that document 01's definitions and the code share, and its limits.
 // The definitions are in specs/, their laws and the demands' proofs in proofs/.
 ghost use mathlib.Core.Path.{_≡_};
-ghost use Rattle.label.specs.Calls.{refusal};
 ghost use Rattle.label.specs.Limits.{maxTextBytes, maxIndicesBytes, maxUnits, maxGlyphs, maxIndex, maxDigits, maxExponentDigits, maxThousandths, maxLineBytes};
+ghost use Rattle.label.specs.Calls.{refusal};
 
 // The limits type.
 pub struct Limits;

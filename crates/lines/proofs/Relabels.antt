@@ -1,47 +1,47 @@
--- What reading a label and writing the places it filled come to: the label's counts and its normal lines, or the refusal.
+-- What reading a label and writing the bytes it filled come to: the label's counts and its normal lines, or the refusal.
 -- Assumes nothing.
-use Prim.Native.Nat.{ℕ, _*_, _≤_, _<_}
+use Rattle.label.proofs.Steps.{relabel-steps, into-steps}
+use Rattle.label.specs.Statements.Demands.{Roomy, RoomyFor, Wrote}
+use Rattle.label.specs.Checks.{read}
+use Prim.Native.Nat.{ℕ, _*_, _/_, _≤_, _<_}
 use native.Mathlib.Omega.{arith}
 use mathlib.Core.Path.{_≡_, refl, sym, _∙_, ap}
 use mathlib.Core.List.{List}
 use borrow.Author.Tests.{le-leb, lt-leb}
-use lib.IntN.{ℤ}
 use lib.ListN.{length}
 use Rattle.label.specs.Limits.{maxTextBytes, maxIndicesBytes, maxUnits, maxGlyphs, maxLineBytes}
 use Rattle.label.specs.Outcome.{Outcome, ok, no}
-use Rattle.label.specs.Run.{Run, read}
-use Rattle.label.specs.Write.{normal}
-use Rattle.label.specs.Calls.{readInto, counts, counted, unitsAfter, clustersAfter, glyphsAfter, lengths, textAfter, indicesAfter}
+use Rattle.label.specs.Run.{Run}
+use Rattle.label.specs.Write.{Label, normal}
+use Rattle.label.specs.Calls.{readInto, counts, counted, lengths, textAfter, indicesAfter}
+use Rattle.label.specs.Calls.{roomOf, outputs, unitsAfter, clustersAfter, glyphsAfter}
 use Rattle.label.specs.Relabel.{relabelRead}
-use Rattle.label.specs.Demands.{Roomy, RoomyFor, passedOn}
 use Rattle.label.specs.declared.Counts.{Counts}
 use Rattle.label.proofs.Basics.{no-ok}
-use Rattle.label.proofs.Sounds.{read-sound}
-use Rattle.label.proofs.Demands.{passed-is}
-use Rattle.label.proofs.Sizes.{sound-roomy, sound-short, read-largest}
+use Rattle.label.proofs.Sound.{read-sound}
+use Rattle.label.proofs.Statements.Demands.{demand-3}
+use Rattle.label.proofs.Sizes.{largest, longest, sound-roomy, sound-short, read-largest}
 use Rattle.lines.specs.Lines.{answered, placesWritten, relabelled, textLine, indicesLine}
 use Rattle.lines.specs.declared.Relabelled.{Relabelled}
 
 pub long-line : (t i : List ℕ) → maxLineBytes < length i → no 1 0 ≡ relabelRead t i
-unfolding relabelRead
-long-line t i h = rw (lt-leb (length i) maxLineBytes h)
+long-line t i h = sym (relabel-steps t i ∙ rw (lt-leb (length i) maxLineBytes h))
 
--- the buffers hold every run
-into-largest : (t i : List ℕ) → readInto maxUnits (2 * maxGlyphs) (4 * maxGlyphs) t i ≡ read t i
-into-largest t i = go (read t i) refl
+-- the reading into buffers that hold every run
+largest-is : (t i : List ℕ) → readInto largest t i ≡ read t i
+largest-is t i = go (read t i) refl
   where
-    go : (o : Outcome Run) → read t i ≡ o → readInto maxUnits (2 * maxGlyphs) (4 * maxGlyphs) t i ≡ read t i
+    go : (o : Outcome Run) → read t i ≡ o → readInto largest t i ≡ read t i
     go (ok r) h = read-largest t i r h ∙ sym h
-    go (no n p) h = unfold readInto in (rw h)
+    go (no n p) h = into-steps largest t i ∙ rw h
 
--- a label with a line of indices that is not too long, whose reading came to o
+-- a label with a line of indices that is not too long
 module _ (t i : List ℕ) (few : length i ≤ maxLineBytes) where
-  read-is : relabelRead t i ≡ readInto maxUnits (2 * maxGlyphs) (4 * maxGlyphs) t i
-  unfolding relabelRead
-  read-is = rw (le-leb (length i) maxLineBytes few) (sym (into-largest t i))
+  read-is : relabelRead t i ≡ readInto largest t i
+  read-is = relabel-steps t i ∙ rw (le-leb (length i) maxLineBytes few) (sym (largest-is t i))
 
-  pub refused : (n p : ℕ) → no n p ≡ counted (readInto maxUnits (2 * maxGlyphs) (4 * maxGlyphs) t i) → relabelRead t i ≡ no n p
-  refused n p h = read-is ∙ go (readInto maxUnits (2 * maxGlyphs) (4 * maxGlyphs) t i) h
+  refused : (n p : ℕ) → no n p ≡ counted (readInto largest t i) → relabelRead t i ≡ no n p
+  refused n p h = read-is ∙ go (readInto largest t i) h
     where
       go : (o : Outcome Run) → no n p ≡ counted o → o ≡ no n p
       go (ok r) e = no-ok n p (counts r) e
@@ -53,58 +53,59 @@ module _ (t i : List ℕ) (few : length i ≤ maxLineBytes) where
     pub relabelled-is : relabelRead t i ≡ ok run
     pub counts-are : c ≡ counts run
 
-  pub was-read : (c : Counts) → ok c ≡ counted (readInto maxUnits (2 * maxGlyphs) (4 * maxGlyphs) t i) → WasRead c
-  was-read c h = go (readInto maxUnits (2 * maxGlyphs) (4 * maxGlyphs) t i) refl (h)
+  was-read : (c : Counts) → ok c ≡ counted (readInto largest t i) → WasRead c
+  was-read c h = go (readInto largest t i) refl h
     where
-      go : (o : Outcome Run) → readInto maxUnits (2 * maxGlyphs) (4 * maxGlyphs) t i ≡ o → ok c ≡ counted o → WasRead c
-      go (ok r) e k = let q : c ≡ counts r = cc in record { run = r; is = sym (into-largest t i) ∙ e; relabelled-is = read-is ∙ e; counts-are = q }
+      go : (o : Outcome Run) → readInto largest t i ≡ o → ok c ≡ counted o → WasRead c
+      go (ok r) e k = let q : c ≡ counts r = cc in record { run = r; is = sym (largest-is t i) ∙ e; relabelled-is = read-is ∙ e; counts-are = q }
       go (no n p) e k = no-ok n p c (sym k)
 
 -- ── at the calls ──
 
 -- a label read into buffers of the largest sizes, and the two outputs before
-module _ (t i us : List ℕ) (cs gs : List ℤ) (tx ix : List ℕ) (few : length i ≤ maxLineBytes)
-    (sizes : (length us ≡ maxUnits) × (length cs ≡ 2 * maxGlyphs) × (length gs ≡ 4 * maxGlyphs)) where
+module _ (t i us cs gs tx ix : List ℕ) (few : length i ≤ maxLineBytes)
+    (sizes : (length us ≡ 2 * maxUnits) × (length cs ≡ 8 * maxGlyphs) × (length gs ≡ 16 * maxGlyphs)) where
   abbrev reading : Outcome Run
-  reading = readInto (length us) (length cs) (length gs) t i
+  reading = readInto (roomOf us cs gs) t i
 
-  largest : reading ≡ readInto maxUnits (2 * maxGlyphs) (4 * maxGlyphs) t i
-  largest = rw (sizes .0, sizes .1, sizes .2)
+  reading-is : reading ≡ readInto largest t i
+  reading-is = rw (sizes .0, sizes .1, sizes .2)
 
   pub line-refused : (n p : ℕ) → no n p ≡ counted reading
       → (no n p ≡ relabelled (relabelRead t i)) × ((tx ≡ textLine (relabelRead t i) tx) × (ix ≡ indicesLine (relabelRead t i) ix))
-  line-refused n p h = rw (refused t i few n p (h ∙ ap counted largest)) (refl, (refl, refl))
+  line-refused n p h = rw (refused t i few n p (h ∙ ap counted reading-is)) (refl, (refl, refl))
 
-  -- what the writer handed the places that the reading filled leaves
-  answered-as : (c : Counts) (r : Run) → c ≡ counts r → read t i ≡ ok r → relabelRead t i ≡ ok r
-      → (us′ : List ℕ) (cs′ gs′ : List ℤ) (o : Outcome Relabelled) (tx′ ix′ : List ℕ) → maxTextBytes ≤ length tx → maxIndicesBytes ≤ length ix
-      → us′ ≡ unitsAfter reading us → cs′ ≡ clustersAfter reading cs → gs′ ≡ glyphsAfter reading gs
-      → o ≡ answered c (lengths (placesWritten c us′ cs′ gs′ (length tx) (length ix)))
-      → tx′ ≡ textAfter (placesWritten c us′ cs′ gs′ (length tx) (length ix)) tx → ix′ ≡ indicesAfter (placesWritten c us′ cs′ gs′ (length tx) (length ix)) ix
-      → (o ≡ relabelled (relabelRead t i)) × ((tx′ ≡ textLine (relabelRead t i) tx) × (ix′ ≡ indicesLine (relabelRead t i) ix))
-  answered-as c r k a b us′ cs′ gs′ o tx′ ix′ hx hy hu hc hg ho ht hi =
-      let s = read-sound t i r a in
-      let m : Roomy r maxUnits (2 * maxGlyphs) (4 * maxGlyphs) = sound-roomy r s in
-      let n : RoomyFor (normal r) maxTextBytes maxIndicesBytes = sound-short r s in
-      let v : passedOn r t i us cs gs (length tx) (length ix) ≡ ok (normal r) =
-      passed-is t i r us cs gs (length tx) (length ix) a (rw (sizes .0, sizes .1, sizes .2) m)
-      (record { for-text = omega (arith, n .for-text); for-indices = omega (arith, n .for-indices) }) in
-      let w : placesWritten c us′ cs′ gs′ (length tx) (length ix) ≡ ok (normal r) = rw (hu, hc, hg, k) v in
-      (ho ∙ rw (w, b, k), (ht ∙ rw (w, b), hi ∙ rw (w, b)))
+  abbrev written : Counts → List ℕ → List ℕ → List ℕ → Outcome Label
+  written c us′ cs′ gs′ = placesWritten c us′ cs′ gs′ (outputs tx ix)
+
+  -- a label that was read: the buffers hold its run, and the writer, handed the bytes that the reading filled, leaves its normal lines
+  module _ (r : Run) (is : read t i ≡ ok r) where
+    roomy : Roomy r (roomOf us cs gs)
+    roomy = rw (sizes .0, sizes .1, sizes .2) (sound-roomy r (read-sound t i r is))
+
+    written-as : maxTextBytes ≤ length tx → maxIndicesBytes ≤ length ix → (c : Counts) (us′ cs′ gs′ : List ℕ) → c ≡ counts r
+        → us′ ≡ unitsAfter reading us → cs′ ≡ clustersAfter reading cs → gs′ ≡ glyphsAfter reading gs → Wrote (normal r) (written c us′ cs′ gs′) tx ix
+    written-as hx hy c us′ cs′ gs′ k hu hc hg =
+        let s : RoomyFor (normal r) longest = sound-short r (read-sound t i r is) in
+        let n : RoomyFor (normal r) (outputs tx ix) =
+        record { for-text = omega (arith, s .for-text); for-indices = omega (arith, s .for-indices) } in
+        rw (hu, hc, hg, k) (demand-3 .passed t i r us cs gs tx ix is roomy n .wrote)
 
   module _ (c : Counts) (h : ok c ≡ counted reading) where
     read-as : WasRead t i few c
-    read-as = was-read t i few c (h ∙ ap counted largest)
+    read-as = was-read t i few c (h ∙ ap counted reading-is)
 
-    pub line-room : (us′ : List ℕ) (cs′ gs′ : List ℤ) → length us′ ≡ length us → length cs′ ≡ length cs → length gs′ ≡ length gs
-        → (c .units ≤ length us′) × (2 * c .clusters ≤ length cs′) × (4 * c .glyphs ≤ length gs′)
+    pub line-room : (us′ cs′ gs′ : List ℕ) → length us′ ≡ length us → length cs′ ≡ length cs → length gs′ ≡ length gs
+        → (2 * c .units ≤ length us′) × (8 * c .clusters ≤ length cs′) × (16 * c .glyphs ≤ length gs′)
     line-room us′ cs′ gs′ a b d =
-        let m : Roomy (read-as .run) maxUnits (2 * maxGlyphs) (4 * maxGlyphs) = sound-roomy (read-as .run) (read-sound t i (read-as .run) (read-as .is)) in
-        rw (a, b, d, sizes .0, sizes .1, sizes .2, read-as .counts-are) (m .for-units, m .for-clusters, m .for-glyphs)
+        let m = roomy (read-as .run) (read-as .is) in
+        rw (a, b, d, read-as .counts-are) (omega (arith, m .for-units), omega (arith, m .for-clusters), omega (arith, m .for-glyphs))
 
-    pub line-written : (us′ : List ℕ) (cs′ gs′ : List ℤ) (o : Outcome Relabelled) (tx′ ix′ : List ℕ) → maxTextBytes ≤ length tx → maxIndicesBytes ≤ length ix
+    pub line-written : (us′ cs′ gs′ : List ℕ) (o : Outcome Relabelled) (tx′ ix′ : List ℕ) → maxTextBytes ≤ length tx → maxIndicesBytes ≤ length ix
         → us′ ≡ unitsAfter reading us → cs′ ≡ clustersAfter reading cs → gs′ ≡ glyphsAfter reading gs
-        → o ≡ answered c (lengths (placesWritten c us′ cs′ gs′ (length tx) (length ix)))
-        → tx′ ≡ textAfter (placesWritten c us′ cs′ gs′ (length tx) (length ix)) tx → ix′ ≡ indicesAfter (placesWritten c us′ cs′ gs′ (length tx) (length ix)) ix
+        → o ≡ answered c (lengths (written c us′ cs′ gs′)) → tx′ ≡ textAfter (written c us′ cs′ gs′) tx → ix′ ≡ indicesAfter (written c us′ cs′ gs′) ix
         → (o ≡ relabelled (relabelRead t i)) × ((tx′ ≡ textLine (relabelRead t i) tx) × (ix′ ≡ indicesLine (relabelRead t i) ix))
-    line-written = answered-as c (read-as .run) (read-as .counts-are) (read-as .is) (read-as .relabelled-is)
+    line-written us′ cs′ gs′ o tx′ ix′ hx hy hu hc hg ho ht hi =
+        let w = written-as (read-as .run) (read-as .is) hx hy c us′ cs′ gs′ (read-as .counts-are) hu hc hg in
+        let b = read-as .relabelled-is in
+        (ho ∙ rw (w .lengths-are, b, ← read-as .counts-are), (ht ∙ rw b (w .text), hi ∙ rw b (w .indices)))

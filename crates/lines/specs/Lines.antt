@@ -1,16 +1,16 @@
 -- What the programs print of a label: its counts and the lengths of its two normal lines, or the refusal.
 -- Assumes nothing.
+use Rattle.label.specs.Places.{places}
 use Prim.Native.Nat.{ℕ, _+_, _*_}
 use mathlib.Core.Bool.{cond}
 use lib.Dec.{ltb}
 use mathlib.Core.List.{List}
-use lib.IntN.{ℤ}
 use lib.ListN.{length, take, drop}
 use Rattle.label.specs.Outcome.{Outcome, ok, no}
 use Rattle.label.specs.Relabel.{line}
 use Rattle.label.specs.Run.{Run}
 use Rattle.label.specs.Write.{Label, normal}
-use Rattle.label.specs.Calls.{counts, after, writeInto}
+use Rattle.label.specs.Calls.{counts, bufferAfter, writeInto}
 use Rattle.label.specs.declared.Counts.{Counts}
 use Rattle.label.specs.declared.Lengths.{Lengths}
 use Rattle.lines.specs.declared.TwoLines.{TwoLines}
@@ -50,13 +50,13 @@ abbrev pub answered : Counts → Outcome Lengths → Outcome Relabelled
 answered c (ok l) = ok (record { read = c; written = l })
 answered c (no n p) = no n p
 
--- the writing of the run whose counts these are, from the places at the front of three buffers
-abbrev pub placesWritten : Counts → List ℕ → List ℤ → List ℤ → ℕ → ℕ → Outcome Label
-placesWritten c us cs gs x y = writeInto x y (take (c .units) us) (take (2 * c .clusters) cs) (take (4 * c .glyphs) gs)
+-- the writing of the run whose counts these are, from the bytes at the front of three buffers: 2 a unit, 8 a cluster and 16 a glyph
+abbrev pub placesWritten : Counts → List ℕ → List ℕ → List ℕ → Lengths → Outcome Label
+placesWritten c us cs gs room = writeInto room (places (take (2 * c .units) us) (take (8 * c .clusters) cs) (take (16 * c .glyphs) gs))
 
 -- the two outputs afterwards
 abbrev pub textLine : Outcome Run → List ℕ → List ℕ
-textLine o old = after (λ (r : Run). normal r .text) o old
+textLine o old = bufferAfter (λ (r : Run). normal r .text) o old
 
 abbrev pub indicesLine : Outcome Run → List ℕ → List ℕ
-indicesLine o old = after (λ (r : Run). normal r .indices) o old
+indicesLine o old = bufferAfter (λ (r : Run). normal r .indices) o old

@@ -10,7 +10,7 @@ ghost use Prim.Native.Nat.{_+_, _*_, _≤_, _<_, min};
 ghost use lib.ListN.{length};
 ghost use Rattle.label.specs.Limits.{maxTextBytes, maxIndicesBytes, maxUnits, maxGlyphs, maxLineBytes};
 ghost use Rattle.label.specs.Relabel.{relabelRead};
-ghost use Rattle.label.specs.Calls.{writingOutcome, lengths, textAfter, indicesAfter};
+ghost use Rattle.label.specs.Calls.{writingOutcome, lengths, textAfter, indicesAfter, outputs};
 ghost use Rattle.lines.specs.Lines.{lineEnd, lineBehind, twoLines, answered, placesWritten, relabelOutcome, relabelled, textLine, indicesLine};
 
 pub struct Relabelled {
@@ -77,24 +77,31 @@ fn answer(read: Counts, w: Writing) -> Relabelling
     }
 }
 
-// Writes the run whose counts these are from the places at the front of three buffers.
+// Writes the run whose counts these are from the bytes at the front of three buffers: 2 a unit, 8 a cluster and 16 a glyph.
 fn write_places(
     n: Counts,
-    units: &[u16],
-    clusters: &[i32],
-    glyphs: &[i32],
+    units: &[u8],
+    clusters: &[u8],
+    glyphs: &[u8],
     first: &mut [u8],
     second: &mut [u8],
 ) -> Relabelling
-    requires { ⌜ (n .units ≤ length (now units)) × (2 * n .clusters ≤ length (now clusters)) × (4 * n .glyphs ≤ length (now glyphs)) ⌝ }
-    ensures result { λ r. ⌜ relabelOutcome r ≡ answered n (lengths (placesWritten n (now (units .entry)) (now (clusters .entry)) (now (glyphs .entry)) (length (now (first .entry))) (length (now (second .entry))))) ⌝ }
-    ensures text { λ _. ⌜ now (first .exit) ≡ textAfter (placesWritten n (now (units .entry)) (now (clusters .entry)) (now (glyphs .entry)) (length (now (first .entry))) (length (now (second .entry)))) (now (first .entry)) ⌝ }
-    ensures indices { λ _. ⌜ now (second .exit) ≡ indicesAfter (placesWritten n (now (units .entry)) (now (clusters .entry)) (now (glyphs .entry)) (length (now (first .entry))) (length (now (second .entry)))) (now (second .entry)) ⌝ }
+    requires { ⌜ (2 * n .units ≤ length (now units)) × (8 * n .clusters ≤ length (now clusters)) × (16 * n .glyphs ≤ length (now glyphs)) ⌝ }
+    ensures result { λ r. ⌜ relabelOutcome r ≡ answered n (lengths (placesWritten n (now (units .entry)) (now (clusters .entry)) (now (glyphs .entry)) (outputs (now (first .entry)) (now (second .entry))))) ⌝ }
+    ensures text { λ _. ⌜ now (first .exit) ≡ textAfter (placesWritten n (now (units .entry)) (now (clusters .entry)) (now (glyphs .entry)) (outputs (now (first .entry)) (now (second .entry)))) (now (first .entry)) ⌝ }
+    ensures indices { λ _. ⌜ now (second .exit) ≡ indicesAfter (placesWritten n (now (units .entry)) (now (clusters .entry)) (now (glyphs .entry)) (outputs (now (first .entry)) (now (second .entry)))) (now (second .entry)) ⌝ }
 {
-    let u = n.units;
-    let c = 2 * n.clusters;
-    let g = 4 * n.glyphs;
-    let w = writer::write(&units[..u], &clusters[..c], &glyphs[..g], first, second);
+    let u = 2 * n.units;
+    let c = 8 * n.clusters;
+    let g = 16 * n.glyphs;
+    let w = writer::write_as(
+        false,
+        &units[..u],
+        &clusters[..c],
+        &glyphs[..g],
+        first,
+        second,
+    );
     answer(n, w)
 }
 
@@ -102,14 +109,14 @@ fn write_places(
 fn relabel_in(
     text: &[u8],
     indices: &[u8],
-    units: &mut [u16],
-    clusters: &mut [i32],
-    glyphs: &mut [i32],
+    units: &mut [u8],
+    clusters: &mut [u8],
+    glyphs: &mut [u8],
     first: &mut [u8],
     second: &mut [u8],
 ) -> Relabelling
     requires { ⌜ length (now indices) ≤ maxLineBytes ⌝ }
-    requires buffers { ⌜ (length (now units) ≡ maxUnits) × (length (now clusters) ≡ 2 * maxGlyphs) × (length (now glyphs) ≡ 4 * maxGlyphs) ⌝ }
+    requires buffers { ⌜ (length (now units) ≡ 2 * maxUnits) × (length (now clusters) ≡ 8 * maxGlyphs) × (length (now glyphs) ≡ 16 * maxGlyphs) ⌝ }
     requires outputs { ⌜ (maxTextBytes ≤ length (now first)) × (maxIndicesBytes ≤ length (now second)) ⌝ }
     ensures result { λ r. ⌜ relabelOutcome r ≡ relabelled (relabelRead (now (text .entry)) (now (indices .entry))) ⌝ }
     ensures text { λ _. ⌜ now (first .exit) ≡ textLine (relabelRead (now (text .entry)) (now (indices .entry))) (now (first .entry)) ⌝ }
@@ -136,9 +143,9 @@ pub fn relabel(text: &[u8], indices: &[u8], first: &mut [u8], second: &mut [u8])
             place: 0,
         });
     }
-    let mut units = [0u16; Limits::UNITS];
-    let mut clusters = [0i32; 2 * Limits::GLYPHS];
-    let mut glyphs = [0i32; 4 * Limits::GLYPHS];
+    let mut units = [0u8; 2 * Limits::UNITS];
+    let mut clusters = [0u8; 8 * Limits::GLYPHS];
+    let mut glyphs = [0u8; 16 * Limits::GLYPHS];
     relabel_in(
         text,
         indices,

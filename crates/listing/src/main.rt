@@ -26,11 +26,15 @@ fn print_advance(advance: Advance) {
     }
 }
 
+// By its bits: a sign, and the size without it.
 fn print_offset(v: i32) {
-    if v < 0 {
+    let mut bytes = [0u8; 4];
+    wire::put_number(&mut bytes, 0, v);
+    let n = wire::number_at(&bytes, 0);
+    if !wire::is_natural(n) {
         io::write_all(1, b"-");
     }
-    io::print_decimal(1, words::size(v) as u64);
+    io::print_decimal(1, wire::size(n) as u64);
 }
 
 // A line of index, advance, u offset and v offset.
@@ -69,7 +73,7 @@ fn print_answer(answer: Filling) {
 }
 
 // Lists the glyphs of a run in the records, prints the answer and the records, and hands them back.
-fn show(units: &[u16], clusters: &[i32], glyphs: &[i32], before: [Glyph; 4]) -> [Glyph; 4] {
+fn show(units: &[u8], clusters: &[u8], glyphs: &[u8], before: [Glyph; 4]) -> [Glyph; 4] {
     let four = records::list_four(units, clusters, glyphs, before);
     let answer = four.answer;
     let after = four.records;
@@ -88,31 +92,21 @@ fn main() {
         u: 0,
         v: 0,
     };
-    let units: [u16; 5] = [65, 66, 67, 68, 69];
-    let clusters: [i32; 10] = [1, 1, 1, 1, 1, 1, 1, 1, 1, 1];
-    let glyphs: [i32; 20] = [
-        -1,
-        -1,
-        0,
-        0,
-        192,
-        55500,
-        -250,
-        1000,
-        -1,
-        0,
-        0,
-        0,
-        -1,
-        -1,
-        0,
-        0,
-        -1,
-        -1,
-        0,
-        0,
-    ];
-    let listed = show(&units[..3], &clusters[..6], &glyphs[..12], [blank; 4]);
-    let unsound = show(&units[..2], &clusters[..6], &glyphs[..12], listed);
-    show(&units, &clusters, &glyphs, unsound);
+    // The bytes of a run: five units; a line for each cluster of a unit and a glyph; and a line for each glyph's index, advance, u and v.
+    let units: &[u8] = b"A\0B\0C\0D\0E\0";
+    let clusters: &[u8] = b"\
+        \x01\0\0\0\x01\0\0\0\
+        \x01\0\0\0\x01\0\0\0\
+        \x01\0\0\0\x01\0\0\0\
+        \x01\0\0\0\x01\0\0\0\
+        \x01\0\0\0\x01\0\0\0";
+    let glyphs: &[u8] = b"\
+        \xff\xff\xff\xff\xff\xff\xff\xff\0\0\0\0\0\0\0\0\
+        \xc0\0\0\0\xcc\xd8\0\0\x06\xff\xff\xff\xe8\x03\0\0\
+        \xff\xff\xff\xff\0\0\0\0\0\0\0\0\0\0\0\0\
+        \xff\xff\xff\xff\xff\xff\xff\xff\0\0\0\0\0\0\0\0\
+        \xff\xff\xff\xff\xff\xff\xff\xff\0\0\0\0\0\0\0\0";
+    let listed = show(&units[..6], &clusters[..24], &glyphs[..48], [blank; 4]);
+    let unsound = show(&units[..4], &clusters[..24], &glyphs[..48], listed);
+    show(units, clusters, glyphs, unsound);
 }

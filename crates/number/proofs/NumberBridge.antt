@@ -12,7 +12,7 @@ use borrow.Author.Tests.{eqb-true}
 use Rattle.label.specs.Limits.{maxDigits, maxExponentDigits, maxThousandths}
 use Rattle.label.specs.Bytes.{cut, isDigit, allDigits, value}
 use Rattle.label.specs.Entry.{minus, plus, unsigned, isE, isPoint, atExponent, isDecimals, isNumber, mantissaDigits, fractionDigits, exponentDigits, scaled, thousandths, numberFits}
-use Rattle.label.specs.Rounded.{isExact}
+use Rattle.label.specs.Requests.RoundedCount.{isExact}
 use Rattle.label.proofs.Basics.{and-r, clash, cases}
 use Rattle.label.proofs.Splits.{none}
 use Rattle.number.specs.declared.Thousandths.{Thousandths}

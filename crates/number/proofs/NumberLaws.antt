@@ -13,7 +13,7 @@ use lib.Seq.{drop-drop}
 use Rattle.label.specs.Limits.{maxThousandths}
 use Rattle.label.specs.Bytes.{isDigit, valueFrom, value}
 use Rattle.label.specs.Entry.{isE, scaled}
-use Rattle.label.specs.Rounded.{isWhole}
+use Rattle.label.specs.Requests.RoundedCount.{isWhole}
 use Rattle.label.proofs.Basics.{cases}
 use Rattle.label.proofs.Decimals.{value-append}
 use Rattle.number.specs.declared.Thousandths.{Thousandths}

@@ -10,10 +10,10 @@ use lib.Dec.{ltb, eqb, lit<}
 use borrow.Author.Tests.{le-leb, lt-leb, lt-ltb, le-ltb, ltb-true, ltb-false, ne-eqb}
 use Rattle.label.specs.Limits.{maxThousandths}
 use Rattle.label.specs.Entry.{nearest, scaled}
-use Rattle.label.specs.Rounded.{isWhole}
+use Rattle.label.specs.Requests.RoundedCount.{isWhole}
 use Rattle.label.proofs.Basics.{cases}
 use Rattle.label.proofs.Values.{nearest-exact}
-use Rattle.label.proofs.Rounding.{nearest-below, nearest-above, nearest-half, three}
+use Rattle.label.proofs.Statements.Rounding.{nearest-below, nearest-above, nearest-half, three}
 use Rattle.number.specs.declared.Thousandths.the-variants.{Of, Over}
 use Rattle.number.specs.Digits.{cap}
 use Rattle.number.specs.Numbers.{sized}

@@ -8,7 +8,7 @@ use lib.Dec.{leb, ltb, eqb}
 use Rattle.label.specs.Limits.{maxDigits, maxExponentDigits, maxThousandths}
 use Rattle.label.specs.Bytes.{value}
 use Rattle.label.specs.Entry.{isE, scaled}
-use Rattle.label.specs.Rounded.{isWhole}
+use Rattle.label.specs.Requests.RoundedCount.{isWhole}
 use Rattle.number.specs.declared.Thousandths.{Thousandths}
 use Rattle.number.specs.declared.Thousandths.the-variants.{Of, Over}
 use Rattle.number.specs.declared.Mantissa.{Mantissa}
@@ -20,9 +20,9 @@ use Rattle.number.specs.Digits.{cap, headOf, lead}
 abbrev pub sized : ℕ → Bool → Thousandths
 sized v x = cond (leb v maxThousandths) (Of v x) Over
 
-abbrev pub within : Thousandths → Bool
-within (Of v x) = true
-within Over = false
+abbrev pub numberWithin : Thousandths → Bool
+numberWithin (Of v x) = true
+numberWithin Over = false
 
 -- a size of at most 1,000,000,000
 abbrev pub Small : Thousandths → Type 0
@@ -80,7 +80,8 @@ exponentOf t = cond (isE (headOf t)) (raisedBy (headOf (drop 1 t)) t) unraised
 abbrev pub sizeOf : Mant → Expo → Thousandths
 sizeOf m x =
     cond (leb (length (m .digits)) maxDigits && leb (length (x .digits)) maxExponentDigits)
-    (sized (scaled (value (m .digits)) (m .behind) (x .negative) (value (x .digits))) (isWhole (value (m .digits)) (m .behind) (x .negative) (value (x .digits))))
+    (sized (scaled (value (m .digits)) (m .behind) (x .negative) (value (x .digits)))
+    (isWhole (value (m .digits)) (m .behind) (x .negative) (value (x .digits))))
     Over
 
 abbrev pub numberWith : Mant → Expo → Number

@@ -6,7 +6,7 @@ ghost use lib.Dec.{eqb};
 ghost use lib.ListN.{length, drop};
 ghost use Rattle.label.specs.Bytes.{isDigit};
 ghost use Rattle.label.specs.Entry.{isE, nearest, scaled};
-ghost use Rattle.label.specs.Rounded.{isWhole};
+ghost use Rattle.label.specs.Requests.RoundedCount.{isWhole};
 ghost use Rattle.number.specs.declared.Thousandths.the-variants.{Of};
 ghost use Rattle.number.specs.Digits.{cap, headOf, pushed, digitsFrom};
 ghost use Rattle.number.specs.Numbers.{sized, mantissaOf, cutMantissa, signLength, exponentOf, cutExponent, numberOf};

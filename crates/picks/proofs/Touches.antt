@@ -1,5 +1,7 @@
 -- The laws of the walk over the clusters, and of the picks' returns.
 -- Assumes nothing.
+use Rattle.label.specs.Places.{Places, places}
+use Rattle.label.proofs.Steps.{glyphs-steps, units-steps}
 use Prim.Native.Nat.{ℕ, _+_, _-_, _≤_, _<_}
 use native.Mathlib.Omega.{arith}
 use mathlib.Core.Path.{_≡_, refl, sym, _∙_}
@@ -9,18 +11,19 @@ use borrow.Author.Tests.{le-leb, lt-leb, lt-ltb, le-ltb, leb-true, leb-false, lt
 use lib.Dec.{leb, ltb}
 use lib.IntN.{ℤ}
 use lib.ListN.{length, drop}
-use Rattle.label.specs.Outcome.{ok, no, need, _>>_}
+use Rattle.label.specs.Outcome.{Outcome, ok, no, _>>_, need}
 use Rattle.label.specs.Run.{cluster}
-use Rattle.label.specs.Sound.{nat, clustersOf, glyphsOf, sound}
+use Rattle.label.specs.Wire.{halves, words}
+use Rattle.label.specs.Sound.{nat, clustersOf, glyphsOf, noLeftOver, sound}
 use Rattle.label.specs.Pick.{stretch, holding, touched, turned, inside, pickUnits, pickGlyphs}
 use Rattle.label.specs.declared.Cluster.{Cluster}
 use Rattle.label.specs.declared.Stretch.{Stretch}
 use Rattle.label.proofs.Basics.{and-l, and-r, cases}
-use Rattle.words.specs.Places.{clusterAt, place}
+use Rattle.wire.specs.Numbers.{clusterAt, place}
 use Rattle.sound.specs.Sounds.{unitSum}
 use Rattle.sound.proofs.Parts.{clusters-at, clusters-end}
 use Rattle.sound.proofs.Facts.{few-units, few-glyphs, units-add-up, glyphs-add-up}
-use Rattle.picks.specs.Ways.{way, pickBy}
+use Rattle.picks.specs.Ways.{way, pickAlong}
 
 -- ── the clusters at a place, in either way ──
 
@@ -125,46 +128,50 @@ module _ (turn : Bool) (cs : List ℤ) (first end : ℕ) where
 
 -- ── the calls ──
 
-module _ (turn : Bool) (us : List ℕ) (cs gs : List ℤ) (first end : ℕ) where
+module _ (turn : Bool) (us cs gs : List ℕ) (first end : ℕ) where
   -- how many there are of what the pick counts
   abbrev count : ℕ
-  count = cond turn (length us) (length (glyphsOf gs))
+  count = cond turn (length (halves us)) (length (glyphsOf (words gs)))
 
-  pick-is : pickBy turn us cs gs first end ≡ (need (sound us cs gs) 19 0 >> (need (inside first end count) 22 0 >> ok (touched first end (way turn (clustersOf cs)))))
-  unfolding pickUnits pickGlyphs way
+  abbrev z : Places
+  z = places us cs gs
+
+  pick-is : pickAlong turn z first end ≡ (need (sound z) 19 0 >> (need (inside first end count) 22 0 >> ok (touched first end (way turn (clustersOf (words cs))))))
+  unfolding way
   pick-is = by turn
     where
-      by : (t : Bool) → pickBy t us cs gs first end ≡ (need (sound us cs gs) 19 0 >> (need (inside first end (cond t (length us) (length (glyphsOf gs)))) 22 0 >> ok (touched first end (way t (clustersOf cs)))))
-      by true = refl
-      by false = refl
+      by : (t : Bool) → pickAlong t z first end
+          ≡ (need (sound z) 19 0 >> (need (inside first end (cond t (length (halves us)) (length (glyphsOf (words gs))))) 22 0 >> ok (touched first end (way t (clustersOf (words cs))))))
+      by true = glyphs-steps z first end
+      by false = units-steps z first end
 
-  module _ {x : Bool} (ex : x ≡ sound us cs gs) where
-    pub refuses-19 : not x ≡ true → no 19 0 ≡ pickBy turn us cs gs first end
+  module _ {x : Bool} (ex : x ≡ sound z) where
+    pub refuses-19 : not x ≡ true → no 19 0 ≡ pickAlong turn z first end
     refuses-19 k = sym (pick-is ∙ rw (sym ex ∙ not-true x k))
 
     module _ (kx : not x ≡ false) {n : ℕ} (en : n ≡ count) {y : Bool} (ey : y ≡ (ltb first end && leb end n)) where
-      yes : sound us cs gs ≡ true
+      yes : sound z ≡ true
       yes = sym ex ∙ not-false x kx
 
       judged : y ≡ inside first end count
       judged = ey ∙ rw en
 
-      pub refuses-22 : not y ≡ true → no 22 0 ≡ pickBy turn us cs gs first end
+      pub refuses-22 : not y ≡ true → no 22 0 ≡ pickAlong turn z first end
       refuses-22 k = sym (pick-is ∙ rw (yes, sym judged ∙ not-true y k))
 
       module _ (ky : not y ≡ false) where
         within : inside first end count ≡ true
         within = sym judged ∙ not-false y ky
 
-        pub picks-stretch : {s : Stretch} → s ≡ touched first end (way turn (clustersOf cs)) → ok s ≡ pickBy turn us cs gs first end
+        pub picks-stretch : {s : Stretch} → s ≡ touched first end (way turn (clustersOf (words cs))) → ok s ≡ pickAlong turn z first end
         picks-stretch e = sym (pick-is ∙ rw (yes, within, e))
 
-        few : (t : Bool) → (cond t (length us) (length (glyphsOf gs)) ≤ 4096) × (unitSum (way t (clustersOf cs)) ≤ 4096)
+        few : (t : Bool) → (cond t (length (halves us)) (length (glyphsOf (words gs))) ≤ 4096) × (unitSum (way t (clustersOf (words cs))) ≤ 4096)
         unfolding way
         few true = (few-units us cs gs yes, let e = glyphs-add-up us cs gs yes in let f = few-glyphs us cs gs yes in omega arith)
         few false = (few-glyphs us cs gs yes, let e = units-add-up us cs gs yes in let f = few-units us cs gs yes in omega arith)
 
-        pub within-limits : (first < end) × (end < 4294967296) × (unitSum (way turn (clustersOf cs)) < 4294967296)
+        pub within-limits : (first < end) × (end < 4294967296) × (unitSum (way turn (clustersOf (words cs))) < 4294967296)
         within-limits =
             let a : first < end = ltb-true first end (and-l _ _ within) in
             let b : end ≤ count = leb-true end count (and-r (ltb first end) _ within) in

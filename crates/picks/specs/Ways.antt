@@ -3,8 +3,8 @@
 use Prim.Native.Nat.{ℕ}
 use mathlib.Core.Bool.{Bool, true, false}
 use mathlib.Core.List.{List}
-use lib.IntN.{ℤ}
 use Rattle.label.specs.Outcome.{Outcome}
+use Rattle.label.specs.Places.{Places}
 use Rattle.label.specs.Pick.{turned, pickUnits, pickGlyphs}
 use Rattle.label.specs.declared.Cluster.{Cluster}
 use Rattle.label.specs.declared.Stretch.{Stretch}
@@ -15,6 +15,6 @@ way false cs = cs
 way true cs = turned cs
 
 -- the pick from glyphs to units; turned, the one from units to glyphs
-abbrev pub pickBy : Bool → List ℕ → List ℤ → List ℤ → ℕ → ℕ → Outcome Stretch
-pickBy false us cs gs first end = pickUnits us cs gs first end
-pickBy true us cs gs first end = pickGlyphs us cs gs first end
+abbrev pub pickAlong : Bool → Places → ℕ → ℕ → Outcome Stretch
+pickAlong false z first end = pickUnits z first end
+pickAlong true z first end = pickGlyphs z first end

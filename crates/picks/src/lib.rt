@@ -1,15 +1,17 @@
 // Picks: from a stretch of glyphs to the stretch of code units of all clusters touched, and from code units to glyphs.
+ghost use Rattle.label.specs.Places.{places};
 ghost use mathlib.Core.Path.{_≡_};
 ghost use mathlib.Core.Bool.{cond};
 ghost use Prim.Native.Nat.{_+_, _<_};
 ghost use lib.Dec.{leb};
 ghost use lib.ListN.{length};
-ghost use Rattle.label.specs.Calls.{refusal, pickOutcome};
-ghost use Rattle.label.specs.Pick.{touched, pickUnits, pickGlyphs};
+ghost use Rattle.label.specs.Wire.{halves, words as wordsOf};
 ghost use Rattle.label.specs.Sound.{nat, clustersOf, glyphsOf};
-ghost use Rattle.words.specs.Places.{place};
+ghost use Rattle.label.specs.Pick.{touched, pickGlyphs, pickUnits};
+ghost use Rattle.label.specs.Calls.{refusal, pickOutcome};
+ghost use Rattle.wire.specs.Numbers.{place};
 ghost use Rattle.sound.specs.Sounds.{unitSum};
-ghost use Rattle.picks.specs.Ways.{way, pickBy};
+ghost use Rattle.picks.specs.Ways.{way, pickAlong};
 use label::Pick;
 use label::Refusal;
 use label::Stretch;
@@ -17,15 +19,15 @@ use label::Stretch;
 // ── the clusters touched ──
 
 // The count of units, or of glyphs, of the cluster whose two numbers begin at place i.
-fn count_at(cs: &[i32], i: usize, glyphs: bool) -> usize
-    requires { ⌜ i + 1 < length (now cs) ⌝ }
-    ensures { λ r. ⌜ r ≡ cond glyphs (nat (place (now (cs .entry)) (i + 1))) (nat (place (now (cs .entry)) i)) ⌝ }
-    ensures bounds { λ r. ⌜ r < 4294967296 ⌝ }
+fn count_at(cs: &[u8], i: usize, glyphs: bool) -> usize
+    requires { ⌜ i + 1 < length (wordsOf (now cs)) ⌝ }
+    ensures { λ r. ⌜ r ≡ cond glyphs (nat (place (wordsOf (now (cs .entry))) (i + 1))) (nat (place (wordsOf (now (cs .entry))) i)) ⌝ }
+    ensures bounds { λ r. ⌜ r < 2147483648 ⌝ }
 {
     if glyphs {
-        words::widened(words::nat_at(cs, i + 1))
+        wire::count(wire::number_at(cs, i + 1))
     } else {
-        words::widened(words::nat_at(cs, i))
+        wire::count(wire::number_at(cs, i))
     }
 }
 
@@ -38,15 +40,16 @@ fn start_at(passed: usize, first: usize, at: usize, start: usize) -> usize
 
 // The units of all clusters touched by glyphs `first` up to and without `end`; turned, the glyphs of those touched by units.
 // `passed` glyphs and `at` units stand before the cluster at place i; turned, `passed` units and `at` glyphs.
-fn touched_by(cs: &[i32], turn: bool, first: usize, end: usize) -> Stretch
-    requires { ⌜ (first < end) × (end < 4294967296) × (unitSum (way turn (clustersOf (now cs))) < 4294967296) ⌝ }
-    ensures { λ r. ⌜ r ≡ touched first end (way turn (clustersOf (now (cs .entry)))) ⌝ }
+fn touched_by(cs: &[u8], turn: bool, first: usize, end: usize) -> Stretch
+    requires { ⌜ (first < end) × (end < 4294967296) × (unitSum (way turn (clustersOf (wordsOf (now cs)))) < 4294967296) ⌝ }
+    ensures { λ r. ⌜ r ≡ touched first end (way turn (clustersOf (wordsOf (now (cs .entry))))) ⌝ }
 {
+    let n = wire::number_count(cs);
     let mut passed = 0;
     let mut at = 0;
     let mut start = 0;
     let mut i = 0;
-    while 2 <= cs.len() - i {
+    while 2 <= n - i {
         start = start_at(passed, first, at, start);
         passed += count_at(cs, i, !turn);
         at += count_at(cs, i, turn);
@@ -73,22 +76,19 @@ fn refused(number: usize) -> Pick
 }
 
 // How many glyphs a run has, or, turned, how many units.
-fn count_of(turn: bool, units: &[u16], glyphs: &[i32]) -> usize
-    ensures { λ r. ⌜ r ≡ cond turn (length (now (units .entry))) (length (glyphsOf (now (glyphs .entry)))) ⌝ }
+fn count_of(turn: bool, units: &[u8], glyphs: &[u8]) -> usize
+    ensures { λ r. ⌜ r ≡ cond turn (length (halves (now (units .entry)))) (length (glyphsOf (wordsOf (now (glyphs .entry))))) ⌝ }
 {
-    if turn { units.len() } else { glyphs.len() / 4 }
+    if turn {
+        wire::unit_count(units)
+    } else {
+        wire::number_count(glyphs) / 4
+    }
 }
 
 // The pick from glyphs to units, or, turned, from units to glyphs.
-fn pick(
-    units: &[u16],
-    clusters: &[i32],
-    glyphs: &[i32],
-    turn: bool,
-    first: usize,
-    end: usize,
-) -> Pick
-    ensures { λ r. ⌜ pickOutcome r ≡ pickBy turn (now (units .entry)) (now (clusters .entry)) (now (glyphs .entry)) first end ⌝ }
+fn pick(units: &[u8], clusters: &[u8], glyphs: &[u8], turn: bool, first: usize, end: usize) -> Pick
+    ensures { λ r. ⌜ pickOutcome r ≡ pickAlong turn (places (now (units .entry)) (now (clusters .entry)) (now (glyphs .entry))) first end ⌝ }
 {
     if !sound::is_sound(units, clusters, glyphs) {
         return refused(19);
@@ -101,15 +101,15 @@ fn pick(
 }
 
 // The code units of all clusters touched by glyphs `first` up to and without `end`.
-pub fn units_of(units: &[u16], clusters: &[i32], glyphs: &[i32], first: usize, end: usize) -> Pick
-    ensures { λ r. ⌜ pickOutcome r ≡ pickUnits (now (units .entry)) (now (clusters .entry)) (now (glyphs .entry)) first end ⌝ }
+pub fn units_of(units: &[u8], clusters: &[u8], glyphs: &[u8], first: usize, end: usize) -> Pick
+    ensures { λ r. ⌜ pickOutcome r ≡ pickUnits (places (now (units .entry)) (now (clusters .entry)) (now (glyphs .entry))) first end ⌝ }
 {
     pick(units, clusters, glyphs, false, first, end)
 }
 
 // The glyphs of all clusters touched by code units `first` up to and without `end`.
-pub fn glyphs_of(units: &[u16], clusters: &[i32], glyphs: &[i32], first: usize, end: usize) -> Pick
-    ensures { λ r. ⌜ pickOutcome r ≡ pickGlyphs (now (units .entry)) (now (clusters .entry)) (now (glyphs .entry)) first end ⌝ }
+pub fn glyphs_of(units: &[u8], clusters: &[u8], glyphs: &[u8], first: usize, end: usize) -> Pick
+    ensures { λ r. ⌜ pickOutcome r ≡ pickGlyphs (places (now (units .entry)) (now (clusters .entry)) (now (glyphs .entry))) first end ⌝ }
 {
     pick(units, clusters, glyphs, true, first, end)
 }

@@ -1,36 +1,38 @@
 -- The second pass over an accepted label: what a turn stores, and what stands in the buffers at the end.
 -- Assumes nothing.
+use Rattle.label.proofs.Steps.{walk-end}
 use Prim.Native.Nat.{ℕ, _+_, _*_, _-_, _≤_, _<_, min}
 use native.Mathlib.Omega.{arith}
-use mathlib.Core.Path.{_≡_, refl, sym, _∙_, ap, subst}
+use mathlib.Core.Path.{_≡_, refl, sym, _∙_, ap}
 use mathlib.Core.Bool.{Bool, true, cond, not, _&&_}
 use mathlib.Core.List.{List, [], _∷_, _++_}
 use borrow.Author.Tests.{eq-eqb, eqb-true, eqb-false}
-use lib.Dec.{eqb, leb}
-use lib.IntN.{ℤ}
+use lib.Dec.{eqb}
 use lib.ListN.{length, drop, length-append}
 use lib.Seq.{sets}
 use Rattle.label.specs.Outcome.{Outcome, ok, no}
 use Rattle.label.specs.Bytes.{empty}
-use Rattle.label.specs.Entry.{entry, entries}
-use Rattle.label.specs.Rounded.{roundedEntry}
-use Rattle.label.specs.Run.{Parts, State, start, opens, takes, step, next, walk, tail}
-use Rattle.label.specs.Sound.{indexFits, advanceFits, size, flatClusters, flatGlyphs}
+use Rattle.label.specs.Entry.{entries}
+use Rattle.label.specs.Run.{Parts, tail, State, startState, opens, takes, next}
+use Rattle.label.specs.Steps.{entry, step, walk}
+use Rattle.label.specs.Wire.{fromWords}
+use Rattle.label.specs.Places.{flatGlyphs}
 use Rattle.label.specs.Calls.{filled}
+use Rattle.label.specs.Requests.RoundedCount.{roundedEntry}
 use Rattle.label.specs.declared.Cursor.{Cursor}
 use Rattle.label.specs.declared.Refusal.{Refusal}
-use Rattle.label.proofs.Basics.{cases, need-ok, no-ok, and-l, and-r}
-use Rattle.label.proofs.Walks.{ok-path, Walked, walk-ok, step-ok}
+use Rattle.label.proofs.Basics.{cases, need-ok, no-ok}
+use Rattle.label.proofs.Run.{ok-path, Walked, walk-ok, step-ok}
 use Rattle.label.proofs.Cursors.{joined, after, added}
 use Rattle.number.specs.Digits.{cap}
 use Rattle.entry.specs.Items.{here}
 use Rattle.entry.specs.declared.Item.{Item}
 use Rattle.entry.specs.declared.EntryRead.the-variants.{Read, Refused}
 use Rattle.survey.specs.Steps.{itemEntry, advanced, entryAt}
-use Rattle.reader.specs.Stores.{takenBy, openedHere, clusterPlaces, glyphPlaces, Storable}
+use Rattle.reader.specs.Stores.{takenBy, openedHere, clusterBytes, glyphBytes, clusterPlaces, glyphPlaces, Storable}
 use Rattle.survey.proofs.Entries.{empty-eqb, leftFrom, left-is, left-few}
 use Rattle.survey.proofs.Placing.{read-is, refused-is}
-use Rattle.survey.proofs.Walking.{walk-end, stateOf, Stands, Ready, Turned, turned, takes-cut, refusing, step-no, ends-open, ends-shut}
+use Rattle.survey.proofs.Walking.{stateOf, Stands, Ready, Turned, turned, takes-cut, refusing, step-no, ends-open, ends-shut}
 use Rattle.reader.proofs.Stores.{Stored, Flattens, clusters-flatten, glyphs-flatten, room-more, flat-stored}
 
 -- ── an open cluster's glyphs are there ──
@@ -47,22 +49,27 @@ walk-lack (s ∷ ss) bare st p h =
     (λ t. let z : st .lack ≡ 0 = eqb-true (st .lack) 0 t in omega arith)
     (λ t. let r′ : st .lack - 1 ≤ length ss = rw t at r in omega arith)
 
+-- where the next entry starts
+pub place-behind : (c d : Cursor) (b a g i : ℕ) → d ≡ advanced c b a g i → d .place ≡ i
+unfolding advanced
+place-behind c d b a g i e = ap (λ (x : Cursor). x .place) e
+
 -- ── clusters and glyphs alike ──
 
 -- one of a run's two lists: how its numbers are laid out
-record Listed {A : Type 0} (of : Parts → List A) (flat : List A → List ℤ) (one : A → List ℤ) (w : ℕ) : Type 0 where
+record Listed {A : Type 0} (of : Parts → List A) (flat : List A → List ℕ) (one : A → List ℕ) (w : ℕ) : Type 0 where
   flattens : Flattens flat one w
   joins : (p q : Parts) → of (joined p q) ≡ of p ++ of q
 
-clusters-listed : Listed (λ (p : Parts). p .clusters) flatClusters clusterPlaces 2
+clusters-listed : Listed (λ (p : Parts). p .clusters) clusterBytes clusterPlaces 8
 clusters-listed = record { flattens = clusters-flatten; joins = λ p q. refl }
 
-glyphs-listed : Listed (λ (p : Parts). p .glyphs) flatGlyphs glyphPlaces 4
+glyphs-listed : Listed (λ (p : Parts). p .glyphs) glyphBytes glyphPlaces 16
 glyphs-listed = record { flattens = glyphs-flatten; joins = λ p q. refl }
 
-module _ {A : Type 0} (of : Parts → List A) (flat : List A → List ℤ) (one : A → List ℤ) (w : ℕ) (l : Listed of flat one w) (all pre : Parts) (n : ℕ) (en : length (of pre) ≡ n) where
+module _ {A : Type 0} (of : Parts → List A) (flat : List A → List ℕ) (one : A → List ℕ) (w : ℕ) (l : Listed of flat one w) (all pre : Parts) (n : ℕ) (en : length (of pre) ≡ n) where
   -- parts in the middle, whose numbers are vs
-  module _ (more others : Parts) (is : joined (joined pre more) others ≡ all) (vs : List ℤ) (ev : flat (of more) ≡ vs) where
+  module _ (more others : Parts) (is : joined (joined pre more) others ≡ all) (vs : List ℕ) (ev : flat (of more) ≡ vs) where
     listed-inside : length (of pre ++ of more) ≤ length (of all)
     listed-inside =
         let e : length (of (joined pre more)) + length (of others) ≡ length (of all) =
@@ -72,7 +79,7 @@ module _ {A : Type 0} (of : Parts → List A) (flat : List A → List ℤ) (one 
     listed-room : w * n + length vs ≤ w * length (of all)
     listed-room = room-more flat one w (l .flattens) (of pre) (of more) vs n en ev (length (of all)) listed-inside
 
-    listed-stored : (old out out′ : List ℤ) → Stored old out (flat (of pre)) → out′ ≡ sets out (w * n) vs → w * length (of all) ≤ length old
+    listed-stored : (old out out′ : List ℕ) → Stored old out (flat (of pre)) → out′ ≡ sets out (w * n) vs → w * length (of all) ≤ length old
         → Stored old out′ (flat (of (joined pre more)))
     listed-stored old out out′ s q r =
         rw (l .joins pre more) (flat-stored flat one w (l .flattens) (of pre) (of more) vs n en ev old out out′ s q (omega (arith, listed-room)))
@@ -85,7 +92,7 @@ module _ {A : Type 0} (of : Parts → List A) (flat : List A → List ℤ) (one 
     end-count : n + length (of more) ≡ length (of all)
     end-count = sym (ap length all-listed ∙ length-append (of pre) (of more) ∙ rw en)
 
-    end-filled : (old out out′ : List ℤ) → Stored old out (flat (of pre)) → out′ ≡ sets out (w * n) (flat (of more)) → w * length (of all) ≤ length old
+    end-filled : (old out out′ : List ℕ) → Stored old out (flat (of pre)) → out′ ≡ sets out (w * n) (flat (of more)) → w * length (of all) ≤ length old
         → out′ ≡ filled (flat (of all)) old
     end-filled old out out′ s q r =
         let e : length (of pre ++ of more) ≤ length (of all) = rw (← all-listed) (omega arith) in
@@ -95,20 +102,20 @@ module _ {A : Type 0} (of : Parts → List A) (flat : List A → List ℤ) (one 
 -- ── an accepted walk, whose parts are `all` ──
 
 -- the walk stands at c, and the parts before it are stored
-pub record Filled (us s : List ℕ) (c₀ g₀ cs gs : List ℤ) (c : Cursor) : Type 0 where
+pub record Filled (us s : List ℕ) (c₀ g₀ cs gs : List ℕ) (c : Cursor) : Type 0 where
   pub pre : Parts
   pub lack : ℕ
   pub stands : Stands us s pre lack c
   pub ready : Ready us s c
-  pub clusters : Stored c₀ cs (flatClusters (pre .clusters))
-  pub glyphs : Stored g₀ gs (flatGlyphs (pre .glyphs))
+  pub clusters : Stored c₀ cs (clusterBytes (pre .clusters))
+  pub glyphs : Stored g₀ gs (glyphBytes (pre .glyphs))
 
 after-ok : (p : Parts) (o : Outcome Parts) (q : Parts) → after p o ≡ ok q → (r : Parts) × (o ≡ ok r) × (joined p r ≡ q)
 after-ok p (ok r) q h = (r, refl, ok-path (joined p r) q h)
 after-ok p (no n m) q h = no-ok n m q h
 
-module _ (us s : List ℕ) (all : Parts) (good : walk (empty us) (start us) (entries s) ≡ ok all) where
-  never : {A : Type 0} (n p : ℕ) → walk (empty us) (start us) (entries s) ≡ no n p → A
+module _ (us s : List ℕ) (all : Parts) (good : walk (empty us) (startState us) (entries s) ≡ ok all) where
+  never : {A : Type 0} (n p : ℕ) → walk (empty us) (startState us) (entries s) ≡ no n p → A
   never n p h = no-ok n p all (sym h ∙ good)
 
   -- what is left of it
@@ -176,7 +183,7 @@ module _ (us s : List ℕ) (all : Parts) (good : walk (empty us) (start us) (ent
         let f = few-glyphs (eq-eqb (c .lack) 0 h) in
         (omega (arith, w .units-few, w .ready .few-units), omega (arith, f, glyphs-cut))
 
-    opened-is : flatClusters (more .clusters) ≡ flatClusters (openedHere (c .lack) t (x .glyphs))
+    opened-is : clusterBytes (more .clusters) ≡ clusterBytes (openedHere (c .lack) t (x .glyphs))
     unfolding openedHere
     opened-is =
         rw (w .opened)
@@ -185,35 +192,28 @@ module _ (us s : List ℕ) (all : Parts) (good : walk (empty us) (start us) (ent
         rw (← g, ← w .units-are, w .opened, h))
         (λ h. rw h))
 
-    glyph-is : flatGlyphs (more .glyphs) ≡ glyphPlaces (x .glyph)
-    unfolding flatGlyphs
+    glyph-is : glyphBytes (more .glyphs) ≡ glyphPlaces (x .glyph)
+    unfolding flatGlyphs fromWords glyphBytes glyphPlaces
     glyph-is = rw (← w .item-is) (cases (eqb lack 0) (λ h. rw h) (λ h. rw h))
 
-    advance-small : advanceFits (x .glyph .advance) ≡ true
-    advance-small =
-        let g = w .e .glyph in
-        let a = indexFits (g .index) && advanceFits (g .advance) in
-        let b = leb (size (g .u)) 1000000000 in
-        let f : advanceFits (g .advance) ≡ true = and-r (indexFits (g .index)) (advanceFits (g .advance)) (and-l a b (and-l (a && b) (leb (size (g .v)) 1000000000) (w .small))) in
-        subst (λ (y : Item). advanceFits (y .glyph .advance) ≡ true) (w .item-is) f
-
-    room-clusters : 2 * c .clusters + length (flatClusters (openedHere (c .lack) t (x .glyphs))) ≤ 2 * length (all .clusters)
+    room-clusters : 8 * c .clusters + length (clusterBytes (openedHere (c .lack) t (x .glyphs))) ≤ 8 * length (all .clusters)
     room-clusters = listed-room _ _ _ _ clusters-listed all pre (c .clusters) (st .clusters-are) more (then .others) (then .is) _ opened-is
 
-    room-glyphs : 4 * c .entry + 4 ≤ 4 * length (all .glyphs)
+    room-glyphs : 16 * c .entry + 16 ≤ 16 * length (all .glyphs)
+    unfolding glyphPlaces
     room-glyphs = listed-room _ _ _ _ glyphs-listed all pre (c .entry) (st .glyphs-are) more (then .others) (then .is) _ glyph-is
 
-    module _ (old out out′ : List ℤ) where
-      clusters-stored : Stored old out (flatClusters (pre .clusters)) → out′ ≡ sets out (2 * c .clusters) (flatClusters (openedHere (c .lack) t (x .glyphs)))
-          → 2 * length (all .clusters) ≤ length old → Stored old out′ (flatClusters (joined pre more .clusters))
+    module _ (old out out′ : List ℕ) where
+      clusters-stored : Stored old out (clusterBytes (pre .clusters)) → out′ ≡ sets out (8 * c .clusters) (clusterBytes (openedHere (c .lack) t (x .glyphs)))
+          → 8 * length (all .clusters) ≤ length old → Stored old out′ (clusterBytes (joined pre more .clusters))
       clusters-stored = listed-stored _ _ _ _ clusters-listed all pre (c .clusters) (st .clusters-are) more (then .others) (then .is) _ opened-is old out out′
 
-      glyphs-stored : Stored old out (flatGlyphs (pre .glyphs)) → out′ ≡ sets out (4 * c .entry) (glyphPlaces (x .glyph))
-          → 4 * length (all .glyphs) ≤ length old → Stored old out′ (flatGlyphs (joined pre more .glyphs))
+      glyphs-stored : Stored old out (glyphBytes (pre .glyphs)) → out′ ≡ sets out (16 * c .entry) (glyphPlaces (x .glyph))
+          → 16 * length (all .glyphs) ≤ length old → Stored old out′ (glyphBytes (joined pre more .glyphs))
       glyphs-stored = listed-stored _ _ _ _ glyphs-listed all pre (c .entry) (st .glyphs-are) more (then .others) (then .is) _ glyph-is old out out′
 
   -- an entry x that was read can be stored, and then the walk stands behind it
-  module _ (c₀ g₀ cs gs : List ℤ) (c : Cursor) (l : Filled us s c₀ g₀ cs gs c) (hi : c .place ≤ length s) (hc : 2 * length (all .clusters) ≤ length c₀) (hg : 4 * length (all .glyphs) ≤ length g₀)
+  module _ (c₀ g₀ cs gs : List ℕ) (c : Cursor) (l : Filled us s c₀ g₀ cs gs c) (hi : c .place ≤ length s) (hc : 8 * length (all .clusters) ≤ length c₀) (hg : 16 * length (all .glyphs) ≤ length g₀)
       (n : ℕ) (en : n ≡ length us) (x : Item) (h : entryAt s c ≡ Read x) where
     abbrev units : ℕ
     units = takenBy n (c .lack) (x .units)
@@ -230,27 +230,24 @@ module _ (us s : List ℕ) (all : Parts) (good : walk (empty us) (start us) (ent
           small-counts (l .pre) (l .lack) c behind units x w (l .stands),
           omega (arith, hc, l .clusters .same, room-clusters (l .pre) (l .lack) c behind units x w (l .stands)),
           omega (arith, hg, l .glyphs .same, room-glyphs (l .pre) (l .lack) c behind units x w (l .stands)),
-          advance-small (l .pre) (l .lack) c behind units x w (l .stands),
           omega (arith, l .ready .number, hi, l .ready .few-bytes),
           omega (arith, w .units-few, l .ready .few-units),
           l .ready .some,
           omega (arith, w .behind, l .ready .few-bytes),
         )
 
-    pub filled-on : (d : Cursor) (cs′ gs′ : List ℤ) → d ≡ behind → cs′ ≡ sets cs (2 * c .clusters) (flatClusters (openedHere (c .lack) units (x .glyphs)))
-        → gs′ ≡ sets gs (4 * c .entry) (glyphPlaces (x .glyph)) → Filled us s c₀ g₀ cs′ gs′ d × (c .place < d .place)
+    pub filled-on : (d : Cursor) (cs′ gs′ : List ℕ) → d ≡ behind → cs′ ≡ sets cs (8 * c .clusters) (clusterBytes (openedHere (c .lack) units (x .glyphs)))
+        → gs′ ≡ sets gs (16 * c .entry) (glyphPlaces (x .glyph)) → Filled us s c₀ g₀ cs′ gs′ d
     filled-on d cs′ gs′ ed ec eg =
-        let w : Turned us s (l .pre) (l .lack) c d units x = turn d ed in (
-          record {
-            pre = joined (l .pre) (added (empty us) (stateOf us c (l .lack)) (w .e));
-            lack = w .lack′;
-            stands = w .stands;
-            ready = w .ready;
-            clusters = clusters-stored (l .pre) (l .lack) c d units x w (l .stands) c₀ cs cs′ (l .clusters) ec hc;
-            glyphs = glyphs-stored (l .pre) (l .lack) c d units x w (l .stands) g₀ gs gs′ (l .glyphs) eg hg;
-          },
-          omega (arith, w .place-is),
-        )
+        let w : Turned us s (l .pre) (l .lack) c d units x = turn d ed in
+        record {
+          pre = joined (l .pre) (added (empty us) (stateOf us c (l .lack)) (w .e));
+          lack = w .lack′;
+          stands = w .stands;
+          ready = w .ready;
+          clusters = clusters-stored (l .pre) (l .lack) c d units x w (l .stands) c₀ cs cs′ (l .clusters) ec hc;
+          glyphs = glyphs-stored (l .pre) (l .lack) c d units x w (l .stands) g₀ gs gs′ (l .glyphs) eg hg;
+        }
 
   -- ── the end ──
 
@@ -272,11 +269,11 @@ module _ (us s : List ℕ) (all : Parts) (good : walk (empty us) (start us) (ent
       pub end-glyphs : c .entry + length (tail rest .glyphs) ≡ length (all .glyphs)
       end-glyphs = end-count _ _ _ _ glyphs-listed all pre (c .entry) (st .glyphs-are) (tail rest) all-parts
 
-      module _ (old out out′ : List ℤ) where
-        pub clusters-end : Stored old out (flatClusters (pre .clusters)) → out′ ≡ sets out (2 * c .clusters) (flatClusters (tail rest .clusters))
-            → 2 * length (all .clusters) ≤ length old → out′ ≡ filled (flatClusters (all .clusters)) old
+      module _ (old out out′ : List ℕ) where
+        pub clusters-end : Stored old out (clusterBytes (pre .clusters)) → out′ ≡ sets out (8 * c .clusters) (clusterBytes (tail rest .clusters))
+            → 8 * length (all .clusters) ≤ length old → out′ ≡ filled (clusterBytes (all .clusters)) old
         clusters-end = end-filled _ _ _ _ clusters-listed all pre (c .clusters) (st .clusters-are) (tail rest) all-parts old out out′
 
-        pub glyphs-end : Stored old out (flatGlyphs (pre .glyphs)) → out′ ≡ sets out (4 * c .entry) (flatGlyphs (tail rest .glyphs))
-            → 4 * length (all .glyphs) ≤ length old → out′ ≡ filled (flatGlyphs (all .glyphs)) old
+        pub glyphs-end : Stored old out (glyphBytes (pre .glyphs)) → out′ ≡ sets out (16 * c .entry) (glyphBytes (tail rest .glyphs))
+            → 16 * length (all .glyphs) ≤ length old → out′ ≡ filled (glyphBytes (all .glyphs)) old
         glyphs-end = end-filled _ _ _ _ glyphs-listed all pre (c .entry) (st .glyphs-are) (tail rest) all-parts old out out′

@@ -1,4 +1,4 @@
 pub mod Stores
-pub mod Tails
 pub mod Filling
+pub mod Tails
 pub mod Calls

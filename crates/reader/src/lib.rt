@@ -1,90 +1,88 @@
 // The reading of a label into lent buffers: the crate `survey` judges 1 to 15 of document 01's checks and counts, and a second pass here fills the buffers.
 // Nothing is stored before 18 has been judged.
-ghost use Prim.Native.Nat.{_+_, _*_, _≤_, _<_};
+ghost use Prim.Native.Nat.{_+_, _*_, _/_, _≤_, _<_};
 ghost use mathlib.Core.Path.{_≡_};
-ghost use mathlib.Core.Bool.{true, cond};
+ghost use mathlib.Core.Bool.{cond};
 ghost use lib.ListN.{length, drop};
 ghost use lib.Seq.{sets};
-ghost use Rattle.label.specs.Outcome.{ok};
 ghost use Rattle.label.specs.Text.{isPair};
-ghost use Rattle.label.specs.Run.{tail, read as readLabel};
-ghost use Rattle.label.specs.Sound.{indexNumber, advanceNumber, advanceFits, flatClusters, flatGlyphs};
-ghost use Rattle.label.specs.Rounded.{rounded as roundedIn, beside};
-ghost use Rattle.label.specs.Calls.{readingOutcome, readingRounded, readInto, counted, unitsAfter, clustersAfter, glyphsAfter};
+ghost use Rattle.label.specs.Run.{tail};
+ghost use Rattle.label.specs.Checks.{read as readLabel};
+ghost use Rattle.label.specs.Wire.{bitsOf, halves};
+ghost use Rattle.label.specs.Places.{indexNumber, advanceNumber};
+ghost use Rattle.label.specs.Calls.{readingOutcome, readingRounded, roomOf, readInto, counted, unitsAfter, clustersAfter, glyphsAfter};
+ghost use Rattle.label.specs.Requests.RoundedCount.{rounded as roundedIn, beside};
 ghost use Rattle.text.specs.Texts.{unitsStart};
 ghost use Rattle.survey.specs.Steps.{advanced};
-ghost use Rattle.reader.specs.Stores.{takenBy, openedHere, glyphPlaces, Storable};
+ghost use Rattle.reader.specs.Stores.{takenBy, openedHere, glyphPlaces, clusterBytes, glyphBytes, Storable, Fillable};
 
-fn index_number(i: label::Index) -> i32
-    ensures { λ r. ⌜ r ≡ indexNumber i ⌝ }
+// An index's number, and an advance's, by its bits.
+fn index_bits(i: label::Index) -> u32
+    ensures { λ r. ⌜ r ≡ bitsOf (indexNumber i) ⌝ }
 {
     match i {
-        label::Index::Named(n) => n as i32,
-        label::Index::Font => -1,
+        label::Index::Named(n) => n as u32,
+        label::Index::Font => 0xffff_ffff,
     }
 }
 
-fn advance_number(a: label::Advance) -> i32
-    requires { ⌜ advanceFits a ≡ true ⌝ }
-    ensures { λ r. ⌜ r ≡ advanceNumber a ⌝ }
+fn advance_bits(a: label::Advance) -> u32
+    ensures { λ r. ⌜ r ≡ bitsOf (advanceNumber a) ⌝ }
 {
     match a {
-        label::Advance::Given(n) => n as i32,
-        label::Advance::Own => -1,
+        label::Advance::Given(n) => n,
+        label::Advance::Own => 0xffff_ffff,
     }
 }
 
-// Glyph k's four places.
-fn put_glyph(out: &mut [i32], k: usize, g: label::Glyph)
-    requires { ⌜ (4 * k + 3 < length (now out)) × (advanceFits (g .advance) ≡ true) ⌝ }
-    ensures { λ _. ⌜ now (out .exit) ≡ sets (now (out .entry)) (4 * k) (glyphPlaces g) ⌝ }
+// Glyph k's 16 bytes.
+fn put_glyph(out: &mut [u8], k: usize, g: label::Glyph)
+    requires { ⌜ 16 * k + 15 < length (now out) ⌝ }
+    ensures { λ _. ⌜ now (out .exit) ≡ sets (now (out .entry)) (16 * k) (glyphPlaces g) ⌝ }
 {
     let index = g.index;
     let advance = g.advance;
     let at = 4 * k;
-    out[at] = index_number(index);
-    out[at + 1] = advance_number(advance);
+    wire::put_bits(out, at, index_bits(index));
+    wire::put_bits(out, at + 1, advance_bits(advance));
     let u = g.u;
-    out[at + 2] = u;
+    wire::put_number(out, at + 2, u);
     let v = g.v;
-    out[at + 3] = v;
+    wire::put_number(out, at + 3, v);
 }
 
-// Cluster n's two places, where the entry opens one.
-fn put_cluster(out: &mut [i32], lack: usize, n: usize, a: usize, b: usize)
+// Cluster n's 8 bytes, where the entry opens one.
+fn put_cluster(out: &mut [u8], lack: usize, n: usize, a: usize, b: usize)
     requires { ⌜ (lack ≡ 0 → (a < 2147483648) × (b < 2147483648)) ⌝ }
-    requires room { ⌜ 2 * n + length (flatClusters (openedHere lack a b)) ≤ length (now out) ⌝ }
-    ensures { λ _. ⌜ now (out .exit) ≡ sets (now (out .entry)) (2 * n) (flatClusters (openedHere lack a b)) ⌝ }
+    requires room { ⌜ 8 * n + length (clusterBytes (openedHere lack a b)) ≤ length (now out) ⌝ }
+    ensures { λ _. ⌜ now (out .exit) ≡ sets (now (out .entry)) (8 * n) (clusterBytes (openedHere lack a b)) ⌝ }
 {
     if lack == 0 {
         let at = 2 * n;
-        out[at] = a as i32;
-        out[at + 1] = b as i32;
+        wire::put_bits(out, at, a as u32);
+        wire::put_bits(out, at + 1, b as u32);
     }
 }
 
 // How many units the tail's cluster at unit j has.
-fn tail_units(units: &[u16], j: usize) -> usize
-    requires { ⌜ j ≤ length (now units) ⌝ }
-    ensures { λ r. ⌜ r ≡ cond (isPair (drop j (now (units .entry)))) 2 1 ⌝ }
+fn tail_units(units: &[u8], j: usize) -> usize
+    requires { ⌜ j ≤ length (now units) / 2 ⌝ }
+    ensures { λ r. ⌜ r ≡ cond (isPair (drop j (halves (now (units .entry))))) 2 1 ⌝ }
 {
-    if text_bytes::is_pair_at(units, j) {
-        2
-    } else {
-        1
-    }
+    if units::is_pair_at(units, j) { 2 } else { 1 }
 }
 
 // The tail of these units, from cluster n and glyph k on.
-fn fill_tail(units: &[u16], n: usize, k: usize, clusters: &mut [i32], glyphs: &mut [i32])
-    requires { ⌜ (2 * (n + length (tail (now units) .clusters)) ≤ length (now clusters)) × (4 * (k + length (tail (now units) .glyphs)) ≤ length (now glyphs)) ⌝ }
-    ensures { λ _. ⌜ now (clusters .exit) ≡ sets (now (clusters .entry)) (2 * n) (flatClusters (tail (now (units .entry)) .clusters)) ⌝ }
-    ensures { λ _. ⌜ now (glyphs .exit) ≡ sets (now (glyphs .entry)) (4 * k) (flatGlyphs (tail (now (units .entry)) .glyphs)) ⌝ }
+fn fill_tail(units: &[u8], n: usize, k: usize, clusters: &mut [u8], glyphs: &mut [u8])
+    requires { ⌜ (8 * (n + length (tail (halves (now units)) .clusters)) ≤ length (now clusters)) × (16 * (k + length (tail (halves (now units)) .glyphs)) ≤ length (now glyphs)) ⌝ }
+    ensures { λ _. ⌜ now (clusters .exit) ≡ sets (now (clusters .entry)) (8 * n) (clusterBytes (tail (halves (now (units .entry))) .clusters)) ⌝ }
+    ensures { λ _. ⌜ now (glyphs .exit) ≡ sets (now (glyphs .entry)) (16 * k) (glyphBytes (tail (halves (now (units .entry))) .glyphs)) ⌝ }
 {
+    let count = wire::unit_count(units);
     let mut j = 0;
     let mut c = n;
     let mut g = k;
-    while j < units.len() {
+    while j < count {
         let a = tail_units(units, j);
         put_cluster(clusters, 0, c, a, 1);
         put_glyph(
@@ -118,13 +116,13 @@ fn put_entry(
     count: usize,
     at: label::Cursor,
     x: entry::Item,
-    clusters: &mut [i32],
-    glyphs: &mut [i32],
+    clusters: &mut [u8],
+    glyphs: &mut [u8],
 ) -> label::Cursor
     requires { ⌜ Storable count at x (length (now clusters)) (length (now glyphs)) ⌝ }
     ensures { λ r. ⌜ r ≡ advanced at 0 (takenBy count (at .lack) (x .units)) (x .glyphs) (at .place + x .used + 1) ⌝ }
-    ensures clusters { λ _. ⌜ now (clusters .exit) ≡ sets (now (clusters .entry)) (2 * at .clusters) (flatClusters (openedHere (at .lack) (takenBy count (at .lack) (x .units)) (x .glyphs))) ⌝ }
-    ensures glyphs { λ _. ⌜ now (glyphs .exit) ≡ sets (now (glyphs .entry)) (4 * at .entry) (glyphPlaces (x .glyph)) ⌝ }
+    ensures clusters { λ _. ⌜ now (clusters .exit) ≡ sets (now (clusters .entry)) (8 * at .clusters) (clusterBytes (openedHere (at .lack) (takenBy count (at .lack) (x .units)) (x .glyphs))) ⌝ }
+    ensures glyphs { λ _. ⌜ now (glyphs .exit) ≡ sets (now (glyphs .entry)) (16 * at .entry) (glyphPlaces (x .glyph)) ⌝ }
 {
     let a = taken(count, at.lack, x.units);
     let b = x.glyphs;
@@ -134,37 +132,22 @@ fn put_entry(
     survey::advance(at, 0, a, b, at.place + x.used + 1)
 }
 
-// Where the text's units start: behind `{}`.
-fn units_start(text: &[u8]) -> usize
-    ensures { λ r. ⌜ r ≡ unitsStart (now (text .entry)) ⌝ }
-{
-    if text.len() < 2 {
-        return 0;
-    }
-    if words::both(text[0] == 0x7b, text[1] == 0x7d) {
-        2
-    } else {
-        0
-    }
-}
-
-// The run of an accepted label, whose counts `survey` found.
-pub fn fill(
+// The run of an accepted label of `count` units, which start at a byte of the text.
+fn fill(
     text: &[u8],
+    start: usize,
     indices: &[u8],
-    counts: label::Counts,
-    units: &mut [u16],
-    clusters: &mut [i32],
-    glyphs: &mut [i32],
+    count: usize,
+    units: &mut [u8],
+    clusters: &mut [u8],
+    glyphs: &mut [u8],
 )
-    requires { ⌜ counted (readLabel (now text) (now indices)) ≡ ok counts ⌝ }
-    requires room { ⌜ (counts .units ≤ length (now units)) × (2 * counts .clusters ≤ length (now clusters)) × (4 * counts .glyphs ≤ length (now glyphs)) ⌝ }
+    requires { ⌜ Fillable (now text) start (now indices) count (length (now units)) (length (now clusters)) (length (now glyphs)) ⌝ }
     ensures units { λ _. ⌜ now (units .exit) ≡ unitsAfter (readLabel (now (text .entry)) (now (indices .entry))) (now (units .entry)) ⌝ }
     ensures clusters { λ _. ⌜ now (clusters .exit) ≡ clustersAfter (readLabel (now (text .entry)) (now (indices .entry))) (now (clusters .entry)) ⌝ }
     ensures glyphs { λ _. ⌜ now (glyphs .exit) ≡ glyphsAfter (readLabel (now (text .entry)) (now (indices .entry))) (now (glyphs .entry)) ⌝ }
 {
-    let count = counts.units;
-    text::fill_units(text, units_start(text), units);
+    text::fill_units(text, start, units);
     // This pass stores the clusters and the glyphs and does not look at the text again: the cursor's byte stays 0.
     let mut at = survey::first_cursor(indices, 0);
     while at.place <= indices.len() {
@@ -184,36 +167,47 @@ pub fn fill(
             }
         }
     }
-    let unit = at.unit;
-    fill_tail(&units[unit..count], at.clusters, at.entry, clusters, glyphs);
+    let from = 2 * at.unit;
+    let end = 2 * count;
+    fill_tail(&units[from..end], at.clusters, at.entry, clusters, glyphs);
 }
 
 // The reading of a label: 1 to 18 in order, or its run is stored.
 pub fn read(
     text: &[u8],
     indices: &[u8],
-    units: &mut [u16],
-    clusters: &mut [i32],
-    glyphs: &mut [i32],
+    units: &mut [u8],
+    clusters: &mut [u8],
+    glyphs: &mut [u8],
 ) -> label::Reading
-    ensures result { λ r. ⌜ readingOutcome r ≡ counted (readInto (length (now (units .entry))) (length (now (clusters .entry))) (length (now (glyphs .entry))) (now (text .entry)) (now (indices .entry))) ⌝ }
-    ensures rounded { λ r. ⌜ readingRounded r ≡ beside (roundedIn (now (indices .entry))) (readInto (length (now (units .entry))) (length (now (clusters .entry))) (length (now (glyphs .entry))) (now (text .entry)) (now (indices .entry))) ⌝ }
-    ensures units { λ _. ⌜ now (units .exit) ≡ unitsAfter (readInto (length (now (units .entry))) (length (now (clusters .entry))) (length (now (glyphs .entry))) (now (text .entry)) (now (indices .entry))) (now (units .entry)) ⌝ }
-    ensures clusters { λ _. ⌜ now (clusters .exit) ≡ clustersAfter (readInto (length (now (units .entry))) (length (now (clusters .entry))) (length (now (glyphs .entry))) (now (text .entry)) (now (indices .entry))) (now (clusters .entry)) ⌝ }
-    ensures glyphs { λ _. ⌜ now (glyphs .exit) ≡ glyphsAfter (readInto (length (now (units .entry))) (length (now (clusters .entry))) (length (now (glyphs .entry))) (now (text .entry)) (now (indices .entry))) (now (glyphs .entry)) ⌝ }
+    ensures result { λ r. ⌜ readingOutcome r ≡ counted (readInto (roomOf (now (units .entry)) (now (clusters .entry)) (now (glyphs .entry))) (now (text .entry)) (now (indices .entry))) ⌝ }
+    ensures rounded { λ r. ⌜ readingRounded r ≡ beside (roundedIn (now (indices .entry))) (readInto (roomOf (now (units .entry)) (now (clusters .entry)) (now (glyphs .entry))) (now (text .entry)) (now (indices .entry))) ⌝ }
+    ensures units { λ _. ⌜ now (units .exit) ≡ unitsAfter (readInto (roomOf (now (units .entry)) (now (clusters .entry)) (now (glyphs .entry))) (now (text .entry)) (now (indices .entry))) (now (units .entry)) ⌝ }
+    ensures clusters { λ _. ⌜ now (clusters .exit) ≡ clustersAfter (readInto (roomOf (now (units .entry)) (now (clusters .entry)) (now (glyphs .entry))) (now (text .entry)) (now (indices .entry))) (now (clusters .entry)) ⌝ }
+    ensures glyphs { λ _. ⌜ now (glyphs .exit) ≡ glyphsAfter (readInto (roomOf (now (units .entry)) (now (clusters .entry)) (now (glyphs .entry))) (now (text .entry)) (now (indices .entry))) (now (glyphs .entry)) ⌝ }
 {
-    match survey::survey(text, indices) {
+    let found = survey::survey(text, indices);
+    let reading = found.reading;
+    match reading {
         label::Reading::Read { counts, rounded } => {
-            if units.len() < counts.units {
+            if units.len() / 2 < counts.units {
                 return label::Reading::refused(16, counts.units);
             }
-            if clusters.len() < 2 * counts.clusters {
+            if clusters.len() / 8 < counts.clusters {
                 return label::Reading::refused(17, counts.clusters);
             }
-            if glyphs.len() < 4 * counts.glyphs {
+            if glyphs.len() / 16 < counts.glyphs {
                 return label::Reading::refused(18, counts.glyphs);
             }
-            fill(text, indices, counts, units, clusters, glyphs);
+            fill(
+                text,
+                found.start,
+                indices,
+                counts.units,
+                units,
+                clusters,
+                glyphs,
+            );
             label::Reading::Read { counts, rounded }
         }
         label::Reading::Refused(r) => label::Reading::Refused(r),

@@ -1,47 +1,47 @@
--- The parts of a record, as the code makes them of the numbers at their places, are those of the definitions. Assumes nothing.
-use mathlib.Core.Path.{_≡_, refl}
+-- The parts of a record, as the code makes them of the bits of its numbers, are those of the definitions. Assumes nothing.
+use Rattle.wire.proofs.Tests.{low, high, natural-bits}
+use Rattle.wire.proofs.Signed.{back}
+use Rattle.wire.specs.Numbers.{place}
+use mathlib.Core.Path.{_≡_, _∙_}
 use Prim.Native.Nat.{ℕ, _+_, _*_, _≤_, _<_}
+use native.Mathlib.Omega.{arith}
 use mathlib.Core.Bool.{true, false}
 use mathlib.Core.List.{List}
-use lib.IntN.{ℤ, pos, negsuc}
+use borrow.Author.Tests.{le-leb, lt-leb, ltb-true, ltb-false}
+use lib.Dec.{ltb}
+use lib.IntN.{ℤ}
 use lib.Signed.{mag}
 use mir.Syntax.{w32}
 use mir.Val.{toZ, ofZ}
-use borrow.Author.Tests.{le-leb, lt-leb}
-use Rattle.words.specs.Places.{place}
-use Rattle.words.proofs.Signed.{back}
-use Rattle.label.specs.Sound.{natural, size, numberAdvance}
+use Rattle.label.specs.Sound.{natural, numberAdvance}
+use Rattle.label.specs.Wire.{signed}
 use Rattle.label.specs.declared.Index.{Index}
 use Rattle.label.specs.declared.Index.the-variants.{Named, Font}
 use Rattle.label.specs.declared.Advance.{Advance}
 use Rattle.label.specs.declared.Advance.the-variants.{Given, Own}
 use Rattle.label.specs.declared.Glyph.{Glyph}
-use Rattle.label.proofs.Basics.{clash}
-use Rattle.records.specs.Records.{indexOf, recordOf}
+use Rattle.label.proofs.Basics.{cases}
+use Rattle.records.specs.Records.{recordIndex, recordOf}
 
-pub index-negative : (z : ℤ) → natural z ≡ false → Font ≡ indexOf z
-index-negative (pos n) h = clash true refl h
-index-negative (negsuc n) h = refl
+module _ (n : ℕ) where
+  pub index-named : n ≤ 65535 → Named n ≡ recordIndex (signed n)
+  index-named h = rw (low n (omega arith), le-leb n 65535 h)
 
-pub index-large : (z : ℤ) (n : ℕ) → natural z ≡ true → n ≡ size z → 65535 < n → Font ≡ indexOf z
-index-large (pos m) n h e l = rw (lt-leb m 65535 (rw e at l))
-index-large (negsuc m) n h e l = clash false h refl
+  -- beyond the limit, or negative
+  pub index-font : 65535 < n → Font ≡ recordIndex (signed n)
+  index-font h =
+      cases (ltb n 2147483648) (λ t. rw (low n (ltb-true n 2147483648 t), lt-leb n 65535 h)) (λ t. rw (high n (ltb-false n 2147483648 t)))
 
-pub index-named : (z : ℤ) (n : ℕ) → natural z ≡ true → n ≡ size z → n ≤ 65535 → Named n ≡ indexOf z
-index-named (pos m) n h e l = rw (le-leb m 65535 (rw e at l), e)
-index-named (negsuc m) n h e l = clash false h refl
+  pub advance-given : natural (signed n) ≡ true → Given n ≡ numberAdvance (signed n)
+  advance-given h = rw (low n (ltb-true n 2147483648 (natural-bits n ∙ h)))
 
-pub advance-own : (z : ℤ) → natural z ≡ false → Own ≡ numberAdvance z
-advance-own (pos n) h = clash true refl h
-advance-own (negsuc n) h = refl
-
-pub advance-given : (z : ℤ) (n : ℕ) → natural z ≡ true → n ≡ size z → Given n ≡ numberAdvance z
-advance-given (pos m) n h e = rw e
-advance-given (negsuc m) n h e = clash false h refl
+  pub advance-own : natural (signed n) ≡ false → Own ≡ numberAdvance (signed n)
+  advance-own h = rw (high n (ltb-false n 2147483648 (natural-bits n ∙ h)))
 
 -- an offset is read back from its bits
-pub made : (s : List ℤ) (k : ℕ) (i : Index) (a : Advance) → i ≡ indexOf (place s (k * 4)) → a ≡ numberAdvance (place s (k * 4 + 1))
-    → mag (place s (k * 4 + 2)) < 2147483648 → mag (place s (k * 4 + 3)) < 2147483648
-    → _≡_ {A = Glyph} record { index = i; advance = a; u = toZ w32 (ofZ w32 (place s (k * 4 + 2))); v = toZ w32 (ofZ w32 (place s (k * 4 + 3))) } (recordOf s k)
+pub made : (s : List ℤ) (k : ℕ) (n₀ n₁ n₂ n₃ : ℕ) (i : Index) (a : Advance) (u v : ℤ)
+    → i ≡ recordIndex (signed n₀) → signed n₀ ≡ place s (4 * k) → a ≡ numberAdvance (signed n₁) → signed n₁ ≡ place s (4 * k + 1)
+    → u ≡ signed n₂ → mag u < 2147483648 → signed n₂ ≡ place s (4 * k + 2) → v ≡ signed n₃ → mag v < 2147483648 → signed n₃ ≡ place s (4 * k + 3)
+    → _≡_ {A = Glyph} record { index = i; advance = a; u = toZ w32 (ofZ w32 u); v = toZ w32 (ofZ w32 v) } (recordOf s k)
 unfolding recordOf
-made s k i a p q f g = rw (back (place s (k * 4 + 2)) f, back (place s (k * 4 + 3)) g, p, q)
+made s k n₀ n₁ n₂ n₃ i a u v ei p ea q eu fu r ev fv t = rw (back u fu, back v fv, ei, p, ea, q, eu, r, ev, t)

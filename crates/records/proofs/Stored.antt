@@ -1,4 +1,7 @@
 -- A list of which the first k are the records of the first k glyphs, and the others as they were; and the records of a sound run. Assumes nothing.
+use Rattle.label.proofs.Places.{sound-places}
+use Rattle.label.specs.Wire.{words, halves}
+use Rattle.label.specs.Places.{places}
 use mathlib.Core.Path.{_≡_, refl, sym, ap, _∙_}
 use Prim.Native.Nat.{ℕ, zero, suc, _+_, _*_, _-_, _<_, _≤_}
 use native.Mathlib.Nat.{zero-add, add-zero, add-suc, suc-add, le-of-suc-le-suc, not-suc-le-zero}
@@ -10,23 +13,26 @@ use lib.IntN.{ℤ}
 use lib.ListN.{length, set, drop}
 use Rattle.label.specs.Bytes.{empty}
 use Rattle.label.specs.Limits.{maxThousandths}
-use Rattle.label.specs.Sound.{wholeClusters, wholeGlyphs, clustersOf, glyphsOf, numberIndex, numberAdvance, size, indexFits, advanceFits, glyphFits, fits, runOf, soundRun, sound}
+use Rattle.label.specs.Sound.{wholeClusters, wholeGlyphs, clustersOf, glyphsOf, numberIndex, numberAdvance, size, indexFits, advanceFits, glyphFits}
+use Rattle.label.specs.Sound.{fits, runOf, soundRun, sound}
 use Rattle.label.specs.declared.Cluster.{Cluster}
 use Rattle.label.specs.declared.Glyph.{Glyph}
 use Rattle.label.proofs.Basics.{and-l, and-r}
-use Rattle.label.proofs.Sounds.{sound-parts}
-use Rattle.label.proofs.Walks.{fits-further, fits-opening}
+use Rattle.label.proofs.Sound.{sound-parts}
+use Rattle.label.proofs.Run.{fits-further, fits-opening}
 use Rattle.records.specs.Records.{recordOf, recordsFrom, records}
 
 abbrev pub stored : List ℤ → List Glyph → ℕ → List Glyph
 stored s ys k = records s k ++ drop k ys
 
-next-from : (s : List ℤ) (j k : ℕ) (ys : List Glyph) → k < length ys → set (recordsFrom s j k ++ drop k ys) k (recordOf s (j + k)) ≡ recordsFrom s j (suc k) ++ drop (suc k) ys
+next-from : (s : List ℤ) (j k : ℕ) (ys : List Glyph) → k < length ys
+    → set (recordsFrom s j k ++ drop k ys) k (recordOf s (j + k)) ≡ recordsFrom s j (suc k) ++ drop (suc k) ys
 unfolding recordsFrom
 next-from s j k [] l = absurd (not-suc-le-zero l)
 next-from s j zero (y ∷ ys) l = ap (λ (i : ℕ). recordOf s i ∷ ys) (add-zero j)
 next-from s j (suc k) (y ∷ ys) l =
-    ap (λ (i : ℕ). recordOf s j ∷ set (recordsFrom s (suc j) k ++ drop k ys) k (recordOf s i)) (add-suc j k ∙ sym (suc-add j k)) ∙ ap (λ (r : List Glyph). recordOf s j ∷ r) (next-from s (suc j) k ys (le-of-suc-le-suc l))
+    ap (λ (i : ℕ). recordOf s j ∷ set (recordsFrom s (suc j) k ++ drop k ys) k (recordOf s i)) (add-suc j k ∙ sym (suc-add j k))
+    ∙ ap (λ (r : List Glyph). recordOf s j ∷ r) (next-from s (suc j) k ys (le-of-suc-le-suc l))
 
 -- one more record is stored
 pub next : (s : List ℤ) (ys : List Glyph) (k : ℕ) → k < length ys → set (stored s ys k) k (recordOf s k) ≡ stored s ys (suc k)
@@ -52,10 +58,10 @@ none s ys = refl
 behind : (i a u v : ℤ) (s : List ℤ) (k : ℕ) → recordOf (i ∷ a ∷ u ∷ v ∷ s) (suc k) ≡ recordOf s k
 unfolding recordOf
 behind i a u v s k =
-    let e : suc k * 4 ≡ suc (suc (suc (suc (k * 4)))) = omega arith in
-    let e1 : suc k * 4 + 1 ≡ suc (suc (suc (suc (k * 4 + 1)))) = omega arith in
-    let e2 : suc k * 4 + 2 ≡ suc (suc (suc (suc (k * 4 + 2)))) = omega arith in
-    let e3 : suc k * 4 + 3 ≡ suc (suc (suc (suc (k * 4 + 3)))) = omega arith in
+    let e : 4 * suc k ≡ suc (suc (suc (suc (4 * k)))) = omega arith in
+    let e1 : 4 * suc k + 1 ≡ suc (suc (suc (suc (4 * k + 1)))) = omega arith in
+    let e2 : 4 * suc k + 2 ≡ suc (suc (suc (suc (4 * k + 2)))) = omega arith in
+    let e3 : 4 * suc k + 3 ≡ suc (suc (suc (suc (4 * k + 3)))) = omega arith in
     rw (e1, e2, e3, e)
 
 behind-from : (i a u v : ℤ) (s : List ℤ) (k m : ℕ) → recordsFrom (i ∷ a ∷ u ∷ v ∷ s) (suc k) m ≡ recordsFrom s k m
@@ -85,7 +91,8 @@ more-fit : (i a u v : ℤ) (s : List ℤ) → glyphFits (glyph i a u v) ≡ true
 unfolding glyphsOf recordsFrom
 more-fit i a u v s h e = rw (first-fits i a u v s h, behind-from i a u v s 0 (length (glyphsOf s)), e)
 
-records-fit : (bare : Bool) (lack : ℕ) (us : List ℕ) (cs : List Cluster) (s : List ℤ) → fits bare lack us cs (glyphsOf s) ≡ true → records s (length (glyphsOf s)) ≡ glyphsOf s
+records-fit : (bare : Bool) (lack : ℕ) (us : List ℕ) (cs : List Cluster) (s : List ℤ) → fits bare lack us cs (glyphsOf s) ≡ true
+    → records s (length (glyphsOf s)) ≡ glyphsOf s
 unfolding glyphsOf recordsFrom fits
 records-fit bare lack us cs [] h = refl
 records-fit bare lack us cs (i ∷ []) h = refl
@@ -100,8 +107,7 @@ records-fit bare zero us (c ∷ cs) (i ∷ a ∷ u ∷ v ∷ s) h =
     more-fit i a u v s (f .small) (records-fit bare (c .glyphs - 1) (drop (c .units) us) cs s (f .rest))
 
 -- the records of a sound run are its glyphs
-pub records-sound : (us : List ℕ) (cs gs : List ℤ) → sound us cs gs ≡ true → records gs (length (glyphsOf gs)) ≡ glyphsOf gs
-unfolding sound
+pub records-sound : (us cs gs : List ℕ) → sound (places us cs gs) ≡ true → records (words gs) (length (glyphsOf (words gs))) ≡ glyphsOf (words gs)
 records-sound us cs gs h =
-    let r = runOf us cs gs in
-    records-fit (empty us) 0 us (clustersOf cs) gs (sound-parts r (and-r (wholeClusters cs && wholeGlyphs gs) (soundRun r) h) .fit)
+    let z = places us cs gs in
+    records-fit (empty (halves us)) 0 (halves us) (clustersOf (words cs)) (words gs) (sound-parts (runOf z) (sound-places z h .run-is) .fit)

@@ -1,11 +1,12 @@
 -- What the steps of the listing compute, on any numbers: of a sound run the records are label's `glyphsOf` (law `records-sound`).
 -- Assumes nothing.
+use Rattle.wire.specs.Numbers.{place}
+use Rattle.label.specs.Places.{Places}
 use Prim.Native.Nat.{ℕ, zero, suc, _+_, _*_}
 use mathlib.Core.Bool.{cond}
 use mathlib.Core.List.{List, [], _∷_}
 use lib.IntN.{ℤ}
 use lib.ListN.{length}
-use Rattle.words.specs.Places.{place}
 use Rattle.label.specs.Outcome.{Outcome, ok, no}
 use Rattle.label.specs.Sound.{numberIndex, numberAdvance, indexFits}
 use Rattle.label.specs.Calls.{refusal, listInto}
@@ -16,17 +17,17 @@ use Rattle.label.specs.declared.Filling.the-variants.{Filled, Refused}
 use Rattle.records.specs.declared.Plan.{Plan}
 
 -- the index of a number, where it is one; else the font's
-abbrev pub indexOf : ℤ → Index
-indexOf z = cond (indexFits (numberIndex z)) (numberIndex z) Font
+abbrev pub recordIndex : ℤ → Index
+recordIndex z = cond (indexFits (numberIndex z)) (numberIndex z) Font
 
 -- the record of glyph k: "four a glyph (index or −1 for the font, advance or −1, u, v)"
 unfoldable pub recordOf : List ℤ → ℕ → Glyph
 recordOf s k =
     record {
-      index = indexOf (place s (k * 4));
-      advance = numberAdvance (place s (k * 4 + 1));
-      u = place s (k * 4 + 2);
-      v = place s (k * 4 + 3);
+      index = recordIndex (place s (4 * k));
+      advance = numberAdvance (place s (4 * k + 1));
+      u = place s (4 * k + 2);
+      v = place s (4 * k + 3);
     }
 
 -- the records of m glyphs from glyph k on
@@ -43,6 +44,6 @@ abbrev pub planned : Outcome (List Glyph) → Plan
 planned (ok gs) = record { count = length gs; answer = Filled (length gs) }
 planned (no n p) = record { count = 0; answer = Refused (refusal n p) }
 
--- the same for a run's numbers and a list of `room` records
-unfoldable pub planOf : ℕ → List ℕ → List ℤ → List ℤ → Plan
-planOf room us cs gs = planned (listInto room us cs gs)
+-- the same for a run handed in and a list of `room` records
+unfoldable pub planOf : ℕ → Places → Plan
+planOf room p = planned (listInto room p)

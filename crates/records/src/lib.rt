@@ -1,4 +1,5 @@
 // The glyphs of a sound run as a list of glyph records.
+ghost use Rattle.label.specs.Places.{places};
 use label::Advance;
 use label::Filling;
 use label::Glyph;
@@ -6,22 +7,19 @@ use label::Index;
 use label::Refusal;
 ghost use mathlib.Core.Path.{_≡_};
 ghost use mathlib.Core.List.{_++_};
-ghost use Prim.Native.Nat.{_<_, _≤_, _+_, _*_};
+ghost use Prim.Native.Nat.{_≤_, _<_, _/_};
 ghost use lib.ListN.{length, drop};
-ghost use Rattle.words.specs.Places.{place};
 ghost use Rattle.label.specs.Sound.{numberAdvance};
-ghost use Rattle.label.specs.Calls.{refusal, listInto, fillingOutcome, filledCount, filledAfter};
-ghost use Rattle.records.specs.Records.{indexOf, recordOf, records, planOf};
+ghost use Rattle.label.specs.Calls.{refusal, fillingOutcome, filledCount, filledAfter, listInto};
+ghost use Rattle.label.specs.Wire.{words as wordsOf, signed};
+ghost use Rattle.records.specs.Records.{recordIndex, recordOf, records, planOf};
+
+// ── a record, by the bits of its numbers ──
 
 // A number from 0 to the largest index names an index; any other leaves it to the font.
-fn index_at(glyphs: &[i32], k: usize) -> Index
-    requires { ⌜ k < length (now glyphs) ⌝ }
-    ensures { λ r. ⌜ r ≡ indexOf (place (now (glyphs .entry)) k) ⌝ }
+fn index_of(n: u32) -> Index
+    ensures { λ r. ⌜ r ≡ recordIndex (signed n) ⌝ }
 {
-    if !words::natural_at(glyphs, k) {
-        return Index::Font;
-    }
-    let n = words::size_at(glyphs, k);
     if label::Limits::INDEX < n as u64 {
         return Index::Font;
     }
@@ -29,26 +27,25 @@ fn index_at(glyphs: &[i32], k: usize) -> Index
 }
 
 // A number from 0 on is an advance; a negative one leaves it to the font.
-fn advance_at(glyphs: &[i32], k: usize) -> Advance
-    requires { ⌜ k < length (now glyphs) ⌝ }
-    ensures { λ r. ⌜ r ≡ numberAdvance (place (now (glyphs .entry)) k) ⌝ }
+fn advance_of(n: u32) -> Advance
+    ensures { λ r. ⌜ r ≡ numberAdvance (signed n) ⌝ }
 {
-    if !words::natural_at(glyphs, k) {
-        return Advance::Own;
+    if wire::is_natural(n) {
+        return Advance::Given(n);
     }
-    Advance::Given(words::size_at(glyphs, k))
+    Advance::Own
 }
 
 // The record of glyph k.
-fn glyph_at(glyphs: &[i32], k: usize) -> Glyph
-    requires { ⌜ k * 4 + 3 < length (now glyphs) ⌝ }
-    ensures { λ r. ⌜ r ≡ recordOf (now (glyphs .entry)) k ⌝ }
+fn glyph_at(glyphs: &[u8], k: usize) -> Glyph
+    requires { ⌜ k < length (now glyphs) / 16 ⌝ }
+    ensures { λ r. ⌜ r ≡ recordOf (wordsOf (now (glyphs .entry))) k ⌝ }
 {
-    let i = k * 4;
-    let index = index_at(glyphs, i);
-    let advance = advance_at(glyphs, i + 1);
-    let u = glyphs[i + 2];
-    let v = glyphs[i + 3];
+    let i = 4 * k;
+    let index = index_of(wire::number_at(glyphs, i));
+    let advance = advance_of(wire::number_at(glyphs, i + 1));
+    let u = wire::signed_number(wire::number_at(glyphs, i + 2));
+    let v = wire::signed_number(wire::number_at(glyphs, i + 3));
     Glyph {
         index,
         advance,
@@ -57,10 +54,12 @@ fn glyph_at(glyphs: &[i32], k: usize) -> Glyph
     }
 }
 
+// ── the list ──
+
 // Stores the records of the first n glyphs; the records behind them stay.
-fn fill(out: &mut [Glyph], glyphs: &[i32], n: usize)
-    requires { ⌜ (n ≤ length (now out)) × (n * 4 ≤ length (now glyphs)) ⌝ }
-    ensures { λ _. ⌜ now (out .exit) ≡ records (now (glyphs .entry)) n ++ drop n (now (out .entry)) ⌝ }
+fn fill(out: &mut [Glyph], glyphs: &[u8], n: usize)
+    requires { ⌜ (n ≤ length (now out)) × (n ≤ length (now glyphs) / 16) ⌝ }
+    ensures { λ _. ⌜ now (out .exit) ≡ records (wordsOf (now (glyphs .entry))) n ++ drop n (now (out .entry)) ⌝ }
 {
     let mut k = 0;
     while k < n {
@@ -86,13 +85,13 @@ fn refuses(number: usize, place: usize) -> Plan
 }
 
 // Decides the listing of a run's glyphs into a list of `room` records.
-fn decide(units: &[u16], clusters: &[i32], glyphs: &[i32], room: usize) -> Plan
-    ensures { λ r. ⌜ r ≡ planOf room (now (units .entry)) (now (clusters .entry)) (now (glyphs .entry)) ⌝ }
+fn decide(units: &[u8], clusters: &[u8], glyphs: &[u8], room: usize) -> Plan
+    ensures { λ r. ⌜ r ≡ planOf room (places (now (units .entry)) (now (clusters .entry)) (now (glyphs .entry))) ⌝ }
 {
     if !sound::is_sound(units, clusters, glyphs) {
         return refuses(19, 0);
     }
-    let n = glyphs.len() / 4;
+    let n = glyphs.len() / 16;
     if room < n {
         return refuses(18, n);
     }
@@ -103,9 +102,9 @@ fn decide(units: &[u16], clusters: &[i32], glyphs: &[i32], room: usize) -> Plan
 }
 
 // Lists the glyphs of a run in `out`: 19 where the run is not sound, 18 where `out` is too short. The records behind stay, and a refusal changes none.
-pub fn list_records(units: &[u16], clusters: &[i32], glyphs: &[i32], out: &mut [Glyph]) -> Filling
-    ensures result { λ r. ⌜ fillingOutcome r ≡ filledCount (listInto (length (now (out .entry))) (now (units .entry)) (now (clusters .entry)) (now (glyphs .entry))) ⌝ }
-    ensures records { λ r. ⌜ now (out .exit) ≡ filledAfter (listInto (length (now (out .entry))) (now (units .entry)) (now (clusters .entry)) (now (glyphs .entry))) (now (out .entry)) ⌝ }
+pub fn list_records(units: &[u8], clusters: &[u8], glyphs: &[u8], out: &mut [Glyph]) -> Filling
+    ensures result { λ r. ⌜ fillingOutcome r ≡ filledCount (listInto (length (now (out .entry))) (places (now (units .entry)) (now (clusters .entry)) (now (glyphs .entry)))) ⌝ }
+    ensures records { λ r. ⌜ now (out .exit) ≡ filledAfter (listInto (length (now (out .entry))) (places (now (units .entry)) (now (clusters .entry)) (now (glyphs .entry)))) (now (out .entry)) ⌝ }
 {
     let plan = decide(units, clusters, glyphs, out.len());
     fill(out, glyphs, plan.count);
@@ -119,9 +118,9 @@ pub struct Four {
 }
 
 // The same with four records that are passed by value and handed back.
-pub fn list_four(units: &[u16], clusters: &[i32], glyphs: &[i32], records: [Glyph; 4]) -> Four
-    ensures result { λ r. ⌜ fillingOutcome (r .answer) ≡ filledCount (listInto 4 (now (units .entry)) (now (clusters .entry)) (now (glyphs .entry))) ⌝ }
-    ensures records { λ r. ⌜ r .records ≡ filledAfter (listInto 4 (now (units .entry)) (now (clusters .entry)) (now (glyphs .entry))) records ⌝ }
+pub fn list_four(units: &[u8], clusters: &[u8], glyphs: &[u8], records: [Glyph; 4]) -> Four
+    ensures result { λ r. ⌜ fillingOutcome (r .answer) ≡ filledCount (listInto 4 (places (now (units .entry)) (now (clusters .entry)) (now (glyphs .entry)))) ⌝ }
+    ensures records { λ r. ⌜ r .records ≡ filledAfter (listInto 4 (places (now (units .entry)) (now (clusters .entry)) (now (glyphs .entry)))) records ⌝ }
 {
     let mut out = records;
     let answer = list_records(units, clusters, glyphs, &mut out);

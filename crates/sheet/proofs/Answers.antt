@@ -1,23 +1,25 @@
--- The answer to a label, by what the survey of it says; the loops that store the answers; the calls.
+-- The answer to a label, by what the survey of it says; the loop that stores the answers; the call.
 -- Assumes nothing.
-use Prim.Native.Nat.{ℕ, _+_, _-_, _/_, _≤_, _<_}
+use Rattle.label.proofs.Steps.{file-steps}
+use Prim.Native.Nat.{ℕ, _+_, _-_, _*_, _/_, _≤_, _<_}
 use native.Mathlib.Omega.{arith}
 use mathlib.Core.Bool.{true, false, _&&_}
 use mathlib.Core.Path.{_≡_, refl, sym, ap, subst, _∙_}
 use mathlib.Core.List.{List, [], _∷_, _++_}
 use lib.IntN.{ℤ, pos}
 use lib.Signed.{mag}
-use lib.ListN.{length, drop, set, drop-of-length-le}
+use lib.ListN.{length, drop, drop-of-length-le}
 use mir.Syntax.{w32}
 use mir.Facts.{toZ-pos}
 use mir.Val.{ofZ, toZ}
 use Rattle.label.specs.Outcome.{Outcome, ok, no}
 use Rattle.label.specs.Bytes.{begins}
-use Rattle.label.specs.Run.{Run, read}
+use Rattle.label.specs.Run.{Run}
+use Rattle.label.specs.Checks.{read}
+use Rattle.label.specs.Wire.{bitsOf, fourBytes, fromWords}
 use Rattle.label.specs.Write.{Label}
-use Rattle.label.specs.Calls.{readingOutcome, counts, counted, fillingOutcome, filledCount, filledAfter}
-use Rattle.label.specs.Wire.{bitsOf, fourBytes, fromWords, numberBytesAfter}
-use Rattle.label.specs.Sheet.{header, isRecord, recordLabel, labelsFrom, labelsOf, answerOf, answer, answers, sheetInto, sheetIntoBytes}
+use Rattle.label.specs.Calls.{readingOutcome, fillingOutcome, filledCount, counts, counted, numbersAfter}
+use Rattle.label.specs.Requests.Sheet.{header, isRecord, recordLabel, labelsOf, labelsFrom, answerOf, answer, answers, sheetInto}
 use Rattle.label.specs.declared.Counts.{Counts}
 use Rattle.label.specs.declared.Refusal.{Refusal}
 use Rattle.label.specs.declared.Filling.{Filling}
@@ -25,15 +27,14 @@ use Rattle.label.specs.declared.Filling.the-variants as F
 use Rattle.label.specs.declared.Reading.{Reading}
 use Rattle.label.specs.declared.Reading.the-variants.{Read, Refused}
 use Rattle.label.proofs.Basics.{and-l, and-r, no-ok, need-ok, bind-ok}
-use Rattle.label.proofs.Walks.{ok-path}
-use Rattle.label.proofs.Wires.{in32, all32, in32-below, length-words}
-use Rattle.label.proofs.Answering.{into-labels, labels-into, answer-32}
-use Rattle.label.proofs.Sheets.{labels-none, labels-cut, length-answers}
-use Rattle.label.proofs.Places.{Placed, refused, read-placed}
-use Rattle.words.specs.Words.{putInt}
-use Rattle.words.proofs.Signed.{back}
+use Rattle.label.proofs.Run.{ok-path}
+use Rattle.label.proofs.Wire.{in32, all32, in32-below, length-words}
+use Rattle.label.proofs.Statements.Sheet.{into-labels, labels-into, answer-32}
+use Rattle.label.proofs.Requests.Sheet.{labels-none, labels-cut, length-answers}
+use Rattle.label.proofs.Refusals.{Placed, refused, read-placed}
+use Rattle.words.specs.Puts.{puts}
 use Rattle.words.proofs.Puts.{Left, left-start, left-next, left-as, left-end, put-room}
-use Rattle.words.proofs.Packs.{put-int, Laid, laid-start, laid-next, laid-end}
+use Rattle.wire.proofs.Signed.{back}
 use Rattle.sheet.specs.Records.{labelIn, Accepted}
 use Rattle.sheet.specs.declared.Record.{Record}
 use Rattle.sheet.proofs.Records.{Stands, header-inside, some-left, labels-next}
@@ -92,8 +93,7 @@ pub record Rest (file : List ℕ) (at : ℕ) : Type 0 where
 module _ (file : List ℕ) where
   module _ {room : ℕ} (g : Accepted file room) where
     from-start : (begins header file ≡ true) × (labelsFrom 0 0 (drop 5 file) ≡ ok (g .labels))
-    unfolding labelsOf
-    from-start = need-ok (begins header file) 25 0 (labelsFrom 0 0 (drop 5 file)) (g .labels) (g .are)
+    from-start = need-ok (begins header file) 25 0 (labelsFrom 0 0 (drop 5 file)) (g .labels) (sym (file-steps file) ∙ g .are)
 
     rest-start : (f : Rest file 5) × (f .rest ≡ g .labels)
     rest-start =
@@ -127,57 +127,21 @@ module _ (file : List ℕ) {at : ℕ} (f : Rest file at) (h : at < length file) 
   two-more : {n p : ℤ} → (n ∷ p ∷ []) ≡ answer (labelIn file x) → answers (f .rest) ≡ n ∷ p ∷ answers (behind .rest)
   two-more a = answers-next (rest-next file f h w .1) a
 
--- ── stored as numbers ──
+-- ── the answers stored ──
 
 -- the answers of the labels before a place are stored, k numbers
-pub record Stored (file : List ℕ) (old new : List ℤ) (k at : ℕ) : Type 0 where
-  pub whole : Accepted file (length old)
-  pub left : Rest file at
-  pub laid : Laid old (answers (whole .labels)) new k (answers (left .rest))
-
-module _ (file : List ℕ) {old : List ℤ} where
-  pub stored-start : Accepted file (length old) → Stored file old old 0 5
-  stored-start g =
-      let (f, e) = rest-start file g in
-      record { whole = g; left = f; laid = rw e laid-start }
-
-  module _ {new : List ℤ} {k at : ℕ} (s : Stored file old new k at) where
-    module _ (h : at < length file) {x : Record} (w : Stands file at x) {n p : ℤ} (a : (n ∷ p ∷ []) ≡ answer (labelIn file x)) where
-      more : answers (s .left .rest) ≡ n ∷ p ∷ answers (behind file (s .left) h w .rest)
-      more = two-more file (s .left) h w a
-
-      pub stored-next : Stored file old (set (set new k n) (k + 1) p) (k + 2) (x .end)
-      stored-next =
-          let e : k + 2 ≡ k + 1 + 1 = omega arith in
-          record {
-            whole = s .whole;
-            left = behind file (s .left) h w;
-            laid = rw e (laid-next p (answers (behind file (s .left) h w .rest)) (laid-next n (p ∷ answers (behind file (s .left) h w .rest)) (s .laid) more) refl);
-          }
-
-      pub two-places : k + 1 < length new
-      two-places = omega (arith, s .laid .count, s .laid .same, ap length more, length-answers (s .whole .labels), s .whole .room-for)
-
-    pub stored-end : length file ≤ at → new ≡ filledAfter (sheetInto (length old) file) old
-    stored-end h =
-        let e : answers (s .left .rest) ≡ [] = rw (rest-end file (s .left) h) (unfold answers in refl) in
-        rw (into file (s .whole)) (laid-end (s .laid) e (omega (arith, length-answers (s .whole .labels), s .whole .room-for)))
-
--- ── stored as bytes ──
-
--- the same as bytes, k of them
-pub record StoredBytes (file old new : List ℕ) (k at : ℕ) : Type 0 where
+pub record Stored (file old new : List ℕ) (k at : ℕ) : Type 0 where
   pub whole : Accepted file (length old / 4)
   pub left : Rest file at
-  pub laid : Left old (fromWords (answers (whole .labels))) new 0 k (fromWords (answers (left .rest)))
+  pub laid : Left old (fromWords (answers (whole .labels))) new 0 (4 * k) (fromWords (answers (left .rest)))
 
 module _ (file : List ℕ) {old : List ℕ} where
-  pub bytes-start : Accepted file (length old / 4) → StoredBytes file old old 0 5
-  bytes-start g =
+  pub stored-start : Accepted file (length old / 4) → Stored file old old 0 5
+  stored-start g =
       let (f, e) = rest-start file g in
       record { whole = g; left = f; laid = rw e left-start }
 
-  module _ {new : List ℕ} {k at : ℕ} (s : StoredBytes file old new k at) where
+  module _ {new : List ℕ} {k at : ℕ} (s : Stored file old new k at) where
     few : length (fromWords (answers (s .whole .labels))) ≤ length old
     few = omega (arith, length-words (answers (s .whole .labels)), length-answers (s .whole .labels), s .whole .room-for)
 
@@ -186,26 +150,25 @@ module _ (file : List ℕ) {old : List ℕ} where
       unfolding fromWords
       eight-more = rw (two-more file (s .left) h w a)
 
-      pub bytes-next : StoredBytes file old (putInt (putInt new k n) (k + 4) p) (k + 8) (x .end)
-      bytes-next =
-          let e : k + 8 ≡ k + 4 + 4 = omega arith in
-          let (d, f) = answer-small (labelIn file x) a in
+      pub two-places : k + 1 < length new / 4
+      two-places = omega (arith, few, s .laid .count, s .laid .same, ap length eight-more)
+
+      pub stored-next : {m l : List ℕ} → m ≡ puts new (4 * k) (fourBytes (bitsOf n)) → l ≡ puts m (4 * (k + 1)) (fourBytes (bitsOf p)) → Stored file old l (k + 2) (x .end)
+      stored-next e f =
+          let i : 4 * (k + 1) ≡ 4 * k + 4 = omega arith in
+          let j : 4 * (k + 2) ≡ 4 * (k + 1) + 4 = omega arith in
           record {
             whole = s .whole;
             left = behind file (s .left) h w;
-            laid = rw e (left-next (left-next (left-as eight-more (s .laid)) (put-int new k n d)) (put-int (putInt new k n) (k + 4) p f));
+            laid = left-next (left-next (left-as eight-more (s .laid)) (record { behind = i; is = e })) (record { behind = j; is = f });
           }
 
-      pub eight-places : k + 7 < length new
-      eight-places = omega (arith, few, s .laid .count, s .laid .same, ap length eight-more)
-
-    pub bytes-end : length file ≤ at → new ≡ numberBytesAfter (sheetIntoBytes (length old) file) old
-    unfolding sheetIntoBytes
-    bytes-end h =
+    pub stored-end : length file ≤ at → new ≡ numbersAfter (sheetInto (length old / 4) file) old
+    stored-end h =
         let e : fromWords (answers (s .left .rest)) ≡ [] = rw (rest-end file (s .left) h) (unfold answers fromWords in refl) in
         rw (into file (s .whole)) (put-room (left-end (left-as e (s .laid))) few)
 
--- ── the calls ──
+-- ── the call ──
 
 was-filled : {A : Type 0} (o : Outcome (List A)) (n : ℕ) → ok n ≡ filledCount o → (vs : List A) × (o ≡ ok vs)
 was-filled (ok vs) n e = (vs, refl)
@@ -227,7 +190,7 @@ module _ (room : ℕ) (file : List ℕ) {r : Filling} (j : fillingOutcome r ≡ 
         let (ls, q, t, _) = into-labels room file vs p in
         record { labels = ls; are = q; room-for = t }
 
-  -- a refusal leaves the list, and its bytes
+  -- a refusal leaves the list
   module _ {x : Refusal} (e : r ≡ F.Refused x) where
     pub tells-no : no (x .number) (x .place) ≡ filledCount (sheetInto room file)
     tells-no = ap fillingOutcome (sym e) ∙ j

@@ -1,5 +1,6 @@
 -- A record at a place of a sheet's file, and the count of the records.
 -- Assumes nothing.
+use Rattle.label.proofs.Steps.{sheet-steps, file-steps}
 use Prim.Native.Nat.{ℕ, _+_, _-_, _*_, _/_, _≤_, _<_}
 use native.Mathlib.Omega.{arith}
 use native.Mathlib.Nat.{add-zero}
@@ -11,16 +12,16 @@ use borrow.Author.Tests.{leb-true, le-leb, lt-leb}
 use lib.Dec.{leb, eqb}
 use lib.ListN.{length, drop, length-drop, drop-of-length-le}
 use lib.Seq.{getD-drop, drop-drop}
-use Rattle.label.specs.Outcome.{Outcome, ok, no, need, _>>=_, _>>_}
+use Rattle.label.specs.Outcome.{Outcome, ok, no, _>>=_, _>>_, need}
 use Rattle.label.specs.Bytes.{ascii, begins}
+use Rattle.label.specs.Wire.{fromHalves}
 use Rattle.label.specs.Write.{Label}
 use Rattle.label.specs.Calls.{refusal, fillingOutcome, filledCount}
-use Rattle.label.specs.Wire.{fromHalves}
-use Rattle.label.specs.Sheet.{header, textLength, indicesLength, recordLength, isRecord, recordLabel, labelsFrom, labelsOf, answers, sheetInto}
+use Rattle.label.specs.Requests.Sheet.{header, textLength, indicesLength, recordLength, isRecord, recordLabel, labelsOf, labelsFrom, answers, sheetInto}
 use Rattle.label.specs.declared.Filling.{Filling}
 use Rattle.label.specs.declared.Filling.the-variants.{Refused}
 use Rattle.label.proofs.Basics.{and-r, cases, clash}
-use Rattle.label.proofs.Sheets.{labels-none, labels-cut, labels-whole, length-answers}
+use Rattle.label.proofs.Requests.Sheet.{labels-none, labels-cut, labels-whole, length-answers}
 use Rattle.words.specs.Words.{halfAt, wordAt}
 use Rattle.sheet.specs.Records.{recordAt, labelIn}
 use Rattle.sheet.specs.declared.Record.{Record}
@@ -195,13 +196,11 @@ fitted-is room (ok ls) = cases (leb (2 * length ls) room) (λ t. rw t (ap ok (le
 -- the file's labels are counted
 sheet-counts : (room : ℕ) (file : List ℕ) {o : Outcome ℕ} → begins header file ≡ true → filledCount (labelsFrom 0 0 (drop 5 file)) ≡ o
     → (o >>= fitted room) ≡ filledCount (sheetInto room file)
-unfolding sheetInto labelsOf
-sheet-counts room file h e = rw h (sym (fitted-is room (labelsFrom 0 0 (drop 5 file)) ∙ ap (λ (o : Outcome ℕ). o >>= fitted room) e))
+sheet-counts room file h e = rw (sheet-steps room file, file-steps file, h) (sym (fitted-is room (labelsFrom 0 0 (drop 5 file)) ∙ ap (λ (o : Outcome ℕ). o >>= fitted room) e))
 
 module _ (room : ℕ) (file : List ℕ) where
   pub judged-25 : {r : Filling} → r ≡ Refused (refusal 25 0) → begins header file ≡ false → fillingOutcome r ≡ filledCount (sheetInto room file)
-  unfolding sheetInto labelsOf
-  judged-25 e h = rw (e, h)
+  judged-25 e h = rw (e, sheet-steps room file, file-steps file, h)
 
   module _ {n at : ℕ} (h : begins header file ≡ true) (f : Counted file n at) where
     pub judged-26 : {r : Filling} → r ≡ Refused (refusal 26 n) → at < length file → isRecord (drop at file) ≡ false → fillingOutcome r ≡ filledCount (sheetInto room file)

@@ -7,7 +7,7 @@ use mathlib.Core.List.{List}
 use lib.ListN.{length, take, drop}
 use Rattle.label.specs.Outcome.{ok}
 use Rattle.label.specs.Write.{Label}
-use Rattle.label.specs.Sheet.{textLength, recordLength, isRecord, labelsOf}
+use Rattle.label.specs.Requests.Sheet.{textLength, recordLength, isRecord, labelsOf}
 use Rattle.sheet.specs.declared.Record.{Record}
 use Rattle.sheet.specs.declared.Found.{Found}
 use Rattle.sheet.specs.declared.Found.the-variants.{Whole, Cut}

@@ -3,9 +3,8 @@ ghost use mathlib.Core.Path.{_≡_};
 ghost use mathlib.Core.List.{[], _∷_};
 ghost use Prim.Native.Nat.{_/_, _≤_};
 ghost use lib.ListN.{length};
-ghost use Rattle.label.specs.Calls.{fillingOutcome, filledCount, filledAfter};
-ghost use Rattle.label.specs.Wire.{numberBytesAfter};
-ghost use Rattle.label.specs.Sheet.{answer as answerTo, sheetInto, sheetIntoBytes};
+ghost use Rattle.label.specs.Calls.{fillingOutcome, filledCount, numbersAfter};
+ghost use Rattle.label.specs.Requests.Sheet.{answer as answerTo, sheetInto};
 ghost use Rattle.sheet.specs.Records.{recordAt, labelIn, Accepted};
 use label::Filling;
 
@@ -88,22 +87,25 @@ fn answer_to(file: &[u8], x: Record) -> Answer
     let text = x.text;
     let indices = x.indices;
     let end = x.end;
-    match survey::survey(&file[text..indices], &file[indices..end]) {
+    let found = survey::survey(&file[text..indices], &file[indices..end]);
+    let reading = found.reading;
+    match reading {
         label::Reading::Read { .. } => Answer {
             number: 0,
             place: 0,
         },
-        label::Reading::Refused(r) => Answer {
-            number: r.number as i32,
-            place: r.place as i32,
-        },
+        label::Reading::Refused(r) => {
+            let number = r.number as i32;
+            let place = r.place as i32;
+            Answer { number, place }
+        }
     }
 }
 
-// Stores the answers to all labels, from the start of the list on.
-fn put_answers(file: &[u8], answers: &mut [i32])
-    requires { ⌜ Accepted (now file) (length (now answers)) ⌝ }
-    ensures { λ _. ⌜ now (answers .exit) ≡ filledAfter (sheetInto (length (now (answers .entry))) (now (file .entry))) (now (answers .entry)) ⌝ }
+// Stores the answers to all labels, two numbers each, from the start of the list on.
+fn put_answers(file: &[u8], answers: &mut [u8])
+    requires { ⌜ Accepted (now file) (length (now answers) / 4) ⌝ }
+    ensures { λ _. ⌜ now (answers .exit) ≡ numbersAfter (sheetInto (length (now (answers .entry)) / 4) (now (file .entry))) (now (answers .entry)) ⌝ }
 {
     let mut k = 0;
     let mut at = FIRST;
@@ -111,10 +113,8 @@ fn put_answers(file: &[u8], answers: &mut [i32])
         match record_at(file, at) {
             Found::Whole(x) => {
                 let a = answer_to(file, x);
-                let number = a.number;
-                let place = a.place;
-                answers[k] = number;
-                answers[k + 1] = place;
+                wire::put_number(answers, k, a.number);
+                wire::put_number(answers, k + 1, a.place);
                 k += 2;
                 at = x.end;
             }
@@ -126,53 +126,16 @@ fn put_answers(file: &[u8], answers: &mut [i32])
     }
 }
 
-// The same as bytes: a number is 4.
-fn put_answer_bytes(file: &[u8], answers: &mut [u8])
-    requires { ⌜ Accepted (now file) (length (now answers) / 4) ⌝ }
-    ensures { λ _. ⌜ now (answers .exit) ≡ numberBytesAfter (sheetIntoBytes (length (now (answers .entry))) (now (file .entry))) (now (answers .entry)) ⌝ }
-{
-    let mut k = 0;
-    let mut at = FIRST;
-    while at < file.len() {
-        match record_at(file, at) {
-            Found::Whole(x) => {
-                let a = answer_to(file, x);
-                words::put_i32(answers, k, a.number);
-                words::put_i32(answers, k + 4, a.place);
-                k += 8;
-                at = x.end;
-            }
-            Found::Cut => {
-                return;
-            }
-        }
-    }
-}
+// ── the call ──
 
-// ── the calls ──
-
-// The answers to the labels of a sheet's file, two numbers each, where none of 25 to 27 holds.
-pub fn read_sheet(file: &[u8], answers: &mut [i32]) -> Filling
-    ensures result { λ r. ⌜ fillingOutcome r ≡ filledCount (sheetInto (length (now (answers .entry))) (now (file .entry))) ⌝ }
-    ensures answers { λ _. ⌜ now (answers .exit) ≡ filledAfter (sheetInto (length (now (answers .entry))) (now (file .entry))) (now (answers .entry)) ⌝ }
+// The answers to the labels of a sheet's file as bytes, two numbers each, where none of 25 to 27 holds.
+pub fn read_sheet(file: &[u8], answers: &mut [u8]) -> Filling
+    ensures result { λ r. ⌜ fillingOutcome r ≡ filledCount (sheetInto (length (now (answers .entry)) / 4) (now (file .entry))) ⌝ }
+    ensures answers { λ _. ⌜ now (answers .exit) ≡ numbersAfter (sheetInto (length (now (answers .entry)) / 4) (now (file .entry))) (now (answers .entry)) ⌝ }
 {
-    match judge(file, answers.len()) {
+    match judge(file, wire::number_count(answers)) {
         Filling::Filled(n) => {
             put_answers(file, answers);
-            Filling::Filled(n)
-        }
-        Filling::Refused(x) => Filling::Refused(x),
-    }
-}
-
-// The same with an answer list of bytes: a number is 4, two's complement, low byte first.
-pub fn read_sheet_bytes(file: &[u8], answers: &mut [u8]) -> Filling
-    ensures result { λ r. ⌜ fillingOutcome r ≡ filledCount (sheetIntoBytes (length (now (answers .entry))) (now (file .entry))) ⌝ }
-    ensures answers { λ _. ⌜ now (answers .exit) ≡ numberBytesAfter (sheetIntoBytes (length (now (answers .entry))) (now (file .entry))) (now (answers .entry)) ⌝ }
-{
-    match judge(file, answers.len() / 4) {
-        Filling::Filled(n) => {
-            put_answer_bytes(file, answers);
             Filling::Filled(n)
         }
         Filling::Refused(x) => Filling::Refused(x),

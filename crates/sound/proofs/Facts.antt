@@ -1,5 +1,12 @@
 -- What soundness says of a run's three lists: the limits, and that the clusters' counts add up.
 -- Assumes nothing.
+use Rattle.label.specs.Limits.{maxUnits, maxGlyphs}
+use Rattle.label.specs.Wire.{halves, words}
+use Rattle.label.specs.Places.{places}
+use Rattle.label.specs.Sound.{wholeClusters, wholeGlyphs, clustersOf, glyphsOf, soundRun, runOf, sound}
+use Rattle.label.specs.Pick.{turned}
+use Rattle.label.specs.Statements.Demands.{unitCounts, glyphCounts}
+use Rattle.label.proofs.Places.{sound-places}
 use mathlib.Core.Path.{_≡_, refl, sym, _∙_, ap}
 use mathlib.Core.Bool.{true, _&&_}
 use mathlib.Core.List.{List, [], _∷_}
@@ -8,14 +15,10 @@ use native.Mathlib.Nat.{zero-add}
 use native.Mathlib.Omega.{arith}
 use lib.IntN.{ℤ}
 use lib.ListN.{length}
-use Rattle.label.specs.Limits.{maxUnits, maxGlyphs}
-use Rattle.label.specs.Pick.{turned}
-use Rattle.label.specs.Sound.{wholeClusters, wholeGlyphs, clustersOf, glyphsOf, soundRun, runOf, sound}
 use Rattle.label.specs.declared.Cluster.{Cluster}
 use Rattle.label.proofs.Basics.{and-r}
-use Rattle.label.specs.Demands.{unitCounts, glyphCounts}
 use Rattle.label.proofs.Parts.{sum, fits-units, fits-glyphs, turned-units}
-use Rattle.label.proofs.Sounds.{SoundRun, sound-parts}
+use Rattle.label.proofs.Sound.{SoundRun, sound-parts}
 use Rattle.sound.specs.Sounds.{unitSum}
 use Rattle.sound.proofs.Parts.{glyph-count}
 
@@ -26,24 +29,23 @@ unit-sum (c ∷ cs) = rw (unit-sum cs)
 
 -- ── a sound run ──
 
-module _ (us : List ℕ) (cs gs : List ℤ) (h : sound us cs gs ≡ true) where
-  parts : SoundRun (runOf us cs gs)
-  unfolding sound
-  parts = sound-parts (runOf us cs gs) (and-r (wholeClusters cs && wholeGlyphs gs) (soundRun (runOf us cs gs)) h)
+module _ (us cs gs : List ℕ) (h : sound (places us cs gs) ≡ true) where
+  parts : SoundRun (runOf (places us cs gs))
+  parts = sound-parts (runOf (places us cs gs)) (sound-places (places us cs gs) h .run-is)
 
-  pub few-units : length us ≤ maxUnits
+  pub few-units : length (halves us) ≤ maxUnits
   few-units = parts .few-units
 
-  pub few-glyphs : length (glyphsOf gs) ≤ maxGlyphs
+  pub few-glyphs : length (glyphsOf (words gs)) ≤ maxGlyphs
   few-glyphs = parts .few-glyphs
 
-  pub few-numbers : length gs ≤ 4 * maxGlyphs + 3
-  few-numbers = let f = few-glyphs in omega (arith, glyph-count gs)
+  pub few-numbers : length (words gs) ≤ 4 * maxGlyphs + 3
+  few-numbers = let f = few-glyphs in omega (arith, glyph-count (words gs))
 
-  pub units-add-up : unitSum (clustersOf cs) ≡ length us
-  units-add-up = unit-sum (clustersOf cs) ∙ fits-units (glyphsOf gs) _ (clustersOf cs) us 0 (parts .fit)
+  pub units-add-up : unitSum (clustersOf (words cs)) ≡ length (halves us)
+  units-add-up = unit-sum (clustersOf (words cs)) ∙ fits-units (glyphsOf (words gs)) _ (clustersOf (words cs)) (halves us) 0 (parts .fit)
 
-  pub glyphs-add-up : unitSum (turned (clustersOf cs)) ≡ length (glyphsOf gs)
+  pub glyphs-add-up : unitSum (turned (clustersOf (words cs))) ≡ length (glyphsOf (words gs))
   glyphs-add-up =
-      unit-sum (turned (clustersOf cs)) ∙ ap sum (turned-units (clustersOf cs)) ∙ sym (zero-add (sum (glyphCounts (clustersOf cs))))
-      ∙ fits-glyphs (glyphsOf gs) _ (clustersOf cs) us 0 (parts .fit)
+      unit-sum (turned (clustersOf (words cs))) ∙ ap sum (turned-units (clustersOf (words cs))) ∙ sym (zero-add (sum (glyphCounts (clustersOf (words cs)))))
+      ∙ fits-glyphs (glyphsOf (words gs)) _ (clustersOf (words cs)) (halves us) 0 (parts .fit)

@@ -1,4 +1,4 @@
 pub mod Parts
-pub mod Fonts
+pub mod Tests
 pub mod Sounds
 pub mod Facts

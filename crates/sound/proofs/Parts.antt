@@ -11,7 +11,7 @@ use lib.IntN.{ℤ, pos}
 use lib.ListN.{length, drop, length-drop}
 use Rattle.label.specs.Sound.{natural, choice, wholeClusters, wholeGlyphs, clustersOf, glyphsOf}
 use Rattle.label.proofs.Basics.{cases}
-use Rattle.words.specs.Places.{clusterAt, glyphAt, place}
+use Rattle.wire.specs.Numbers.{clusterAt, glyphAt, glyphOf, place}
 use Rattle.words.proofs.Places.{none-at, two-at, four-at}
 
 pub glyph-count : (l : List ℤ) → length (glyphsOf l) ≡ length l / 4
@@ -56,7 +56,7 @@ module _ (s : List ℤ) (k : ℕ) where
   left = length-drop k s
 
   pub glyphs-at : 4 ≤ length s - k → glyphsOf (drop k s) ≡ glyphAt s k ∷ glyphsOf (drop (k + 4) s)
-  unfolding glyphsOf glyphAt
+  unfolding glyphsOf glyphAt glyphOf
   glyphs-at h = rw (four-at s (pos 0) k h)
 
   pub glyphs-end : length s - k < 4 → glyphsOf (drop k s) ≡ []

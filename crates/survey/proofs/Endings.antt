@@ -1,5 +1,6 @@
 -- The tail behind the entries, and the counts of the run.
 -- Assumes nothing.
+use Rattle.label.proofs.Steps.{run-steps}
 use Prim.Native.Nat.{ℕ, suc, _+_, _≤_, _<_}
 use native.Mathlib.Omega.{arith}
 use native.Mathlib.Nat.{zero-add}
@@ -8,23 +9,23 @@ use mathlib.Core.Bool.{Bool, true, false, _&&_}
 use mathlib.Core.List.{List, []}
 use lib.Dec.{eqb, leb}
 use lib.ListN.{length, drop, length-append}
-use Rattle.label.specs.Outcome.{Outcome, ok, no, need, _>>=_, _>>_}
+use Rattle.label.specs.Outcome.{Outcome, ok, no, _>>=_, _>>_, need}
 use Rattle.label.specs.Bytes.{empty}
-use Rattle.label.specs.Text.{decode}
 use Rattle.label.specs.Entry.{entries}
-use Rattle.label.specs.Run.{Run, Parts, start, walk, tail, runFrom}
+use Rattle.label.specs.Run.{Run, Parts, tail, startState}
+use Rattle.label.specs.Steps.{decode, walk, runFrom}
 use Rattle.label.specs.Calls.{refusal, readingOutcome, counted}
 use Rattle.label.specs.declared.Cursor.{Cursor}
 use Rattle.label.specs.declared.Reading.{Reading}
 use Rattle.label.specs.declared.Reading.the-variants.{Refused}
 use Rattle.label.proofs.Tails.{tail-nil, tail-even, tail-few, tail-char}
-use Rattle.label.proofs.Walks.{ok-path}
+use Rattle.label.proofs.Run.{ok-path}
 use Rattle.label.proofs.Cursors.{joined, decode-end}
 use Rattle.utf8.specs.Chars.{charAt}
 use Rattle.text.specs.Moves.{unitsFrom}
 use Rattle.utf8.specs.declared.Char.the-variants.{Good}
 use Rattle.text.proofs.Moves.{Here, here-good}
-use Rattle.survey.specs.Steps.{limited, countedFrom}
+use Rattle.survey.specs.Steps.{countsWithin, countedFrom}
 use Rattle.survey.proofs.Entries.{empty-eqb}
 use Rattle.survey.proofs.Walking.{Stands, Ready, At, units-here, ends-shut}
 
@@ -62,7 +63,7 @@ pub refused-outcome : (r : Reading) (n p : ℕ) → r ≡ Refused (refusal n p) 
 refused-outcome r n p h = rw h
 
 -- the counts with a tail of n clusters: it has as many glyphs
-pub tail-counted : (us : List ℕ) (n u c g : ℕ) → n ≡ length (tail us .clusters) → limited u (c + n) (g + n) ≡ countedFrom u c g (ok (tail us))
+pub tail-counted : (us : List ℕ) (n u c g : ℕ) → n ≡ length (tail us .clusters) → countsWithin u (c + n) (g + n) ≡ countedFrom u c g (ok (tail us))
 unfolding countedFrom
 tail-counted us n u c g e = rw (e, tail-even us)
 
@@ -76,9 +77,9 @@ module _ (us s : List ℕ) where
   abbrev runWith : Parts → Run
   runWith p = record { units = us; clusters = p .clusters; glyphs = p .glyphs }
 
-  run-counted : (empty us && empty s) ≡ false → counted (runFrom us s) ≡ countedFrom (length us) 0 0 (walk (empty us) (start us) (entries s))
-  unfolding runFrom countedFrom
-  run-counted h = rw h (go (walk (empty us) (start us) (entries s)))
+  run-counted : (empty us && empty s) ≡ false → counted (runFrom us s) ≡ countedFrom (length us) 0 0 (walk (empty us) (startState us) (entries s))
+  unfolding countedFrom
+  run-counted h = rw (run-steps us s, h) (go (walk (empty us) (startState us) (entries s)))
     where
       pick : (b : Bool) (p : Parts) → counted (need b 15 0 >> ok (runWith p)) ≡ (need b 15 0 >> ok (record { units = length us; clusters = length (p .clusters); glyphs = length (p .glyphs) }))
       pick true p = refl
@@ -92,10 +93,9 @@ module _ (us s : List ℕ) where
   nothing-is b n e h = rw (e, h, empty-eqb us, empty-eqb s)
 
   pub run-nothing : (r : Reading) → r ≡ Refused (refusal 6 0) → (empty us && empty s) ≡ true → readingOutcome r ≡ counted (runFrom us s)
-  unfolding runFrom
-  run-nothing r q h = rw (q, h)
+  run-nothing r q h = rw (q, run-steps us s, h)
 
-  pub run-stop : (n p : ℕ) → (empty us && empty s) ≡ false → walk (empty us) (start us) (entries s) ≡ no n p → no n p ≡ counted (runFrom us s)
+  pub run-stop : (n p : ℕ) → (empty us && empty s) ≡ false → walk (empty us) (startState us) (entries s) ≡ no n p → no n p ≡ counted (runFrom us s)
   run-stop n p h w = sym (run-counted h ∙ ap (countedFrom (length us) 0 0) w ∙ unfold countedFrom in refl)
 
   pub run-tail : (n : ℕ) → n ≡ length us → (pre : Parts) (lack : ℕ) (c : Cursor) (text : List ℕ) → Stands us s pre lack c → Ready us s c → At text us c

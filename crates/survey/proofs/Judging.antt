@@ -1,5 +1,6 @@
 -- From the text to its units, and 1 to 15 in order.
 -- Assumes nothing.
+use Rattle.label.proofs.Steps.{read-steps}
 use Prim.Native.Nat.{ℕ, _≤_, _<_}
 use mathlib.Core.Path.{_≡_, refl, sym, _∙_, ap, subst}
 use mathlib.Core.Bool.{true, false, and-false}
@@ -8,14 +9,12 @@ use borrow.Author.Tests.{le-leb, lt-leb, leb-true}
 use lib.Dec.{leb}
 use lib.ListN.{length, drop}
 use Rattle.label.specs.Outcome.{Outcome, ok, no, _>>=_}
-use Rattle.label.specs.Text.{decode, textUnits}
-use Rattle.label.specs.Run.{runFrom, read}
+use Rattle.label.specs.Checks.{read}
+use Rattle.label.specs.Steps.{decode, textUnits, runFrom}
 use Rattle.label.specs.Calls.{refusal, readingOutcome, counted}
 use Rattle.label.specs.declared.Refusal.{Refusal}
-use Rattle.label.specs.declared.Reading.{Reading}
-use Rattle.label.specs.declared.Reading.the-variants.{Refused}
 use Rattle.label.proofs.Basics.{clash}
-use Rattle.label.proofs.Sounds.{text-ok}
+use Rattle.label.proofs.Sound.{text-ok}
 use Rattle.text.specs.Moves.{unitsFrom}
 use Rattle.text.specs.Texts.{unitsStart, unitsRead, textRead}
 use Rattle.text.specs.declared.TextUnits.{TextUnits}
@@ -32,6 +31,7 @@ pub record TextHas (t : List ℕ) (n at : ℕ) : Type 0 where
   pub decodes : decode 0 at (drop at t) ≡ ok (unitsFrom t at)
   pub count : n ≡ length (unitsFrom t at)
   pub few : n ≤ 4096
+  pub start : at ≡ unitsStart t
 
 pub text-has : (t us : List ℕ) → textUnits t ≡ ok us → TextHas t (length us) (unitsStart t)
 text-has t us h =
@@ -42,6 +42,7 @@ text-has t us h =
       decodes = d ∙ ap ok (sym e);
       count = ap length (sym e);
       few = leb-true (length us) 4096 (text-ok t us h .fifth);
+      start = refl;
     }
 
 pub text-units : (t : List ℕ) (r : TextRead) (u : TextUnits) → r ≡ textRead t → r ≡ Units u → TextHas t (u .count) (u .start)
@@ -58,18 +59,15 @@ text-units t r u e h = go (textUnits t) refl (sym e ∙ h)
 -- ── 1 to 15 ──
 
 module _ (t s : List ℕ) where
-  pub text-long : (r : Reading) → r ≡ Refused (refusal 1 0) → 16384 < length t → readingOutcome r ≡ counted (read t s)
-  unfolding read
-  text-long r e h = rw (e, lt-leb (length t) 16384 h)
+  pub text-long : 16384 < length t → no 1 0 ≡ counted (read t s)
+  text-long h = rw (read-steps t s, lt-leb (length t) 16384 h)
 
-  pub indices-long : (r : Reading) → r ≡ Refused (refusal 1 0) → 262144 < length s → readingOutcome r ≡ counted (read t s)
-  unfolding read
-  indices-long r e h = rw (e, lt-leb (length s) 262144 h, and-false (leb (length t) 16384))
+  pub indices-long : 262144 < length s → no 1 0 ≡ counted (read t s)
+  indices-long h = rw (read-steps t s, lt-leb (length s) 262144 h, and-false (leb (length t) 16384))
 
   module _ (ht : length t ≤ 16384) (hs : length s ≤ 262144) where
     read-text : read t s ≡ (textUnits t >>= (λ us. runFrom us s))
-    unfolding read
-    read-text = rw (le-leb (length t) 16384 ht, le-leb (length s) 262144 hs)
+    read-text = read-steps t s ∙ rw (le-leb (length t) 16384 ht, le-leb (length s) 262144 hs)
 
     pub read-units : (n at : ℕ) → TextHas t n at → counted (runFrom (unitsFrom t at) s) ≡ counted (read t s)
     read-units n at x = sym (ap counted (read-text ∙ ap (λ (o : Outcome (List ℕ)). o >>= (λ us. runFrom us s)) (x .is)))

@@ -1,5 +1,6 @@
 -- One entry's checks 10 to 13 at a cursor, and with its map's counts cut.
 -- Assumes nothing.
+use Rattle.label.proofs.Steps.{placed-steps}
 use Prim.Native.Nat.{ℕ, _+_, _≤_, _<_, min}
 use native.Mathlib.Omega.{arith}
 use mathlib.Core.Path.{_≡_, refl, sym, ap, subst}
@@ -8,16 +9,16 @@ use mathlib.Core.List.{List}
 use borrow.Author.Tests.{le-leb, lt-leb, leb-true, leb-false}
 use lib.Dec.{eqb, leb, leb·zero}
 use lib.ListN.{length, drop}
-use Rattle.label.specs.Outcome.{Outcome, ok, no, need, _>>_}
-use Rattle.label.specs.Text.{decode}
+use Rattle.label.specs.Outcome.{Outcome, ok, no, _>>_, need}
 use Rattle.label.specs.Entry.{Entry}
-use Rattle.label.specs.Run.{State, named, placed, whole}
+use Rattle.label.specs.Run.{named, whole, State}
+use Rattle.label.specs.Steps.{decode, placed}
 use Rattle.label.specs.Calls.{refusal}
 use Rattle.label.specs.declared.Cursor.{Cursor}
 use Rattle.label.specs.declared.Refusal.{Refusal}
 use Rattle.label.proofs.Basics.{and-l, and-r, cases, clash}
-use Rattle.label.proofs.Texts.{proper-first}
-use Rattle.label.proofs.Sounds.{decode-proper}
+use Rattle.label.proofs.Text.{proper-first}
+use Rattle.label.proofs.Sound.{decode-proper}
 use Rattle.text.specs.Moves.{unitsFrom, Moves}
 use Rattle.text.specs.declared.Moved.{Moved}
 use Rattle.text.specs.declared.Moved.the-variants.{To, Past, Half}
@@ -28,7 +29,7 @@ use Rattle.entry.specs.declared.Item.{Item}
 use Rattle.entry.specs.declared.EntryRead.the-variants.{Read, Refused}
 use Rattle.survey.specs.declared.Turn.{Turn}
 use Rattle.survey.specs.declared.Turn.the-variants.{Took, Stopped}
-use Rattle.survey.specs.Steps.{itemEntry, advanced, Opens, Turns, Carries}
+use Rattle.survey.specs.Steps.{itemEntry, advanced, Opens, Turns, Carries, stateAt}
 
 -- ── 12 and 13, by a move over the text ──
 
@@ -71,17 +72,17 @@ module _ (bare : Bool) (text : List ℕ) (c : Cursor) (x : Item) where
   plain = not (x .mapped) && named (x .glyph .index)
 
   pub turn-ten : (r : Turn) → r ≡ Stopped (refusal 10 (c .entry)) → enough ≡ false → Turns bare text c x r
-  unfolding Turns placed
-  turn-ten r q h = rw (q, h)
+  unfolding Turns
+  turn-ten r q h = rw (q, placed-steps bare (stateAt text c) (itemEntry x), h)
 
   pub turn-eleven : (r : Turn) → r ≡ Stopped (refusal 11 (c .entry)) → enough ≡ true → (free || plain) ≡ false → Turns bare text c x r
-  unfolding Turns placed
-  turn-eleven r q h f = rw (q, h, f)
+  unfolding Turns
+  turn-eleven r q h f = rw (q, placed-steps bare (stateAt text c) (itemEntry x), h, f)
 
   pub turn-opens : (r : Turn) → Opens text c (x .units) (x .glyphs) (c .place + x .used + 1) r → enough ≡ true → free ≡ true → Turns bare text c x r
-  unfolding Turns Opens placed
-  turn-opens (Took d k) o h f = rw (h, f) (rw (o .0, o .1), o .2, o .3)
-  turn-opens (Stopped r) o h f = rw (h, f) (go (leb (x .units) (length (unitsFrom text (c .byte)))) (whole (x .units) (unitsFrom text (c .byte))) o)
+  unfolding Turns Opens
+  turn-opens (Took d k) o h f = rw (placed-steps bare (stateAt text c) (itemEntry x), h, f) (rw (o .0, o .1), o .2, o .3)
+  turn-opens (Stopped r) o h f = rw (placed-steps bare (stateAt text c) (itemEntry x), h, f) (go (leb (x .units) (length (unitsFrom text (c .byte)))) (whole (x .units) (unitsFrom text (c .byte))) o)
     where
       go : (p q : Bool) → (need p 12 (c .entry) >> need q 13 (c .unit + x .units)) ≡ no (r .number) (r .place)
           → (need p 12 (c .entry) >> (need q 13 (c .unit + x .units) >> ok (itemEntry x))) ≡ no (r .number) (r .place)
@@ -91,12 +92,11 @@ module _ (bare : Bool) (text : List ℕ) (c : Cursor) (x : Item) where
 
   pub turn-further : (d : Cursor) (n : ℕ) → d ≡ advanced c (c .byte) 0 (x .glyphs) (c .place + x .used + 1) → decode 0 (c .byte) (drop (c .byte) text) ≡ ok (unitsFrom text (c .byte))
       → enough ≡ true → (free || plain) ≡ true → free ≡ false → Turns bare text c x (Took d n)
-  unfolding Turns placed advanced
+  unfolding Turns advanced
   turn-further d n q k h o f =
       let y : d .byte ≡ c .byte = ap (λ (z : Cursor). z .byte) q in
-      let w : whole 0 (unitsFrom text (c .byte)) ≡ true = proper-first (unitsFrom text (c .byte)) (decode-proper (drop (c .byte) text) 0 (c .byte) (unitsFrom text (c .byte)) k) in
       let p : plain ≡ true = rw f at o in
-      rw (h, f, p) (rw (leb·zero (length (unitsFrom text (c .byte))), w), subst (λ (k : ℕ). d ≡ advanced c k 0 (x .glyphs) (c .place + x .used + 1)) (sym y) q, rw y k)
+      rw (placed-steps bare (stateAt text c) (itemEntry x), h, f, p) (refl, subst (λ (k : ℕ). d ≡ advanced c k 0 (x .glyphs) (c .place + x .used + 1)) (sym y) q, rw y k)
 
 -- an entry that was not taken brings nothing along
 pub stopped-carries : (r : Turn) (x : Refusal) (n : ℕ) → r ≡ Stopped x → Carries n r
@@ -145,24 +145,49 @@ over e (no n p) = no n p
 
 -- cut counts change no check
 pub placed-cut : (bare : Bool) (st : State) (n r : ℕ) (e : Entry) → length (st .rest) ≤ 4096 → placed bare st e ≡ over e (placed bare st (itemEntry (cutItem n r e)))
-unfolding placed
 placed-cut bare st n r e few =
-    rw (one-cut (e .units), one-cut (e .glyphs))
+    rw (placed-steps bare st e, placed-steps bare st (itemEntry (cutItem n r e)), one-cut (e .units), one-cut (e .glyphs))
     (cases (eqb (st .lack) 0 && not bare)
     (λ t. rw t (cases (leb (e .units) (length (st .rest)))
-    (λ u. let l : e .units ≤ length (st .rest) = leb-true (e .units) (length (st .rest)) u in
+    (λ u.
+    let l : e .units ≤ length (st .rest) = leb-true (e .units) (length (st .rest)) u in
     let m : min (e .units) cap ≡ e .units = omega arith in
-    rw m (go (leb 1 (e .units) && leb 1 (e .glyphs)) true (leb (e .units) (length (st .rest))) (whole (e .units) (st .rest)) (st .k) (st .at + e .units) (record { mapped = e .mapped; units = e .units; glyphs = min (e .glyphs) cap; glyph = e .glyph })))
-    (λ u. let l : length (st .rest) < e .units = leb-false (e .units) (length (st .rest)) u in
+    rw m (asked (leb (e .units) (length (st .rest))) (whole (e .units) (st .rest)) (st .at + e .units)
+    (record { mapped = e .mapped; units = e .units; glyphs = min (e .glyphs) cap; glyph = e .glyph })))
+    (λ u.
+    let l : length (st .rest) < e .units = leb-false (e .units) (length (st .rest)) u in
     let m : leb (min (e .units) cap) (length (st .rest)) ≡ false = lt-leb (min (e .units) cap) (length (st .rest)) (omega arith) in
-    rw (m, u) (go (leb 1 (e .units) && leb 1 (e .glyphs)) true false true (st .k) 0 (itemEntry (cutItem n r e))))))
-    (λ t. rw t (go (leb 1 (e .units) && leb 1 (e .glyphs)) (not (e .mapped) && named (e .glyph .index)) (leb 0 (length (st .rest))) (whole 0 (st .rest)) (st .k) (st .at + 0) (itemEntry (cutItem n r e)))))
+    rw (m, u) (past enough true (ok e) (ok e)))))
+    (λ t. rw t (unasked enough (not (e .mapped) && named (e .glyph .index)) 0 0 (itemEntry (cutItem n r e)))))
   where
-    go : (t10 t11 t12 t13 : Bool) (k p : ℕ) (y : Entry)
-        → (need t10 10 k >> (need t11 11 k >> (need t12 12 k >> (need t13 13 p >> ok e))))
-        ≡ over e (need t10 10 k >> (need t11 11 k >> (need t12 12 k >> (need t13 13 p >> ok y))))
-    go true true true true k p y = refl
-    go true true true false k p y = refl
-    go true true false t13 k p y = refl
-    go true false t12 t13 k p y = refl
-    go false t11 t12 t13 k p y = refl
+    enough : Bool
+    enough = leb 1 (e .units) && leb 1 (e .glyphs)
+
+    -- the counts are as they were
+    asked : (t12 t13 : Bool) (p : ℕ) (y : Entry)
+        → (need enough 10 (st .k) >> (need true 11 (st .k) >> (need t12 12 (st .k) >> (need t13 13 p >> ok e))))
+        ≡ over e (need enough 10 (st .k) >> (need true 11 (st .k) >> (need t12 12 (st .k) >> (need t13 13 p >> ok y))))
+    asked t12 t13 p y = go enough t12 t13
+      where
+        go : (t10 a b : Bool) → (need t10 10 (st .k) >> (need true 11 (st .k) >> (need a 12 (st .k) >> (need b 13 p >> ok e))))
+            ≡ over e (need t10 10 (st .k) >> (need true 11 (st .k) >> (need a 12 (st .k) >> (need b 13 p >> ok y))))
+        go true true true = refl
+        go true true false = refl
+        go true false b = refl
+        go false a b = refl
+
+    -- both pass the end
+    past : (t10 t11 : Bool) (x y : Outcome Entry)
+        → (need t10 10 (st .k) >> (need t11 11 (st .k) >> (need false 12 (st .k) >> x)))
+        ≡ over e (need t10 10 (st .k) >> (need t11 11 (st .k) >> (need false 12 (st .k) >> y)))
+    past true true x y = refl
+    past true false x y = refl
+    past false t11 x y = refl
+
+    -- 12 and 13 are not asked
+    unasked : (t10 t11 : Bool) (p q : ℕ) (y : Entry)
+        → (need t10 10 (st .k) >> (need t11 11 (st .k) >> (need true 12 (st .k) >> (need true 13 p >> ok e))))
+        ≡ over e (need t10 10 (st .k) >> (need t11 11 (st .k) >> (need true 12 (st .k) >> (need true 13 q >> ok y))))
+    unasked true true p q y = refl
+    unasked true false p q y = refl
+    unasked false t11 p q y = refl

@@ -1,5 +1,6 @@
 -- The first pass: where it stands, and how many fields were rounded so far and in all.
 -- Assumes nothing.
+use Rattle.text.specs.Texts.{unitsStart}
 use Prim.Native.Nat.{ℕ, _+_, _≤_, _<_}
 use native.Mathlib.Omega.{arith}
 use native.Mathlib.Nat.{zero-add, add-zero, add-assoc}
@@ -10,20 +11,22 @@ use lib.Dec.{eqb}
 use lib.ListN.{length, drop}
 use Rattle.label.specs.Outcome.{Outcome, ok, no}
 use Rattle.label.specs.Bytes.{empty}
-use Rattle.label.specs.Run.{Run, Parts, read}
-use Rattle.label.specs.Rounded.{roundedEntry, roundedEntries, rounded, beside}
-use Rattle.label.specs.Calls.{readingOutcome, readingRounded, counted}
+use Rattle.label.specs.Run.{Run, Parts}
+use Rattle.label.specs.Checks.{read}
+use Rattle.label.specs.Calls.{readingOutcome, readingRounded, counts, counted}
+use Rattle.label.specs.Requests.RoundedCount.{roundedEntry, roundedEntries, rounded, beside}
 use Rattle.label.specs.declared.Cursor.{Cursor}
 use Rattle.label.specs.declared.Reading.{Reading}
-use Rattle.label.specs.declared.Reading.the-variants.{Refused}
+use Rattle.label.specs.declared.Reading.the-variants.{Read, Refused}
 use Rattle.label.specs.declared.Refusal.{Refusal}
+use Rattle.label.proofs.Basics.{no-ok}
 use Rattle.label.proofs.Cursors.{joined, added}
-use Rattle.label.proofs.Rounded.{rounded-few}
+use Rattle.label.proofs.Requests.RoundedCount.{rounded-few}
 use Rattle.entry.specs.Items.{here}
 use Rattle.entry.specs.declared.Item.{Item}
 use Rattle.survey.specs.declared.Turn.{Turn}
 use Rattle.survey.specs.declared.Turn.the-variants.{Took}
-use Rattle.survey.specs.Steps.{firstCursor, Steps}
+use Rattle.survey.specs.Steps.{firstCursor, Steps, Starts}
 use Rattle.survey.proofs.Entries.{leftFrom, left-is, left-none, left-all}
 use Rattle.survey.proofs.Walking.{stateOf, Stands, Ready, At, Turned, code-took}
 
@@ -62,7 +65,7 @@ rounding-end s place n r hi = sym (add-zero n) ∙ sym (ap (λ (ss : List (List 
 -- ── the first pass ──
 
 -- the walk stands at c, and n fields were rounded before it; the label is not empty
-pub record Surveyed (text us s : List ℕ) (c : Cursor) (n : ℕ) : Type 0 where
+pub record Underway (text us s : List ℕ) (c : Cursor) (n : ℕ) : Type 0 where
   pub pre : Parts
   pub lack : ℕ
   pub stands : Stands us s pre lack c
@@ -72,8 +75,8 @@ pub record Surveyed (text us s : List ℕ) (c : Cursor) (n : ℕ) : Type 0 where
   pub rounds : Rounding s (c .place) n
 
 -- one entry more, in a text of m units
-pub surveyed-on : (text us s : List ℕ) (c : Cursor) (n : ℕ) → Surveyed text us s c n → c .place ≤ length s → (m : ℕ) → m ≡ length us
-    → (r : Turn) → Steps (eqb m 0) text s c r → (d : Cursor) (k : ℕ) → r ≡ Took d k → Surveyed text us s d (n + k) × (c .place < d .place)
+pub surveyed-on : (text us s : List ℕ) (c : Cursor) (n : ℕ) → Underway text us s c n → c .place ≤ length s → (m : ℕ) → m ≡ length us
+    → (r : Turn) → Steps (eqb m 0) text s c r → (d : Cursor) (k : ℕ) → r ≡ Took d k → Underway text us s d (n + k) × (c .place < d .place)
 surveyed-on text us s c n l hi m em r h d k e =
     let (x, w, a, q) = code-took text us s (l .pre) (l .lack) c (l .stands) (l .ready) (l .at) hi m em r h d k e in (
       record {
@@ -94,11 +97,25 @@ surveyed-on text us s c n l hi m em r h d k e =
 pub none-rounded : (r : Reading) (x : Refusal) (n : ℕ) → r ≡ Refused x → readingRounded r ≡ beside n (readingOutcome r)
 none-rounded r x n e = rw e
 
--- the answer for a label, and the count beside it
-pub beside-run : (t s : List ℕ) (r : Reading) → readingOutcome r ≡ counted (read t s) → readingRounded r ≡ beside (rounded s) (readingOutcome r)
-    → (readingOutcome r ≡ counted (read t s)) × (readingRounded r ≡ beside (rounded s) (read t s))
-beside-run t s r e h = (e, h ∙ ap (beside (rounded s)) e ∙ go (read t s))
+-- the three clauses of a survey: its answer, how many fields were rounded, and where the units start
+abbrev Surveys : List ℕ → List ℕ → Reading → ℕ → Type 0
+Surveys t s r at = (readingOutcome r ≡ counted (read t s)) × ((readingRounded r ≡ beside (rounded s) (read t s)) × Starts t r at)
+
+pub refuses : (t s : List ℕ) {r : Reading} (at : ℕ) {x : Refusal} → r ≡ Refused x → no (x .number) (x .place) ≡ counted (read t s) → Surveys t s r at
+refuses t s at {x} e h = rw e (h, (go (read t s) h, tt))
+  where
+    go : (o : Outcome Run) → no (x .number) (x .place) ≡ counted o → 0 ≡ beside (rounded s) o
+    go (ok y) q = no-ok (x .number) (x .place) (counts y) q
+    go (no i p) q = refl
+
+pub judges : (t s : List ℕ) (r : Reading) {at : ℕ} → readingOutcome r ≡ counted (read t s) → readingRounded r ≡ beside (rounded s) (readingOutcome r) → at ≡ unitsStart t
+    → Surveys t s r at
+judges t s r {at} e h a = (e, (h ∙ ap (beside (rounded s)) e ∙ go (read t s), starts r))
   where
     go : (o : Outcome Run) → beside (rounded s) (counted o) ≡ beside (rounded s) o
     go (ok x) = refl
     go (no i p) = refl
+
+    starts : (q : Reading) → Starts t q at
+    starts (Read c n) = a
+    starts (Refused x) = tt

@@ -1,5 +1,14 @@
 -- The walk over the entries: where it stands, one entry more, its end.
 -- Assumes nothing.
+use Rattle.label.proofs.Steps.{walk-end}
+use Rattle.label.specs.Outcome.{Outcome, ok, no, _>>_, need}
+use Rattle.label.specs.Bytes.{empty}
+use Rattle.label.specs.Entry.{Entry, entries}
+use Rattle.label.specs.Run.{Parts, tail, State, startState, opens, takes, next}
+use Rattle.label.specs.Checks.{placeChecks}
+use Rattle.label.specs.Steps.{decode, entry, placed, step, walk}
+use Rattle.label.specs.Sound.{glyphFits}
+use Rattle.label.specs.Requests.RoundedCount.{roundedEntry}
 use Prim.Native.Nat.{ℕ, _+_, _-_, _≤_, _<_, min}
 use native.Mathlib.Omega.{arith}
 use native.Mathlib.Nat.{min-eq-left}
@@ -11,18 +20,11 @@ use borrow.Author.Tests.{eq-eqb, ne-eqb, leb-true, eqb-true, eqb-false}
 use lib.Dec.{eqb, leb}
 use lib.ListN.{length, take, drop, length-append, length-drop}
 use lib.Seq.{drop-drop}
-use Rattle.label.specs.Outcome.{Outcome, ok, no, need, _>>_}
-use Rattle.label.specs.Bytes.{empty}
-use Rattle.label.specs.Text.{decode}
-use Rattle.label.specs.Entry.{Entry, entry, entries}
-use Rattle.label.specs.Rounded.{roundedEntry}
-use Rattle.label.specs.Run.{Parts, State, start, opens, takes, placed, step, next, walk, tail}
-use Rattle.label.specs.Sound.{glyphFits}
 use Rattle.label.specs.declared.Cursor.{Cursor}
 use Rattle.label.specs.declared.Refusal.{Refusal}
 use Rattle.label.proofs.Basics.{cases, and-r}
-use Rattle.label.proofs.Walks.{Stepped, step-ok}
-use Rattle.label.proofs.Sounds.{entry-facts}
+use Rattle.label.proofs.Run.{Stepped, step-ok}
+use Rattle.label.proofs.Sound.{entry-facts}
 use Rattle.label.proofs.Cursors.{joined, after, added, walk-good, walk-bad, part-rest}
 use Rattle.text.specs.Moves.{unitsFrom}
 use Rattle.number.specs.Digits.{cap, digitsFrom}
@@ -50,10 +52,6 @@ pub after-after : (p q : Parts) (o : Outcome Parts) → after p (after q o) ≡ 
 after-after p q (ok r) = rw (append-assoc (p .clusters) (q .clusters) (r .clusters), append-assoc (p .glyphs) (q .glyphs) (r .glyphs))
 after-after p q (no n m) = refl
 
-pub walk-end : (bare : Bool) (st : State) → walk bare st [] ≡ (need (opens st) 14 (st .opener) >> ok (tail (st .rest)))
-unfolding walk
-walk-end bare st = refl
-
 -- ── where the walk stands ──
 
 -- the cursor in the place of label's state, in a text of the units us, where the open cluster lacks `lack` glyphs
@@ -63,7 +61,7 @@ stateOf us c lack = record { k = c .entry; at = c .unit; rest = drop (c .unit) u
 -- `pre` was read. What the open cluster lacks is label's count, which the code holds cut: both lead to the same entry, or to one past every label's last.
 pub record Stands (us s : List ℕ) (pre : Parts) (lack : ℕ) (c : Cursor) : Type 0 where
   pub near : min (c .entry + lack) cap ≡ min (c .entry + c .lack) cap
-  pub so-far : walk (empty us) (start us) (entries s) ≡ after pre (walk (empty us) (stateOf us c lack) (leftFrom s (c .place)))
+  pub so-far : walk (empty us) (startState us) (entries s) ≡ after pre (walk (empty us) (stateOf us c lack) (leftFrom s (c .place)))
   pub clusters-are : length (pre .clusters) ≡ c .clusters
   pub glyphs-are : length (pre .glyphs) ≡ c .entry
 
@@ -86,7 +84,7 @@ module _ (us s : List ℕ) (b : ℕ) (c : Cursor) (ec : c ≡ firstCursor s b) w
       subst (Stands us s nothing 0) (sym ec)
       (record {
         near = refl;
-        so-far = rw (← left-all s) (after-none (walk (empty us) (start us) (entries s)));
+        so-far = rw (← left-all s) (after-none (walk (empty us) (startState us) (entries s)));
         clusters-are = refl;
         glyphs-are = refl;
       })
@@ -116,7 +114,7 @@ near-less k l m p q e =
     rw (a, b) e
 
 step-lack : (bare : Bool) (us s : List ℕ) (c : Cursor) (lack lack′ : ℕ) → eqb lack 0 ≡ eqb lack′ 0 → step bare (stateOf us c lack) s ≡ step bare (stateOf us c lack′) s
-unfolding step placed
+unfolding step placed placeChecks
 step-lack bare us s c lack lack′ h = rw h
 
 -- ── one entry more ──
@@ -275,7 +273,7 @@ further-on text us c d n b i at q h =
     h ∙ ap (λ (r : List ℕ). ok (drop n r)) (units-here text us c at) ∙ ap ok (drop-drop n (c .unit) us) ∙ ap (λ (k : ℕ). ok (drop k us)) (sym e)
 
 pub refusing : (us s : List ℕ) (pre : Parts) (lack : ℕ) (c : Cursor) → Stands us s pre lack c → c .place ≤ length s → (n p : ℕ)
-    → step (empty us) (stateOf us c lack) (here (drop (c .place) s)) ≡ no n p → walk (empty us) (start us) (entries s) ≡ no n p
+    → step (empty us) (stateOf us c lack) (here (drop (c .place) s)) ≡ no n p → walk (empty us) (startState us) (entries s) ≡ no n p
 refusing us s pre lack c st hi n p q =
     let head = here (drop (c .place) s) in
     st .so-far
@@ -321,11 +319,11 @@ module _ (text us s : List ℕ) (pre : Parts) (lack : ℕ) (c : Cursor) (st : St
       (turned us s pre lack c st rd hi e q (d .byte) d x n ex u ed, further-on text us c d n (x .glyphs) (c .place + x .used + 1) at (t .1) (t .2))
 
   turn-stopped : (x : Item) (r : Refusal) → entryAt s c ≡ Read x → Turns (empty us) text c x (Stopped r)
-      → walk (empty us) (start us) (entries s) ≡ no (r .number) (r .place)
+      → walk (empty us) (startState us) (entries s) ≡ no (r .number) (r .place)
   unfolding Turns
   turn-stopped x r h t = let (e, ex, q) = step-read x h (no (r .number) (r .place)) t in refusing us s pre lack c st hi (r .number) (r .place) q
 
-  turn-unread : (r : Refusal) → entryAt s c ≡ Refused r → walk (empty us) (start us) (entries s) ≡ no (r .number) (r .place)
+  turn-unread : (r : Refusal) → entryAt s c ≡ Refused r → walk (empty us) (startState us) (entries s) ≡ no (r .number) (r .place)
   turn-unread r h =
       refusing us s pre lack c st hi (r .number) (r .place)
       (step-no (empty us) (stateOf us c lack) head (r .number) (r .place) (refused-is (length head) (roundedEntry head) (entry (c .entry) head) r h))
@@ -340,11 +338,11 @@ module _ (text us s : List ℕ) (pre : Parts) (lack : ℕ) (c : Cursor) (st : St
     unfolding Steps
     code-took d k e = let (x, i, t, q) = subst (Steps (empty us) text s c) e steps-here in let w = turn-took x d k i t in (x, w .0, w .1, q)
 
-    pub code-stopped : (q : Refusal) → r ≡ Stopped q → walk (empty us) (start us) (entries s) ≡ no (q .number) (q .place)
+    pub code-stopped : (q : Refusal) → r ≡ Stopped q → walk (empty us) (startState us) (entries s) ≡ no (q .number) (q .place)
     unfolding Steps
     code-stopped q e = let (o, i, t) = subst (Steps (empty us) text s c) e steps-here in go o i t
       where
-        go : (o : EntryRead) → entryAt s c ≡ o → Stops (empty us) text c q o → walk (empty us) (start us) (entries s) ≡ no (q .number) (q .place)
+        go : (o : EntryRead) → entryAt s c ≡ o → Stops (empty us) text c q o → walk (empty us) (startState us) (entries s) ≡ no (q .number) (q .place)
         go (Read x) i t = turn-stopped x q i t
         go (Refused p) i t = turn-unread q (i ∙ ap Refused t)
 
@@ -383,10 +381,8 @@ module _ (us s : List ℕ) (pre : Parts) (lack : ℕ) (c : Cursor) (st : Stands 
   open-end : eqb lack 0 ≡ eqb (c .lack) 0
   open-end = same-open (c .entry) lack (c .lack) (omega (arith, rd .number, rd .place, rd .few-bytes)) (st .near)
 
-  pub ends-open : (c .lack ≡ 0 → ⊥) → walk (empty us) (start us) (entries s) ≡ no 14 (c .opener)
-  unfolding walk
-  ends-open h = st .so-far ∙ rw (left-none s (c .place) hi, open-end, ne-eqb (c .lack) 0 h)
+  pub ends-open : (c .lack ≡ 0 → ⊥) → walk (empty us) (startState us) (entries s) ≡ no 14 (c .opener)
+  ends-open h = st .so-far ∙ rw (left-none s (c .place) hi, walk-end (empty us) (stateOf us c lack), open-end, ne-eqb (c .lack) 0 h)
 
-  pub ends-shut : c .lack ≡ 0 → walk (empty us) (start us) (entries s) ≡ ok (joined pre (tail (drop (c .unit) us)))
-  unfolding walk
-  ends-shut h = st .so-far ∙ rw (left-none s (c .place) hi, open-end, eq-eqb (c .lack) 0 h)
+  pub ends-shut : c .lack ≡ 0 → walk (empty us) (startState us) (entries s) ≡ ok (joined pre (tail (drop (c .unit) us)))
+  ends-shut h = st .so-far ∙ rw (left-none s (c .place) hi, walk-end (empty us) (stateOf us c lack), open-end, eq-eqb (c .lack) 0 h)

@@ -7,15 +7,18 @@ use mathlib.Core.List.{List}
 use lib.Dec.{leb, eqb}
 use lib.ListN.{length, drop}
 use Rattle.label.specs.Limits.{maxGlyphs}
-use Rattle.label.specs.Outcome.{Outcome, ok, no, need, _>>_}
+use Rattle.label.specs.Outcome.{Outcome, ok, no, _>>_, need}
 use Rattle.label.specs.Bytes.{empty}
-use Rattle.label.specs.Text.{decode}
 use Rattle.label.specs.Entry.{Entry}
-use Rattle.label.specs.Run.{Parts, State, takes, placed, whole}
+use Rattle.label.specs.Run.{Parts, whole, State, takes}
+use Rattle.label.specs.Steps.{decode, placed}
 use Rattle.label.specs.declared.Cursor.{Cursor}
 use Rattle.label.specs.declared.Counts.{Counts}
 use Rattle.label.specs.declared.Refusal.{Refusal}
+use Rattle.label.specs.declared.Reading.{Reading}
+use Rattle.label.specs.declared.Reading.the-variants.{Read as Accepted, Refused as NotRead}
 use Rattle.text.specs.Moves.{unitsFrom}
+use Rattle.text.specs.Texts.{unitsStart}
 use Rattle.entry.specs.Items.{entryHere}
 use Rattle.entry.specs.declared.Item.{Item}
 use Rattle.entry.specs.declared.EntryRead.{EntryRead}
@@ -90,10 +93,15 @@ Steps bare text s c (Stopped r) = (o : EntryRead) × (entryAt s c ≡ o) × Stop
 -- ── the counts ──
 
 -- 15
-abbrev pub limited : ℕ → ℕ → ℕ → Outcome Counts
-limited u c g = need (leb g maxGlyphs) 15 0 >> ok (record { units = u; clusters = c; glyphs = g })
+abbrev pub countsWithin : ℕ → ℕ → ℕ → Outcome Counts
+countsWithin u c g = need (leb g maxGlyphs) 15 0 >> ok (record { units = u; clusters = c; glyphs = g })
 
 -- the counts of a run of u units, with c clusters and g glyphs before these
 unfoldable pub countedFrom : ℕ → ℕ → ℕ → Outcome Parts → Outcome Counts
-countedFrom u c g (ok p) = limited u (c + length (p .clusters)) (g + length (p .glyphs))
+countedFrom u c g (ok p) = countsWithin u (c + length (p .clusters)) (g + length (p .glyphs))
 countedFrom u c g (no n p) = no n p
+
+-- the byte where the units start, of a text that was read; of one that was refused nothing is said
+abbrev pub Starts : List ℕ → Reading → ℕ → Type 0
+Starts text (Accepted c n) at = at ≡ unitsStart text
+Starts text (NotRead x) at = Unit {0}

@@ -1,17 +1,19 @@
 // The first pass over a label's text and indices: it judges 1 to 15 of document 01's checks and counts; nothing is stored.
+ghost use Rattle.label.specs.declared.Reading.the-variants.{Refused};
 ghost use Prim.Native.Nat.{_+_, _≤_};
 ghost use mathlib.Core.Path.{_≡_};
 ghost use mathlib.Core.Bool.{not, _&&_};
 ghost use lib.Dec.{eqb};
 ghost use lib.ListN.{length, drop};
-ghost use Rattle.label.specs.Limits.{maxUnits, maxIndicesBytes};
+ghost use Rattle.label.specs.Limits.{maxIndicesBytes, maxUnits};
 ghost use Rattle.label.specs.Outcome.{ok};
-ghost use Rattle.label.specs.Text.{decode};
-ghost use Rattle.label.specs.Run.{named, tail, runFrom, read as readLabel};
-ghost use Rattle.label.specs.Rounded.{rounded as roundedIn, beside};
+ghost use Rattle.label.specs.Run.{named, tail};
+ghost use Rattle.label.specs.Checks.{read as readLabel};
+ghost use Rattle.label.specs.Steps.{decode, runFrom};
 ghost use Rattle.label.specs.Calls.{refusal, readingOutcome, readingRounded, counted};
+ghost use Rattle.label.specs.Requests.RoundedCount.{rounded as roundedIn, beside};
 ghost use Rattle.text.specs.Moves.{unitsFrom};
-ghost use Rattle.survey.specs.Steps.{firstPlace, firstCursor, advanced, Opens, Turns, Carries, Steps, limited, countedFrom};
+ghost use Rattle.survey.specs.Steps.{firstPlace, firstCursor, advanced, Opens, Turns, Carries, Steps, countsWithin, countedFrom, Starts};
 
 // ── one entry ──
 
@@ -162,17 +164,22 @@ fn count_tail(text: &[u8], byte: usize) -> usize
     let mut b = byte;
     let mut n = 0;
     while b < text.len() {
-        match utf8::char_at(text, b) {
-            utf8::Char::Good { code: _, next } => {
-                n += 1;
-                b = next;
-            }
-            // A text with units has no such character.
-            utf8::Char::Ill => {
-                return n;
-            }
-            utf8::Char::Outside => {
-                return n;
+        if words::is_within(0x20, 0x7f, text[b]) {
+            n += 1;
+            b += 1;
+        } else {
+            match utf8::char_at(text, b) {
+                utf8::Char::Good { code: _, next } => {
+                    n += 1;
+                    b = next;
+                }
+                // A text with units has no such character.
+                utf8::Char::Ill => {
+                    return n;
+                }
+                utf8::Char::Outside => {
+                    return n;
+                }
             }
         }
     }
@@ -181,7 +188,7 @@ fn count_tail(text: &[u8], byte: usize) -> usize
 
 // The counts, of rounded fields too, or 15.
 fn limit(units: usize, clusters: usize, glyphs: usize, rounded: usize) -> label::Reading
-    ensures { λ r. ⌜ readingOutcome r ≡ limited units clusters glyphs ⌝ }
+    ensures { λ r. ⌜ readingOutcome r ≡ countsWithin units clusters glyphs ⌝ }
     ensures rounded { λ r. ⌜ readingRounded r ≡ beside rounded (readingOutcome r) ⌝ }
 {
     if label::Limits::GLYPHS < glyphs {
@@ -255,19 +262,44 @@ fn survey_run(text: &[u8], indices: &[u8], count: usize, start: usize) -> label:
     survey_tail(text, count, c, rounded_sum)
 }
 
+// What 1 to 15 say of a label, and the byte of its text where the units of its run start; 0 where it is refused.
+pub struct Surveyed {
+    pub reading: label::Reading,
+    pub start: usize,
+}
+
+fn refused(r: label::Refusal) -> Surveyed
+    ensures { λ x. ⌜ x .reading ≡ Refused r ⌝ }
+{
+    Surveyed {
+        reading: label::Reading::Refused(r),
+        start: 0,
+    }
+}
+
 // All of 1 to 15 in order, and the counts, of rounded fields too; nothing is stored.
-pub fn survey(text: &[u8], indices: &[u8]) -> label::Reading
-    ensures { λ r. ⌜ readingOutcome r ≡ counted (readLabel (now (text .entry)) (now (indices .entry))) ⌝ }
-    ensures rounded { λ r. ⌜ readingRounded r ≡ beside (roundedIn (now (indices .entry))) (readLabel (now (text .entry)) (now (indices .entry))) ⌝ }
+pub fn survey(text: &[u8], indices: &[u8]) -> Surveyed
+    ensures { λ r. ⌜ readingOutcome (r .reading) ≡ counted (readLabel (now (text .entry)) (now (indices .entry))) ⌝ }
+    ensures rounded { λ r. ⌜ readingRounded (r .reading) ≡ beside (roundedIn (now (indices .entry))) (readLabel (now (text .entry)) (now (indices .entry))) ⌝ }
+    ensures start { λ r. ⌜ Starts (now (text .entry)) (r .reading) (r .start) ⌝ }
 {
     if label::Limits::TEXT_BYTES < text.len() {
-        return label::Reading::refused(1, 0);
+        return refused(label::Refusal {
+            number: 1,
+            place: 0,
+        });
     }
     if label::Limits::INDICES_BYTES < indices.len() {
-        return label::Reading::refused(1, 0);
+        return refused(label::Refusal {
+            number: 1,
+            place: 0,
+        });
     }
     match text::survey_text(text) {
-        text::TextRead::Units(t) => survey_run(text, indices, t.count, t.start),
-        text::TextRead::Refused(r) => label::Reading::Refused(r),
+        text::TextRead::Units(t) => Surveyed {
+            reading: survey_run(text, indices, t.count, t.start),
+            start: t.start,
+        },
+        text::TextRead::Refused(r) => refused(r),
     }
 }

@@ -8,13 +8,14 @@ use mathlib.Core.List.{List, [], _∷_, _++_, append-nil}
 use borrow.Author.Tests.{le-leb, lt-leb}
 use lib.ListN.{length, drop, length-append}
 use Rattle.label.specs.Outcome.{Outcome, ok}
-use Rattle.label.specs.Text.{within, unitsOf, decode}
+use Rattle.label.specs.Text.{within, unitsOf}
+use Rattle.label.specs.Steps.{decode}
 use Rattle.label.proofs.Basics.{within-hi}
 use Rattle.label.proofs.Cursors.{onto, onto-nil, onto-onto, decode-end}
 use Rattle.utf8.specs.Chars.{charAt}
 use Rattle.utf8.specs.declared.Char.the-variants.{Good, Ill, Outside}
 use Rattle.utf8.proofs.Chars.{char-reads}
-use Rattle.text.specs.Texts.{counted}
+use Rattle.text.specs.Texts.{textCount}
 use Rattle.text.specs.declared.Counted.{Counted}
 use Rattle.text.specs.declared.Counted.the-variants.{Units, Refused}
 
@@ -48,14 +49,14 @@ two-are c h = rw (lt-leb c 65535 h)
 pub plain-one : (b : ℕ) → within 32 127 b ≡ true → 1 ≡ length (unitsOf b)
 plain-one b h = let k : b ≤ 127 = within-hi 32 127 b h in sym (ap length (one-is b (omega arith)))
 
-pub reached-ill : (s : List ℕ) (i n : ℕ) → i < length s → Reached s i n → charAt s i ≡ Ill → Refused 2 i ≡ counted (decode 0 0 s)
-reached-ill s i n l r h = ap counted (sym (ap (λ (o : Outcome (List ℕ)). onto (r .us) o) (char-reads s i l h)) ∙ r .so-far)
+pub reached-ill : (s : List ℕ) (i n : ℕ) → i < length s → Reached s i n → charAt s i ≡ Ill → Refused 2 i ≡ textCount (decode 0 0 s)
+reached-ill s i n l r h = ap textCount (sym (ap (λ (o : Outcome (List ℕ)). onto (r .us) o) (char-reads s i l h)) ∙ r .so-far)
 
-pub reached-outside : (s : List ℕ) (i n : ℕ) → i < length s → Reached s i n → charAt s i ≡ Outside → Refused 3 i ≡ counted (decode 0 0 s)
-reached-outside s i n l r h = ap counted (sym (ap (λ (o : Outcome (List ℕ)). onto (r .us) o) (char-reads s i l h)) ∙ r .so-far)
+pub reached-outside : (s : List ℕ) (i n : ℕ) → i < length s → Reached s i n → charAt s i ≡ Outside → Refused 3 i ≡ textCount (decode 0 0 s)
+reached-outside s i n l r h = ap textCount (sym (ap (λ (o : Outcome (List ℕ)). onto (r .us) o) (char-reads s i l h)) ∙ r .so-far)
 
-pub reached-end : (s : List ℕ) (i n : ℕ) → length s ≤ i → Reached s i n → Units n ≡ counted (decode 0 0 s)
+pub reached-end : (s : List ℕ) (i n : ℕ) → length s ≤ i → Reached s i n → Units n ≡ textCount (decode 0 0 s)
 reached-end s i n l r =
     let e : onto (r .us) (decode 0 i (drop i s)) ≡ ok (r .us ++ []) = ap (λ (o : Outcome (List ℕ)). onto (r .us) o) (decode-end s i l) in
     let q : length (r .us ++ []) ≡ n = rw (append-nil (r .us)) (r .count) in
-    ap {B = Counted} (λ m. Units m) (sym q) ∙ ap counted (sym e ∙ r .so-far)
+    ap {B = Counted} (λ m. Units m) (sym q) ∙ ap textCount (sym e ∙ r .so-far)

@@ -10,15 +10,16 @@ use lib.Dec.{leb}
 use lib.ListN.{length, getD, drop, length-append}
 use lib.Seq.{getD-drop, drop-append-add, drop-append-seam}
 use Rattle.label.specs.Outcome.{ok}
-use Rattle.label.specs.Text.{within, xmlChar, isLow, unitsOf, decode}
+use Rattle.label.specs.Text.{within, xmlChar, isLow, unitsOf}
+use Rattle.label.specs.Steps.{decode}
 use Rattle.utf8.specs.Chars.{charAt}
 use Rattle.text.specs.Moves.{unitsFrom, Moves}
 use Rattle.utf8.specs.declared.Char.the-variants.{Good, Ill, Outside}
 use Rattle.text.specs.declared.Moved.the-variants.{To, Past, Half}
 use Rattle.label.proofs.Basics.{bind-ok, no-ok, cases, within-is}
-use Rattle.label.proofs.Walks.{ok-path}
-use Rattle.label.proofs.Texts.{proper-first}
-use Rattle.label.proofs.Sounds.{decode-proper}
+use Rattle.label.proofs.Run.{ok-path}
+use Rattle.label.proofs.Text.{proper-first}
+use Rattle.label.proofs.Sound.{decode-proper}
 use Rattle.label.proofs.Cursors.{decode-end}
 use Rattle.utf8.proofs.Chars.{char-plain, char-reads, char-stands}
 use Rattle.text.proofs.Counts.{plain-one, one-is, two-are}

@@ -1,5 +1,6 @@
 -- Laws of a text's run: `{` and `}` are one byte and one unit each, and no other character is either; so `{}` may be looked for among the bytes.
 -- Assumes nothing.
+use Rattle.label.proofs.Steps.{decode-char, decode-none, text-steps}
 use Prim.Native.Nat.{ℕ, suc, _-_, _≤_, _<_}
 use native.Mathlib.Omega.{arith}
 use mathlib.Core.Path.{_≡_, refl, sym, _∙_, ap, subst}
@@ -9,24 +10,25 @@ use borrow.Author.Tests.{eq-eqb, ne-eqb, eqb-true, leb-true, leb-false}
 use lib.Dec.{eqb, leb}
 use lib.ListN.{length, getD, drop, length-drop}
 use Rattle.label.specs.Limits.{maxUnits}
-use Rattle.label.specs.Outcome.{Outcome, ok, no, need, _>>_}
+use Rattle.label.specs.Outcome.{Outcome, ok, no, _>>_, need}
+use Rattle.label.specs.Text.{table, startsChar, following, scalar, codePoint, xmlChar, unitsOf, braced, marked}
+use Rattle.label.specs.Steps.{decode, textUnits}
 use Rattle.label.specs.Calls.{refusal}
-use Rattle.label.specs.Text.{table, starts, following, scalar, codePoint, xmlChar, unitsOf, decode, braced, marked, textUnits}
 use Rattle.label.proofs.Basics.{and-l, and-r, clash, cases, bind-ok, need-ok}
-use Rattle.label.proofs.Rows.{laws, scalar-of, read-at, utf8-one}
-use Rattle.label.proofs.Walks.{ok-path}
-use Rattle.label.proofs.Sounds.{TextIs, text-ok}
+use Rattle.label.proofs.Utf8.{laws, scalar-of, read-at, utf8-one}
+use Rattle.label.proofs.Run.{ok-path}
+use Rattle.label.proofs.Sound.{TextIs, text-ok}
 use Rattle.utf8.proofs.Rows.{starts-one}
 use Rattle.text.proofs.Counts.{one-is}
-use Rattle.text.specs.Texts.{counted, unitsStart, unitsRead, textRead, unitsWithin}
+use Rattle.text.specs.Texts.{textCount, unitsStart, unitsRead, textRead, unitsWithin}
 use Rattle.text.specs.declared.Counted.the-variants as C
 use Rattle.text.specs.declared.TextRead.the-variants.{Units, Refused}
 
 -- ── a character's number and its first byte ──
 
 -- a character of more than one byte is above those of one
-above : (b : ℕ) (bs : List ℕ) → starts b bs ≡ true → 127 < b → 127 < codePoint b bs
-unfolding starts
+above : (b : ℕ) (bs : List ℕ) → startsChar b bs ≡ true → 127 < b → 127 < codePoint b bs
+unfolding startsChar
 above b bs h l =
     let (c, rest, k, e) = scalar-of table laws (b ∷ bs) h in
     rw (read-at c b bs rest k e .number)
@@ -40,15 +42,14 @@ above b bs h l =
 
 -- the first character of a text that has no fault
 record First (at b : ℕ) (bs all : List ℕ) : Type 0 where
-  start : starts b bs ≡ true
+  start : startsChar b bs ≡ true
   others : List ℕ
   next : decode (following b bs) (suc at) bs ≡ ok others
   is : all ≡ unitsOf (codePoint b bs) ++ others
 
 first : (at b : ℕ) (bs all : List ℕ) → decode 0 at (b ∷ bs) ≡ ok all → First at b bs all
-unfolding decode
 first at b bs all h =
-    let (t2, h2) = need-ok (starts b bs) 2 at _ all h in
+    let (t2, h2) = need-ok (startsChar b bs) 2 at _ all (sym (decode-char at b bs) ∙ h) in
     let (t3, h3) = need-ok (xmlChar (codePoint b bs)) 3 at _ all h2 in
     let (vs, d, e) = bind-ok (decode (following b bs) (suc at) bs) _ all h3 in
     record { start = t2; others = vs; next = d; is = sym (ok-path _ all e) }
@@ -82,8 +83,7 @@ far at b bs all l h =
 
 -- so a character below 128 is the first unit where it is the first byte, and only there
 first-unit : (k at : ℕ) (t all : List ℕ) → k ≤ 127 → decode 0 at t ≡ ok all → eqb (getD all 0 0) k ≡ eqb (getD t 0 0) k
-unfolding decode
-first-unit k at [] all l h = rw (← ok-path [] all h)
+first-unit k at [] all l h = rw (← ok-path [] all (sym (decode-none 0 at) ∙ h))
 first-unit k at (b ∷ bs) all l h =
     cases (leb b 127)
     (λ p. rw (one at b bs all (leb-true b 127 p) h .is))
@@ -95,8 +95,7 @@ braces : (t all : List ℕ) → decode 0 0 t ≡ ok all → braced all ≡ brace
 braces t all h = first-unit 123 0 t all (omega arith) h
 
 pub marks : (t all : List ℕ) → decode 0 0 t ≡ ok all → marked all ≡ marked t
-unfolding decode
-marks [] all h = rw (← ok-path [] all h)
+marks [] all h = rw (← ok-path [] all (sym (decode-none 0 0) ∙ h))
 marks (b ∷ bs) all h =
     cases (eqb b 123)
     (λ p. let q = eqb-true b 123 p in
@@ -139,10 +138,10 @@ record Found (t : List ℕ) (n : ℕ) : Type 0 where
   decoded : decode 0 0 t ≡ ok all
   count : length all ≡ n
 
-found : (t : List ℕ) (n : ℕ) → counted (decode 0 0 t) ≡ C.Units n → Found t n
+found : (t : List ℕ) (n : ℕ) → textCount (decode 0 0 t) ≡ C.Units n → Found t n
 found t n h = go (decode 0 0 t) refl h
   where
-    go : (o : Outcome (List ℕ)) → decode 0 0 t ≡ o → counted o ≡ C.Units n → Found t n
+    go : (o : Outcome (List ℕ)) → decode 0 0 t ≡ o → textCount o ≡ C.Units n → Found t n
     go (ok us) d e = record { all = us; decoded = d; count = (cc) }
     go (no k p) d e = let z : true ≡ false = cc in clash true refl z
 
@@ -150,45 +149,45 @@ within-of : (us : List ℕ) (at : ℕ) → unitsWithin (length us) at ≡ unitsR
 unfolding unitsWithin
 within-of us at = cases (leb (length us) maxUnits) (λ t. rw t) (λ t. rw t)
 
-pub survey-refused : (t : List ℕ) (n p : ℕ) → counted (decode 0 0 t) ≡ C.Refused n p → Refused (refusal n p) ≡ textRead t
-unfolding textRead textUnits
+pub survey-refused : (t : List ℕ) (n p : ℕ) → textCount (decode 0 0 t) ≡ C.Refused n p → Refused (refusal n p) ≡ textRead t
+unfolding textRead
 survey-refused t n p h = go (decode 0 0 t) refl h
   where
-    go : (o : Outcome (List ℕ)) → decode 0 0 t ≡ o → counted o ≡ C.Refused n p → Refused (refusal n p) ≡ textRead t
+    go : (o : Outcome (List ℕ)) → decode 0 0 t ≡ o → textCount o ≡ C.Refused n p → Refused (refusal n p) ≡ textRead t
     go (ok us) d e = let z : true ≡ false = cc in clash true refl z
     go (no k q) d e =
         let a : k ≡ n = cc in
         let b : q ≡ p = cc in
-        rw (d, a, b)
+        rw (text-steps t, d, a, b)
 
-module _ (t : List ℕ) (n : ℕ) (e : counted (decode 0 0 t) ≡ C.Units n) {b0 : ℕ} (f : b0 ≡ getD t 0 0) where
+module _ (t : List ℕ) (n : ℕ) (e : textCount (decode 0 0 t) ≡ C.Units n) {b0 : ℕ} (f : b0 ≡ getD t 0 0) where
   pub survey-plain : (b0 ≡ 123 → ⊥) → unitsWithin n 0 ≡ textRead t
-  unfolding textRead textUnits unitsStart
+  unfolding textRead unitsStart
   survey-plain h =
       let x = found t n e in
       let k : braced t ≡ false = ne-eqb (getD t 0 0) 123 (λ z. h (f ∙ z)) in
-      ap (λ (m : ℕ). unitsWithin m 0) (sym (x .count)) ∙ rw (x .decoded, k, braces t (x .all) (x .decoded) ∙ k) (within-of (x .all) 0)
+      ap (λ (m : ℕ). unitsWithin m 0) (sym (x .count)) ∙ rw (text-steps t, x .decoded, k, braces t (x .all) (x .decoded) ∙ k) (within-of (x .all) 0)
 
   module _ (h : b0 ≡ 123) {b1 : ℕ} (g : b1 ≡ getD t 1 0) where
     pub survey-braced : (b1 ≡ 125 → ⊥) → Refused (refusal 4 0) ≡ textRead t
-    unfolding textRead textUnits
+    unfolding textRead
     survey-braced i =
         let x = found t n e in
         let k : braced t ≡ true = eq-eqb (getD t 0 0) 123 (sym f ∙ h) in
         let m : marked t ≡ false = rw (ne-eqb (getD t 1 0) 125 (λ z. i (g ∙ z)), and-false (braced t)) in
-        rw (x .decoded, marks t (x .all) (x .decoded) ∙ m, braces t (x .all) (x .decoded) ∙ k)
+        rw (text-steps t, x .decoded, marks t (x .all) (x .decoded) ∙ m, braces t (x .all) (x .decoded) ∙ k)
 
     module _ (i : b1 ≡ 125) where
       is-marked : marked t ≡ true
       is-marked = rw (eq-eqb (getD t 0 0) 123 (sym f ∙ h), eq-eqb (getD t 1 0) 125 (sym g ∙ i))
 
       pub survey-marked : unitsWithin (n - 2) 2 ≡ textRead t
-      unfolding textRead textUnits unitsStart
+      unfolding textRead unitsStart
       survey-marked =
           let x = found t n e in
           let m = marks t (x .all) (x .decoded) ∙ is-marked in
           let c : n - 2 ≡ length (drop 2 (x .all)) = ap (λ (k : ℕ). k - 2) (sym (x .count)) ∙ sym (length-drop 2 (x .all)) in
-          ap (λ (k : ℕ). unitsWithin k 2) c ∙ rw (x .decoded, is-marked, m, and-l (braced (x .all)) _ m) (within-of (drop 2 (x .all)) 2)
+          ap (λ (k : ℕ). unitsWithin k 2) c ∙ rw (text-steps t, x .decoded, is-marked, m, and-l (braced (x .all)) _ m) (within-of (drop 2 (x .all)) 2)
 
       pub marked-two : 2 ≤ n
       marked-two = let x = found t n e in rw (← x .count) (two (x .all) (marks t (x .all) (x .decoded) ∙ is-marked))

@@ -7,8 +7,8 @@ use mathlib.Core.List.{List, []}
 use lib.Dec.{leb}
 use lib.ListN.{length, drop}
 use Rattle.label.specs.Outcome.{Outcome, ok, no}
-use Rattle.label.specs.Text.{decode}
 use Rattle.label.specs.Run.{whole}
+use Rattle.label.specs.Steps.{decode}
 use Rattle.text.specs.declared.Moved.{Moved}
 use Rattle.text.specs.declared.Moved.the-variants.{To, Past, Half}
 

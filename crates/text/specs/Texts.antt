@@ -7,8 +7,9 @@ use lib.Dec.{leb}
 use lib.ListN.{length}
 use Rattle.label.specs.Limits.{maxUnits}
 use Rattle.label.specs.Outcome.{Outcome, ok, no}
+use Rattle.label.specs.Text.{marked}
+use Rattle.label.specs.Steps.{textUnits}
 use Rattle.label.specs.Calls.{refusal}
-use Rattle.label.specs.Text.{marked, textUnits}
 use Rattle.text.specs.declared.Counted.{Counted}
 use Rattle.text.specs.declared.Counted.the-variants as C
 use Rattle.text.specs.declared.TextUnits.{TextUnits}
@@ -16,9 +17,9 @@ use Rattle.text.specs.declared.TextRead.{TextRead}
 use Rattle.text.specs.declared.TextRead.the-variants.{Units, Refused}
 
 -- how many units there are, or the refusal, as the code's enum
-abbrev pub counted : Outcome (List ℕ) → Counted
-counted (ok us) = C.Units (length us)
-counted (no n p) = C.Refused n p
+abbrev pub textCount : Outcome (List ℕ) → Counted
+textCount (ok us) = C.Units (length us)
+textCount (no n p) = C.Refused n p
 
 -- the byte of a text where its run's units start: behind the two bytes `{}` where it begins with them
 unfoldable pub unitsStart : List ℕ → ℕ

@@ -1,15 +1,17 @@
 // The text of a label: from UTF-8 to code units, and the moves over a text that the reader makes.
 ghost use mathlib.Core.Path.{_≡_};
 ghost use mathlib.Core.Bool.{true, _&&_};
-ghost use Prim.Native.Nat.{_+_, _-_, _/_, _%_, _≤_, _<_};
+ghost use Prim.Native.Nat.{_+_, _-_, _*_, _/_, _%_, _≤_, _<_};
 ghost use lib.Dec.{ltb};
 ghost use lib.ListN.{length, getD, drop};
 ghost use lib.Seq.{sets};
 ghost use Rattle.label.specs.Limits.{maxTextBytes};
 ghost use Rattle.label.specs.Outcome.{ok};
-ghost use Rattle.label.specs.Text.{within, unitsOf, decode};
+ghost use Rattle.label.specs.Text.{within, unitsOf};
+ghost use Rattle.label.specs.Steps.{decode};
+ghost use Rattle.label.specs.Wire.{fromHalves};
 ghost use Rattle.label.specs.Calls.{filled};
-ghost use Rattle.text.specs.Texts.{counted, unitsWithin, textRead};
+ghost use Rattle.text.specs.Texts.{textCount, unitsWithin, textRead};
 ghost use Rattle.text.specs.Moves.{unitsFrom, Moves};
 ghost use Rattle.text.specs.declared.Moved.the-variants.{To};
 
@@ -32,7 +34,7 @@ fn unit_count(code: u32) -> usize
 // How many units the text has, `{}` included, or 2 or 3 with its place.
 fn count_units(s: &[u8]) -> Counted
     requires { ⌜ length (now s) ≤ maxTextBytes ⌝ }
-    ensures { λ r. ⌜ r ≡ counted (decode 0 0 (now (s .entry))) ⌝ }
+    ensures { λ r. ⌜ r ≡ textCount (decode 0 0 (now (s .entry))) ⌝ }
 {
     let mut i = 0;
     let mut n = 0;
@@ -124,26 +126,26 @@ fn low_half(c: u32) -> u16
     (v & 0x3ff) as u16 | 0xdc00
 }
 
-// Stores the units of a character from place n on, and returns the place behind them.
-fn put_char(out: &mut [u16], n: usize, c: u32) -> usize
-    requires { ⌜ (c ≤ 1114111) × (n + length (unitsOf c) ≤ length (now out)) ⌝ }
-    ensures { λ r. ⌜ (r ≡ n + length (unitsOf c)) × (now (out .exit) ≡ sets (now (out .entry)) n (unitsOf c)) ⌝ }
+// Stores the units of a character as units n and following; the number of the next.
+fn put_char(out: &mut [u8], n: usize, c: u32) -> usize
+    requires { ⌜ (c ≤ 1114111) × (2 * (n + length (unitsOf c)) ≤ length (now out)) ⌝ }
+    ensures { λ r. ⌜ (r ≡ n + length (unitsOf c)) × (now (out .exit) ≡ sets (now (out .entry)) (2 * n) (fromHalves (unitsOf c))) ⌝ }
 {
     if c <= 0xffff {
-        out[n] = c as u16;
+        wire::put_unit(out, n, c as u16);
         return n + 1;
     }
     let m = n + 1;
-    out[n] = high_half(c);
-    out[m] = low_half(c);
+    wire::put_unit(out, n, high_half(c));
+    wire::put_unit(out, m, low_half(c));
     n + 2
 }
 
 // Stores the units of the text from byte `from` on, where it has no fault, at the start of `out`.
-pub fn fill_units(text: &[u8], from: usize, out: &mut [u16])
+pub fn fill_units(text: &[u8], from: usize, out: &mut [u8])
     requires { ⌜ decode 0 from (drop from (now text)) ≡ ok (unitsFrom (now text) from) ⌝ }
-    requires { ⌜ length (unitsFrom (now text) from) ≤ length (now out) ⌝ }
-    ensures { λ _. ⌜ now (out .exit) ≡ filled (unitsFrom (now (text .entry)) from) (now (out .entry)) ⌝ }
+    requires { ⌜ 2 * length (unitsFrom (now text) from) ≤ length (now out) ⌝ }
+    ensures { λ _. ⌜ now (out .exit) ≡ filled (fromHalves (unitsFrom (now (text .entry)) from)) (now (out .entry)) ⌝ }
 {
     let mut i = from;
     let mut n = 0;

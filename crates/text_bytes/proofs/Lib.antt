@@ -1,2 +1,1 @@
-pub mod Units
 pub mod Utf8

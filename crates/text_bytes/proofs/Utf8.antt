@@ -7,16 +7,16 @@ use native.Mathlib.Omega.{arith}
 use mathlib.Core.Path.{_≡_, refl, sym, ap, _∙_}
 use mathlib.Core.Bool.{Bool, true, false, cond, _&&_, and-false, false≢true}
 use mathlib.Core.List.{List, [], _∷_, _++_}
-use borrow.Author.Tests.{le-leb, lt-leb, leb-true, leb-false, eq-eqb, ne-eqb}
+use borrow.Author.Tests.{le-leb, lt-leb, leb-true, leb-false, ne-eqb}
 use lib.Dec.{leb}
 use lib.ListN.{length, getD, drop, length-append, drop-of-length-le}
 use lib.Seq.{drop-cons, getD-drop}
-use Rattle.label.specs.Text.{isLow, isHigh, braced}
+use Rattle.label.specs.Text.{isHigh, isLow, braced}
 use Rattle.label.specs.Write.{utf8, paired, unitBytes, unitsBytes, textOf}
-use Rattle.label.specs.Attribute.{escapeByte, escape, asAsked}
+use Rattle.label.specs.Requests.Attribute.{escapeByte, escape, asAsked}
 use Rattle.label.proofs.Basics.{and-l, and-r, cases}
-use Rattle.label.proofs.Escapes.{asked-append, asked-nil, asked-stays, unit-none, unit-ascii}
-use Rattle.text_bytes.specs.Units.{unitLength, askedLength, markLength}
+use Rattle.label.proofs.Requests.Escaping.{asked-append, asked-nil, asked-stays, unit-none, unit-ascii}
+use Rattle.text_bytes.specs.Lengths.{unitLength, askedLength, markLength}
 
 -- ── a unit ──
 
@@ -70,29 +70,34 @@ units-end : (us : List ℕ) (i : ℕ) → length us ≤ i → unitsBytes (drop i
 unfolding unitsBytes
 units-end us i h = rw (drop-of-length-le us h)
 
-pub asked-at : (e : Bool) (us : List ℕ) (i : ℕ) → i < length us
+asked-at : (e : Bool) (us : List ℕ) (i : ℕ) → i < length us
     → asAsked e (unitsBytes (drop i us)) ≡ asAsked e (unitBytes (getD us i 0) (getD us (i + 1) 0)) ++ asAsked e (unitsBytes (drop (i + 1) us))
 asked-at e us i h = ap (asAsked e) (units-at us i h) ∙ asked-append e (unitBytes (getD us i 0) (getD us (i + 1) 0)) (unitsBytes (drop (i + 1) us))
+
+-- the same by the units fetched
+pub asked-here : (e : Bool) (us : List ℕ) (i : ℕ) {u v : ℕ} → i < length us → u ≡ getD us i 0 → v ≡ getD us (i + 1) 0
+    → asAsked e (unitsBytes (drop i us)) ≡ asAsked e (unitBytes u v) ++ asAsked e (unitsBytes (drop (i + 1) us))
+asked-here e us i h eu ev = rw (eu, ev) (asked-at e us i h)
 
 pub asked-end : (e : Bool) (us : List ℕ) (i : ℕ) → length us ≤ i → asAsked e (unitsBytes (drop i us)) ≡ []
 asked-end e us i h = ap (asAsked e) (units-end us i h) ∙ asked-nil e
 
-module _ (us : List ℕ) {n : ℕ} (e : n ≡ getD us 0 0) where
-  pub text-braced : (a : Bool) → n ≡ 123 → (123 ∷ 125 ∷ []) ++ asAsked a (unitsBytes us) ≡ asAsked a (textOf us)
+module _ (us : List ℕ) {b : Bool} (e : b ≡ braced us) where
+  pub text-braced : (a : Bool) → b ≡ true → (123 ∷ 125 ∷ []) ++ asAsked a (unitsBytes us) ≡ asAsked a (textOf us)
   unfolding textOf
-  text-braced a h = rw (eq-eqb (getD us 0 0) 123 (sym e ∙ h)) (marked a (unitsBytes us))
+  text-braced a h = rw (sym e ∙ h) (marked a (unitsBytes us))
 
-  pub text-plain : (a : Bool) → (n ≡ 123 → ⊥) → asAsked a (unitsBytes us) ≡ asAsked a (textOf us)
+  pub text-plain : (a : Bool) → b ≡ false → asAsked a (unitsBytes us) ≡ asAsked a (textOf us)
   unfolding textOf
-  text-plain a h = rw (ne-eqb (getD us 0 0) 123 (λ z. h (e ∙ z)))
+  text-plain a h = rw (sym e ∙ h)
 
-  pub mark-two : n ≡ 123 → 2 ≡ markLength us
+  pub mark-two : b ≡ true → 2 ≡ markLength us
   unfolding markLength
-  mark-two h = rw (eq-eqb (getD us 0 0) 123 (sym e ∙ h))
+  mark-two h = rw (sym e ∙ h)
 
-  pub mark-none : (n ≡ 123 → ⊥) → 0 ≡ markLength us
+  pub mark-none : b ≡ false → 0 ≡ markLength us
   unfolding markLength
-  mark-none h = rw (ne-eqb (getD us 0 0) 123 (λ z. h (e ∙ z)))
+  mark-none h = rw (sym e ∙ h)
 
 -- ── lengths ──
 

@@ -1,84 +1,13 @@
-// The code units of a run: whether they are those of a text, and the text's bytes in UTF-8, escaped where that is asked for.
+// The text of a run's units: its bytes in UTF-8, escaped where that is asked for.
+ghost use Rattle.label.specs.Text.{braced};
 ghost use mathlib.Core.Path.{_≡_};
-ghost use mathlib.Core.Bool.{false};
 ghost use Prim.Native.Nat.{_+_, _-_, _%_, _≤_, _<_};
-ghost use lib.ListN.{length, getD, drop};
-ghost use Rattle.label.specs.Text.{isHigh, isLow, isPair};
-ghost use Rattle.label.specs.Sound.{properUnits};
+ghost use lib.ListN.{length};
+ghost use Rattle.label.specs.Wire.{halves};
 ghost use Rattle.label.specs.Write.{utf8, paired, unitBytes, unitsBytes, textOf};
-ghost use Rattle.label.specs.Attribute.{escapeByte, asAsked};
+ghost use Rattle.label.specs.Requests.Attribute.{escapeByte, asAsked};
 ghost use Rattle.words.specs.Puts.{Put};
-ghost use Rattle.text_bytes.specs.Units.{unitOk, nextHalf, unitLength, askedLength, markLength};
-
-// ── units ──
-
-// A high half or a low half of a pair.
-pub fn is_high(u: u16) -> bool
-    ensures { λ r. ⌜ r ≡ isHigh u ⌝ }
-{
-    words::both(0xd800 <= u, u <= 0xdbff)
-}
-
-pub fn is_low(u: u16) -> bool
-    ensures { λ r. ⌜ r ≡ isLow u ⌝ }
-{
-    words::both(0xdc00 <= u, u <= 0xdfff)
-}
-
-// A unit, or 0 past the end.
-pub fn unit_or_zero(us: &[u16], i: usize) -> u16
-    ensures { λ r. ⌜ r ≡ getD (now (us .entry)) i 0 ⌝ }
-{
-    if i < us.len() { us[i] } else { 0 }
-}
-
-// Whether the two units at i are the halves of one pair.
-pub fn is_pair_at(us: &[u16], i: usize) -> bool
-    requires { ⌜ i ≤ length (now us) ⌝ }
-    ensures { λ r. ⌜ r ≡ isPair (drop i (now (us .entry))) ⌝ }
-{
-    let high = is_high(unit_or_zero(us, i));
-    if !high {
-        return false;
-    }
-    is_low(unit_or_zero(us, i + 1))
-}
-
-// ── the units of a run ──
-
-// A unit may stand behind a high half, or where no high half is before it.
-fn unit_ok(half: bool, u: u16) -> bool
-    ensures { λ r. ⌜ r ≡ unitOk half u ⌝ }
-{
-    if half {
-        is_low(u)
-    } else {
-        words::either(is_high(u), utf8::is_xml(u as u32))
-    }
-}
-
-// Whether the unit behind u has to be a low half.
-fn next_half(half: bool, u: u16) -> bool
-    ensures { λ r. ⌜ r ≡ nextHalf half u ⌝ }
-{
-    if half { false } else { is_high(u) }
-}
-
-// The units are well-formed XML characters.
-pub fn proper_units(us: &[u16]) -> bool
-    ensures { λ r. ⌜ r ≡ properUnits false (now (us .entry)) ⌝ }
-{
-    let mut half = false;
-    let mut i = 0;
-    while i < us.len() {
-        if !unit_ok(half, us[i]) {
-            return false;
-        }
-        half = next_half(half, us[i]);
-        i += 1;
-    }
-    !half
-}
+ghost use Rattle.text_bytes.specs.Lengths.{unitLength, askedLength, markLength};
 
 // ── a run's units in UTF-8 ──
 // Each `put_..` stores its bytes from `at` on and returns the place behind them.
@@ -128,18 +57,16 @@ fn pair_of(h: u16, l: u16) -> u32
     0x10000 + (h as u32 - 0xd800) * 1024 + above_low(l)
 }
 
-// The bytes of unit i: a pair's stand at its high half.
-fn put_unit(out: &mut [u8], at: usize, us: &[u16], i: usize) -> usize
-    requires { ⌜ (at < 9223372036854775808) × (i < length (now us)) ⌝ }
-    ensures { λ r. ⌜ Put (now (out .entry)) at (unitBytes (getD (now (us .entry)) i 0) (getD (now (us .entry)) (i + 1) 0)) r (now (out .exit)) ⌝ }
+// The bytes of unit u before unit v: a pair's stand at its high half.
+fn put_unit(out: &mut [u8], at: usize, u: u16, v: u16) -> usize
+    requires { ⌜ at < 9223372036854775808 ⌝ }
+    ensures { λ r. ⌜ Put (now (out .entry)) at (unitBytes u v) r (now (out .exit)) ⌝ }
     ensures bounds { λ r. ⌜ r ≤ at + 4 ⌝ }
 {
-    let u = us[i];
-    if is_low(u) {
+    if units::is_low(u) {
         return at;
     }
-    if is_high(u) {
-        let v = unit_or_zero(us, i + 1);
+    if units::is_high(u) {
         return put_utf8(out, at, pair_of(u, v));
     }
     put_utf8(out, at, u as u32)
@@ -172,38 +99,47 @@ fn put_escaped(out: &mut [u8], at: usize, b: u8) -> usize
     words::put_byte(out, at, b)
 }
 
-// The bytes of unit i as they are asked for. Only a character of one byte can be one of the six.
-fn put_asked(escape: bool, out: &mut [u8], at: usize, us: &[u16], i: usize) -> usize
-    requires { ⌜ (at < 9223372036854775808) × (i < length (now us)) ⌝ }
-    ensures { λ r. ⌜ Put (now (out .entry)) at (asAsked escape (unitBytes (getD (now (us .entry)) i 0) (getD (now (us .entry)) (i + 1) 0))) r (now (out .exit)) ⌝ }
+// The same as it is asked for. Only a character of one byte can be one of the six.
+fn put_asked(escape: bool, out: &mut [u8], at: usize, u: u16, v: u16) -> usize
+    requires { ⌜ at < 9223372036854775808 ⌝ }
+    ensures { λ r. ⌜ Put (now (out .entry)) at (asAsked escape (unitBytes u v)) r (now (out .exit)) ⌝ }
     ensures bounds { λ r. ⌜ r ≤ at + 6 ⌝ }
 {
-    let u = us[i];
     if words::both(escape, u <= 0x7f) {
         return put_escaped(out, at, u as u8);
     }
-    put_unit(out, at, us, i)
+    put_unit(out, at, u, v)
 }
 
-fn put_units(escape: bool, out: &mut [u8], from: usize, us: &[u16]) -> usize
-    requires { ⌜ (from ≤ 2) × (length (now us) ≤ 1000000000000) ⌝ }
-    ensures { λ r. ⌜ Put (now (out .entry)) from (asAsked escape (unitsBytes (now (us .entry)))) r (now (out .exit)) ⌝ }
+fn put_units(escape: bool, out: &mut [u8], from: usize, us: &[u8]) -> usize
+    requires { ⌜ (from ≤ 2) × (length (halves (now us)) ≤ 1000000000000) ⌝ }
+    ensures { λ r. ⌜ Put (now (out .entry)) from (asAsked escape (unitsBytes (halves (now (us .entry))))) r (now (out .exit)) ⌝ }
 {
+    let count = wire::unit_count(us);
     let mut at = from;
     let mut i = 0;
-    while i < us.len() {
-        at = put_asked(escape, out, at, us, i);
+    while i < count {
+        let u = wire::unit_at(us, i);
+        let v = wire::unit_at(us, i + 1);
+        at = put_asked(escape, out, at, u, v);
         i += 1;
     }
     at
 }
 
-// The text of a run's units. `{}` has none of the six bytes.
-pub fn put_text(escape: bool, out: &mut [u8], us: &[u16]) -> usize
-    requires { ⌜ length (now us) ≤ 1000000000000 ⌝ }
-    ensures { λ r. ⌜ Put (now (out .entry)) 0 (asAsked escape (textOf (now (us .entry)))) r (now (out .exit)) ⌝ }
+// Whether the text of these units begins with `{}`: they begin with `{`.
+fn is_braced(us: &[u8]) -> bool
+    ensures { λ r. ⌜ r ≡ braced (halves (now (us .entry))) ⌝ }
 {
-    if unit_or_zero(us, 0) == 123 {
+    wire::unit_at(us, 0) == 123
+}
+
+// The text of a run's units. `{}` has none of the six bytes.
+pub fn put_text(escape: bool, out: &mut [u8], us: &[u8]) -> usize
+    requires { ⌜ length (halves (now us)) ≤ 1000000000000 ⌝ }
+    ensures { λ r. ⌜ Put (now (out .entry)) 0 (asAsked escape (textOf (halves (now (us .entry))))) r (now (out .exit)) ⌝ }
+{
+    if is_braced(us) {
         let p = words::put_bytes(out, 0, b"{}");
         return put_units(escape, out, p, us);
     }
@@ -221,10 +157,10 @@ fn unit_length(u: u16) -> usize
     if u <= 0x7ff {
         return 2;
     }
-    if is_high(u) {
+    if units::is_high(u) {
         return 4;
     }
-    if is_low(u) {
+    if units::is_low(u) {
         return 0;
     }
     3
@@ -251,22 +187,23 @@ fn asked_length(escape: bool, u: u16) -> usize
 }
 
 // The bytes of `{}`, where the text of these units begins with it.
-fn mark_length(us: &[u16]) -> usize
-    ensures { λ r. ⌜ r ≡ markLength (now (us .entry)) ⌝ }
+fn mark_length(us: &[u8]) -> usize
+    ensures { λ r. ⌜ r ≡ markLength (halves (now (us .entry))) ⌝ }
     ensures bounds { λ r. ⌜ r ≤ 2 ⌝ }
 {
-    if unit_or_zero(us, 0) == 123 { 2 } else { 0 }
+    if is_braced(us) { 2 } else { 0 }
 }
 
 // How many bytes the text of a run has.
-pub fn text_length(escape: bool, us: &[u16]) -> usize
-    requires { ⌜ length (now us) ≤ 1000000000000 ⌝ }
-    ensures { λ r. ⌜ r ≡ length (asAsked escape (textOf (now (us .entry)))) ⌝ }
+pub fn text_length(escape: bool, us: &[u8]) -> usize
+    requires { ⌜ length (halves (now us)) ≤ 1000000000000 ⌝ }
+    ensures { λ r. ⌜ r ≡ length (asAsked escape (textOf (halves (now (us .entry))))) ⌝ }
 {
+    let count = wire::unit_count(us);
     let mut n = mark_length(us);
     let mut i = 0;
-    while i < us.len() {
-        n += asked_length(escape, us[i]);
+    while i < count {
+        n += asked_length(escape, wire::unit_at(us, i));
         i += 1;
     }
     n

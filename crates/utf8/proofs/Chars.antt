@@ -1,5 +1,6 @@
 -- Laws of the character at a place.
 -- Assumes nothing.
+use Rattle.label.proofs.Steps.{decode-char}
 use Prim.Native.Nat.{ℕ, zero, suc, _+_, _*_, _-_, _%_, _^_, _≤_, _<_}
 use native.Mathlib.Omega.{arith}
 use native.Mathlib.Nat.{add-zero}
@@ -14,7 +15,8 @@ use lib.Dec.{eqb, leb}
 use lib.ListN.{length, getD, drop, length-drop}
 use lib.Seq.{getD-drop, drop-cons, drop-drop}
 use Rattle.label.specs.Outcome.{Outcome, no}
-use Rattle.label.specs.Text.{within, starts, following, scalar, codePoint, xmlChar, unitsOf, decode}
+use Rattle.label.specs.Text.{within, startsChar, following, scalar, codePoint, xmlChar, unitsOf}
+use Rattle.label.specs.Steps.{decode}
 use Rattle.utf8.specs.Rows.{lead, trail}
 use Rattle.utf8.specs.declared.Trailing.{Trailing}
 use Rattle.utf8.specs.Chars.{charAt}
@@ -126,7 +128,7 @@ pub char-plain-as : (s : List ℕ) (i c : ℕ) → c ≡ getD s i 0 → within 3
 char-plain-as s i c e h = rw e (char-plain s i h)
 
 module _ (s : List ℕ) (i : ℕ) (r : Trailing) (e : r ≡ lead (getD s i 0)) where
-  by-lead : {t : Bool} → (r .fits && trail (r .more) (r .lo) (r .hi) (drop (i + 1) s)) ≡ t → starts (getD s i 0) (drop (i + 1) s) ≡ t
+  by-lead : {t : Bool} → (r .fits && trail (r .more) (r .lo) (r .hi) (drop (i + 1) s)) ≡ t → startsChar (getD s i 0) (drop (i + 1) s) ≡ t
   by-lead h = starts-is (getD s i 0) (drop (i + 1) s) ∙ rw (← e) h
 
   pub char-unfit : r .fits ≡ false → Ill ≡ charAt s i
@@ -138,7 +140,7 @@ module _ (s : List ℕ) (i : ℕ) (r : Trailing) (e : r ≡ lead (getD s i 0)) w
   char-cut h = rw (by-lead {t = false} (rw (h, and-false (r .fits))))
 
   module _ (c : ℕ) (f : r .fits ≡ true) (t : trail (r .more) (r .lo) (r .hi) (drop (i + 1) s) ≡ true) (q : c ≡ scalar (r .more) (getD s i 0) (drop (i + 1) s)) where
-    start : starts (getD s i 0) (drop (i + 1) s) ≡ true
+    start : startsChar (getD s i 0) (drop (i + 1) s) ≡ true
     start = by-lead (rw (f, t))
 
     more-is : following (getD s i 0) (drop (i + 1) s) ≡ r .more
@@ -168,23 +170,23 @@ Standing s i Outside = Unit {0}
 
 module _ (s : List ℕ) (i : ℕ) (l : i < length s) where
   reads-here : decode 0 i (drop i s) ≡ reading s i (charAt s i)
-  unfolding charAt decode
+  unfolding charAt
   reads-here =
       let b = getD s i 0 in
       let bs = drop (suc i) s in
       let n = following b bs in
-      cases (starts b bs)
+      cases (startsChar b bs)
       (λ t. cases (xmlChar (codePoint b bs))
-      (λ x. rw (drop-cons s i 0 l, add-one i, t, x, decode-skip n (suc i) bs, drop-drop n (suc i) s))
-      (λ x. rw (drop-cons s i 0 l, add-one i, t, x)))
-      (λ t. rw (drop-cons s i 0 l, add-one i, t))
+      (λ x. rw (drop-cons s i 0 l, decode-char i b bs, add-one i, t, x, decode-skip n (suc i) bs, drop-drop n (suc i) s))
+      (λ x. rw (drop-cons s i 0 l, decode-char i b bs, add-one i, t, x)))
+      (λ t. rw (drop-cons s i 0 l, decode-char i b bs, add-one i, t))
 
   stands-here : Standing s i (charAt s i)
   unfolding charAt
   stands-here =
       let b = getD s i 0 in
       let bs = drop (i + 1) s in
-      cases (starts b bs)
+      cases (startsChar b bs)
       (λ t. cases (xmlChar (codePoint b bs))
       (λ x. rw (t, x) (x, omega arith, omega (arith, following-inside b bs t, length-drop (i + 1) s)))
       (λ x. rw (t, x) tt))

@@ -11,11 +11,11 @@ use lib.Dec.{leb}
 use lib.ListN.{length, getD, drop, length-drop, drop-of-length-le}
 use lib.Seq.{drop-cons}
 use Rattle.label.specs.Bytes.{empty}
-use Rattle.label.specs.Text.{within, Range, Row, _‥_, table, rowFits, fitting, starts, moreBytes, following}
-use Rattle.label.specs.Encoding.{Each}
+use Rattle.label.specs.Text.{within, Range, _‥_, Row, table, rowFits, fitting, startsChar, moreBytes, following}
+use Rattle.label.specs.Statements.Encoding.{Each}
 use Rattle.label.proofs.Basics.{and-r, cases, within-is, within-lo, within-hi, above-range}
-use Rattle.label.proofs.Rows.{_⨾_, Rising, rising, skips, unfit, fits-first, none-below, alone}
-use Rattle.utf8.specs.Rows.{row, no-row, inFirst, behind, chosen, lead, trail}
+use Rattle.label.proofs.Utf8.{_⨾_, Rising, rising, skips, unfit, fits-first, none-below, alone}
+use Rattle.utf8.specs.Rows.{trailingRow, no-row, inFirst, behind, chosen, lead, trail}
 use Rattle.utf8.specs.declared.Trailing.{Trailing}
 
 -- ── the row that a first byte chooses ──
@@ -40,15 +40,15 @@ chosen-nth (r ∷ rs) m (suc k) b (f, fs, e, l, u, o) h =
     rw n (chosen-nth rs (suc (f .hi)) k b o h)
 
 -- written out, the rows by their first bytes are nine tests in the table's order, as in the code
-pub lead-rows : (b : ℕ) → lead b ≡ cond (within 0x00 0x7f b) (row 0 0 0)
-    (cond (within 0xc2 0xdf b) (row 1 0x80 0xbf)
-    (cond (within 0xe0 0xe0 b) (row 2 0xa0 0xbf)
-    (cond (within 0xe1 0xec b) (row 2 0x80 0xbf)
-    (cond (within 0xed 0xed b) (row 2 0x80 0x9f)
-    (cond (within 0xee 0xef b) (row 2 0x80 0xbf)
-    (cond (within 0xf0 0xf0 b) (row 3 0x90 0xbf)
-    (cond (within 0xf1 0xf3 b) (row 3 0x80 0xbf)
-    (cond (within 0xf4 0xf4 b) (row 3 0x80 0x8f) no-row))))))))
+pub lead-rows : (b : ℕ) → lead b ≡ cond (within 0x00 0x7f b) (trailingRow 0 0 0)
+    (cond (within 0xc2 0xdf b) (trailingRow 1 0x80 0xbf)
+    (cond (within 0xe0 0xe0 b) (trailingRow 2 0xa0 0xbf)
+    (cond (within 0xe1 0xec b) (trailingRow 2 0x80 0xbf)
+    (cond (within 0xed 0xed b) (trailingRow 2 0x80 0x9f)
+    (cond (within 0xee 0xef b) (trailingRow 2 0x80 0xbf)
+    (cond (within 0xf0 0xf0 b) (trailingRow 3 0x90 0xbf)
+    (cond (within 0xf1 0xf3 b) (trailingRow 3 0x80 0xbf)
+    (cond (within 0xf4 0xf4 b) (trailingRow 3 0x80 0x8f) no-row))))))))
 unfolding lead chosen table
 lead-rows b = refl
 
@@ -174,25 +174,25 @@ same (r ∷ rs) m o ts b bs =
     (λ w. same-as (rw (i, w)) (skips r rs (b ∷ bs) (unfit r f fs e b bs w)) (same rs (suc (f .hi)) p (ts .1) b bs))
 
 -- so a well-formed character starts where the bytes are those of the row chosen, and has as many bytes
-pub starts-is : (b : ℕ) (bs : List ℕ) → starts b bs ≡ (lead b .fits && trail (lead b .more) (lead b .lo) (lead b .hi) bs)
-unfolding starts lead
+pub starts-is : (b : ℕ) (bs : List ℕ) → startsChar b bs ≡ (lead b .fits && trail (lead b .more) (lead b .lo) (lead b .hi) bs)
+unfolding startsChar lead
 starts-is b bs = same table 0 rising all-trailed b bs .start
 
-pub following-is : (b : ℕ) (bs : List ℕ) → starts b bs ≡ true → following b bs ≡ lead b .more
-unfolding starts lead following
+pub following-is : (b : ℕ) (bs : List ℕ) → startsChar b bs ≡ true → following b bs ≡ lead b .more
+unfolding startsChar lead following
 following-is b bs h = same table 0 rising all-trailed b bs .more h
 
 -- its bytes are there
-pub following-inside : (b : ℕ) (bs : List ℕ) → starts b bs ≡ true → following b bs ≤ length bs
+pub following-inside : (b : ℕ) (bs : List ℕ) → startsChar b bs ≡ true → following b bs ≤ length bs
 following-inside b bs h =
     let x = lead b in
     let t = and-r (x .fits) (trail (x .more) (x .lo) (x .hi) bs) (sym (starts-is b bs) ∙ h) in
     rw (following-is b bs h) (trail-inside (x .more) (x .lo) (x .hi) bs t)
 
 -- a byte below 128 is a character
-pub starts-one : (b : ℕ) (bs : List ℕ) → b ≤ 127 → (starts b bs ≡ true) × (following b bs ≡ 0)
+pub starts-one : (b : ℕ) (bs : List ℕ) → b ≤ 127 → (startsChar b bs ≡ true) × (following b bs ≡ 0)
 unfolding trail table
 starts-one b bs h =
-    let r : row 0 0 0 ≡ lead b = by-row 0 b refl (within-is 0 127 b (omega arith) h) in
-    let t : starts b bs ≡ true = rw (starts-is b bs, ← r) in
+    let r : trailingRow 0 0 0 ≡ lead b = by-row 0 b refl (within-is 0 127 b (omega arith) h) in
+    let t : startsChar b bs ≡ true = rw (starts-is b bs, ← r) in
     (t, following-is b bs t ∙ rw (← r))

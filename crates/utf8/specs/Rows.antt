@@ -8,8 +8,8 @@ use Rattle.label.specs.Text as T
 use Rattle.utf8.specs.declared.Trailing.{Trailing}
 
 -- a row with n bytes behind its first, the second from l to h
-abbrev pub row : ℕ → ℕ → ℕ → Trailing
-row n l h = record { fits = true; more = n; lo = l; hi = h }
+abbrev pub trailingRow : ℕ → ℕ → ℕ → Trailing
+trailingRow n l h = record { fits = true; more = n; lo = l; hi = h }
 
 -- no row has the first byte
 abbrev pub no-row : Trailing
@@ -22,8 +22,8 @@ inFirst (r ∷ rs) b = T.within (r .lo) (r .hi) b
 
 -- what the ranges behind the first say
 abbrev pub behind : List T.Range → Trailing
-behind [] = row 0 0 0
-behind (r ∷ rs) = row (suc (length rs)) (r .lo) (r .hi)
+behind [] = trailingRow 0 0 0
+behind (r ∷ rs) = trailingRow (suc (length rs)) (r .lo) (r .hi)
 
 -- the row of some rows that first byte b chooses
 unfoldable pub chosen : List T.Row → ℕ → Trailing

@@ -1,7 +1,5 @@
-pub mod Signed
-pub mod Signs
+pub mod Loops
 pub mod Places
 pub mod Puts
-pub mod Packs
 pub mod Finds
 pub mod Begins

@@ -1,22 +1,15 @@
-// The leaves that nothing else proves again: truth values, the bits of signed numbers, numbers of a run at a place, little-endian bytes, bytes looked
-// at, and bytes stored as far as there is room.
+// The leaves that nothing else proves again: truth values, numbers in little-endian bytes, bytes looked at, and bytes stored as far as there is room.
 ghost use mathlib.Core.Path.{_≡_};
 ghost use mathlib.Core.Bool.{_&&_, _||_};
 ghost use mathlib.Core.List.{[], _∷_};
-ghost use Prim.Native.Nat.{_+_, _-_, _*_, _/_, _<_, _≤_};
-ghost use lib.IntN.{natAbs};
+ghost use Prim.Native.Nat.{_+_, _-_, _/_, _%_, _<_, _≤_};
 ghost use lib.Dec.{eqb};
 ghost use lib.ListN.{length, getD, drop};
-ghost use mir.Syntax.{w32};
-ghost use mir.Val.{ofZ, toZ};
 ghost use Rattle.label.specs.Bytes.{begins, cut};
 ghost use Rattle.label.specs.Text.{within};
-ghost use Rattle.label.specs.Sound.{natural, choice, nat, size, isFont};
-ghost use Rattle.label.specs.Calls.{filled};
-ghost use Rattle.label.specs.Wire.{fromHalves, fromWords, halves, words};
-ghost use Rattle.words.specs.Places.{place, glyphAt};
-ghost use Rattle.words.specs.Words.{putHalf, halfAt, putWord, wordAt, putInt, intAt};
-ghost use Rattle.words.specs.Puts.{Put};
+ghost use Rattle.label.specs.Wire.{fourBytes};
+ghost use Rattle.words.specs.Words.{halfAt, wordAt};
+ghost use Rattle.words.specs.Puts.{puts, Put};
 
 // ── truth values ──
 
@@ -46,85 +39,6 @@ pub fn less_one(n: usize) -> usize
     if n == 0 { 0 } else { n - 1 }
 }
 
-// ── signed numbers, by their bits ──
-
-// The 32 bits of v, as a number: two's complement. The low 31 by a mask, which is never negative, and the sign's.
-fn bits(v: i32) -> u32
-    ensures { λ r. ⌜ r ≡ ofZ w32 v ⌝ }
-{
-    let low = (v & 0x7fff_ffff) as u32;
-    if v < 0 { low + 0x8000_0000 } else { low }
-}
-
-// The number whose bits are n.
-fn of_bits(n: u32) -> i32
-    ensures { λ r. ⌜ r ≡ toZ w32 n ⌝ }
-{
-    if n < 0x8000_0000 {
-        n as i32
-    } else {
-        (n - 0x8000_0000) as i32 | -0x8000_0000
-    }
-}
-
-// The size of v, by its bits: plain arithmetic.
-pub fn size(v: i32) -> u32
-    ensures { λ r. ⌜ r ≡ natAbs v ⌝ }
-{
-    let n = bits(v);
-    if n < 0x8000_0000 {
-        n
-    } else {
-        0xffff_ffff - n + 1
-    }
-}
-
-// ── a number of a run at a place: the only functions that look at its sign ──
-
-pub fn natural_at(s: &[i32], k: usize) -> bool
-    requires { ⌜ k < length (now s) ⌝ }
-    ensures { λ r. ⌜ r ≡ natural (place (now (s .entry)) k) ⌝ }
-{
-    let v = s[k];
-    0 <= v
-}
-
-pub fn choice_at(s: &[i32], k: usize) -> bool
-    requires { ⌜ k < length (now s) ⌝ }
-    ensures { λ r. ⌜ r ≡ choice (place (now (s .entry)) k) ⌝ }
-{
-    let v = s[k];
-    -1 <= v
-}
-
-pub fn size_at(s: &[i32], k: usize) -> u32
-    requires { ⌜ k < length (now s) ⌝ }
-    ensures { λ r. ⌜ r ≡ size (place (now (s .entry)) k) ⌝ }
-{
-    let v = s[k];
-    size(v)
-}
-
-// 0 for a negative one
-pub fn nat_at(s: &[i32], k: usize) -> u32
-    requires { ⌜ k < length (now s) ⌝ }
-    ensures { λ r. ⌜ r ≡ nat (place (now (s .entry)) k) ⌝ }
-{
-    if natural_at(s, k) { size_at(s, k) } else { 0 }
-}
-
-// whether the glyph whose four numbers begin there is wholly the font's
-pub fn is_font_at(s: &[i32], k: usize) -> bool
-    requires { ⌜ k + 3 < length (now s) ⌝ }
-    ensures { λ r. ⌜ r ≡ isFont (glyphAt (now (s .entry)) k) ⌝ }
-{
-    let named = natural_at(s, k);
-    let given = natural_at(s, k + 1);
-    let u = size_at(s, k + 2);
-    let v = size_at(s, k + 3);
-    both(both(both(!named, !given), u == 0), v == 0)
-}
-
 // ── bytes, low byte first ──
 
 pub fn wide(b: u8) -> u32
@@ -133,14 +47,14 @@ pub fn wide(b: u8) -> u32
     b as u32
 }
 
-fn put_u32(buf: &mut [u8], at: usize, n: u32)
+pub fn put_u32(buf: &mut [u8], at: usize, n: u32)
     requires { ⌜ at + 3 < length (now buf) ⌝ }
-    ensures { λ _. ⌜ now (buf .exit) ≡ putWord (now (buf .entry)) at n ⌝ }
+    ensures { λ _. ⌜ now (buf .exit) ≡ puts (now (buf .entry)) at (fourBytes n) ⌝ }
 {
     buf[at] = (n & 0xff) as u8;
     buf[at + 1] = (n >> 8 & 0xff) as u8;
     buf[at + 2] = (n >> 16 & 0xff) as u8;
-    buf[at + 3] = (n >> 24 & 0xff) as u8;
+    buf[at + 3] = (n >> 24) as u8;
 }
 
 pub fn get_u32(buf: &[u8], at: usize) -> u32
@@ -154,20 +68,6 @@ pub fn get_u32(buf: &[u8], at: usize) -> u32
     b0 + b1 * 256 + b2 * 65536 + b3 * 16777216
 }
 
-pub fn put_i32(buf: &mut [u8], at: usize, v: i32)
-    requires { ⌜ at + 3 < length (now buf) ⌝ }
-    ensures { λ _. ⌜ now (buf .exit) ≡ putInt (now (buf .entry)) at v ⌝ }
-{
-    put_u32(buf, at, bits(v));
-}
-
-fn get_i32(buf: &[u8], at: usize) -> i32
-    requires { ⌜ at + 3 < length (now buf) ⌝ }
-    ensures { λ r. ⌜ r ≡ intAt (now (buf .entry)) at ⌝ }
-{
-    of_bits(get_u32(buf, at))
-}
-
 // A byte as half of a 16-bit number.
 fn half(b: u8) -> u16
     ensures { λ r. ⌜ (r ≡ b) × (r < 256) ⌝ }
@@ -175,9 +75,9 @@ fn half(b: u8) -> u16
     b as u16
 }
 
-fn put_u16(buf: &mut [u8], at: usize, n: u16)
+pub fn put_u16(buf: &mut [u8], at: usize, n: u16)
     requires { ⌜ at + 1 < length (now buf) ⌝ }
-    ensures { λ _. ⌜ now (buf .exit) ≡ putHalf (now (buf .entry)) at n ⌝ }
+    ensures { λ _. ⌜ now (buf .exit) ≡ puts (now (buf .entry)) at (n % 256 ∷ n / 256 ∷ []) ⌝ }
 {
     buf[at] = (n & 0xff) as u8;
     buf[at + 1] = (n >> 8) as u8;
@@ -240,61 +140,6 @@ pub fn stands_at(s: &[u8], at: usize, w: &[u8]) -> bool
         i += 1;
     }
     true
-}
-
-// ── a run's numbers as bytes and back; what stands behind them stays ──
-
-pub fn pack_units(src: &[u16], out: &mut [u8])
-    requires { ⌜ 2 * length (now src) ≤ length (now out) ⌝ }
-    ensures { λ _. ⌜ now (out .exit) ≡ filled (fromHalves (now (src .entry))) (now (out .entry)) ⌝ }
-{
-    let mut i = 0;
-    while i < src.len() {
-        let at = 2 * i;
-        put_u16(out, at, src[i]);
-        i += 1;
-    }
-}
-
-pub fn pack_numbers(src: &[i32], out: &mut [u8])
-    requires { ⌜ 4 * length (now src) ≤ length (now out) ⌝ }
-    ensures { λ _. ⌜ now (out .exit) ≡ filled (fromWords (now (src .entry))) (now (out .entry)) ⌝ }
-{
-    let mut i = 0;
-    while i < src.len() {
-        let v = src[i];
-        let at = 4 * i;
-        put_i32(out, at, v);
-        i += 1;
-    }
-}
-
-pub fn unpack_units(src: &[u8], out: &mut [u16])
-    requires { ⌜ length (now src) / 2 ≤ length (now out) ⌝ }
-    ensures { λ _. ⌜ now (out .exit) ≡ filled (halves (now (src .entry))) (now (out .entry)) ⌝ }
-{
-    let mut k = 0;
-    let mut i = 0;
-    while 2 <= src.len() - k {
-        let u = get_u16(src, k);
-        out[i] = u;
-        k += 2;
-        i += 1;
-    }
-}
-
-pub fn unpack_numbers(src: &[u8], out: &mut [i32])
-    requires { ⌜ length (now src) / 4 ≤ length (now out) ⌝ }
-    ensures { λ _. ⌜ now (out .exit) ≡ filled (words (now (src .entry))) (now (out .entry)) ⌝ }
-{
-    let mut k = 0;
-    let mut i = 0;
-    while 4 <= src.len() - k {
-        let v = get_i32(src, k);
-        out[i] = v;
-        k += 4;
-        i += 1;
-    }
 }
 
 // ── bytes, stored as far as there is room ──

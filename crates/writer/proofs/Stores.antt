@@ -9,17 +9,24 @@ use borrow.Author.Tests.{lt-ltb, le-ltb, ltb-false}
 use lib.Dec.{ltb}
 use lib.IntN.{ℤ}
 use lib.ListN.{length, drop, length-append}
-use Rattle.label.specs.Bytes.{empty, join, joinRest, trim}
-use Rattle.label.specs.Write.{entryBytes, written, indicesOf}
+use Rattle.label.specs.Bytes.{empty, joinRest, join, trim}
+use Rattle.label.specs.Wire.{signed}
 use Rattle.label.specs.Sound.{nat, clustersOf, glyphsOf}
+use Rattle.label.specs.Write.{entryBytes, entryList, indicesOf}
 use Rattle.label.proofs.Basics.{cases}
-use Rattle.words.specs.Places.{clusterAt, glyphAt, place}
 use Rattle.words.specs.Puts.{Put}
 use Rattle.words.proofs.Puts.{Left, left-next, left-as}
+use Rattle.wire.specs.Numbers.{clusterAt, glyphAt, glyphOf, place}
 use Rattle.sound.proofs.Parts.{glyphs-at, glyphs-end, clusters-at, clusters-end}
 use Rattle.writer.specs.Entries.{semis, led, owing}
 
 -- ── the entries ──
+
+-- the glyph at a place, by the four numbers fetched
+pub glyph-is : (gs : List ℤ) (k x y z w : ℕ) → signed x ≡ place gs k → signed y ≡ place gs (k + 1) → signed z ≡ place gs (k + 2) → signed w ≡ place gs (k + 3)
+    → glyphOf (signed x) (signed y) (signed z) (signed w) ≡ glyphAt gs k
+unfolding glyphAt
+glyph-is gs k x y z w ex ey ez ew = rw (ex, ey, ez, ew)
 
 pub semis-step : (m : ℕ) → 0 < m → semis m ≡ (59 ∷ []) ++ semis (m - 1)
 unfolding semis
@@ -75,11 +82,11 @@ kept-none (x ∷ r) = refl
 
 -- the entries from these places of the clusters' and the glyphs' numbers on
 unfoldable pub writtenAt : List ℤ → List ℤ → ℕ → ℕ → ℕ → List (List ℕ)
-writtenAt cs gs lack i k = written lack (clustersOf (drop i cs)) (glyphsOf (drop k gs))
+writtenAt cs gs lack i k = entryList lack (clustersOf (drop i cs)) (glyphsOf (drop k gs))
 
 pub indices-start : (cs gs : List ℤ) → indicesOf (clustersOf cs) (glyphsOf gs) ≡ owed 0 (writtenAt cs gs 0 0 0)
 unfolding indicesOf writtenAt
-indices-start cs gs = sym (owed-kept 0 (written 0 (clustersOf cs) (glyphsOf gs)) ∙ kept-none (trim (written 0 (clustersOf cs) (glyphsOf gs))))
+indices-start cs gs = sym (owed-kept 0 (entryList 0 (clustersOf cs) (glyphsOf gs)) ∙ kept-none (trim (entryList 0 (clustersOf cs) (glyphsOf gs))))
 
 module _ (cs gs : List ℤ) (n lack i k : ℕ) where
   -- what is left to store
@@ -87,25 +94,25 @@ module _ (cs gs : List ℤ) (n lack i k : ℕ) where
   rest = owed n (writtenAt cs gs lack i k)
 
   pub rest-end : length gs - k < 4 → rest ≡ []
-  unfolding writtenAt written owed
-  rest-end h = rw (glyphs-end gs k h, written)
+  unfolding writtenAt entryList owed
+  rest-end h = rw (glyphs-end gs k h, entryList)
 
   pub rest-none : 4 ≤ length gs - k → lack ≡ 0 → length cs - i < 2 → rest ≡ []
-  unfolding writtenAt written owed
-  rest-none h l e = rw (glyphs-at gs k h, clusters-end cs i e, l, written)
+  unfolding writtenAt entryList owed
+  rest-none h l e = rw (glyphs-at gs k h, clusters-end cs i e, l, entryList)
 
   pub rest-further : 4 ≤ length gs - k → 0 < lack → rest ≡ led n (entryBytes 1 1 (glyphAt gs k)) ++ owed (owing n (entryBytes 1 1 (glyphAt gs k))) (writtenAt cs gs (lack - 1) i (k + 4))
-  unfolding writtenAt written owed
+  unfolding writtenAt entryList owed
   rest-further h l = rw (glyphs-at gs k h) (by lack l)
     where
-      by : (m : ℕ) → 0 < m → owed n (written m (clustersOf (drop i cs)) (glyphAt gs k ∷ glyphsOf (drop (k + 4) gs))) ≡ led n (entryBytes 1 1 (glyphAt gs k)) ++ owed (owing n (entryBytes 1 1 (glyphAt gs k))) (written (m - 1) (clustersOf (drop i cs)) (glyphsOf (drop (k + 4) gs)))
+      by : (m : ℕ) → 0 < m → owed n (entryList m (clustersOf (drop i cs)) (glyphAt gs k ∷ glyphsOf (drop (k + 4) gs))) ≡ led n (entryBytes 1 1 (glyphAt gs k)) ++ owed (owing n (entryBytes 1 1 (glyphAt gs k))) (entryList (m - 1) (clustersOf (drop i cs)) (glyphsOf (drop (k + 4) gs)))
       by zero l = absurd (omega arith)
       by (suc m) l = let e : suc m - 1 ≡ m = omega arith in rw e
 
   pub rest-opens : {a b d : ℕ} → a ≡ nat (place cs i) → b ≡ nat (place cs (i + 1)) → d ≡ b - 1 → 4 ≤ length gs - k → lack ≡ 0 → 2 ≤ length cs - i
       → rest ≡ led n (entryBytes a b (glyphAt gs k)) ++ owed (owing n (entryBytes a b (glyphAt gs k))) (writtenAt cs gs d (i + 2) (k + 4))
-  unfolding writtenAt written owed clusterAt
-  rest-opens p q d h l e = rw (d, p, q, glyphs-at gs k h, clusters-at cs i e, l, written)
+  unfolding writtenAt entryList owed clusterAt
+  rest-opens p q d h l e = rw (d, p, q, glyphs-at gs k h, clusters-at cs i e, l, entryList)
 
 -- ── a turn of the loop: an entry x was stored from `at` up to p, and r separators are owed after it ──
 

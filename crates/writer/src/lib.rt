@@ -1,20 +1,23 @@
-// The writer: a sound run's normal writing, text and indices, escaped where that is asked for.
+// The writer: a sound run's normal writing, text and indices, escaped where that is asked for. The run is read where it stands, in its bytes.
+ghost use Rattle.label.specs.Places.{places};
 ghost use mathlib.Core.Path.{_≡_};
-ghost use mathlib.Core.Bool.{true, cond};
+ghost use mathlib.Core.Bool.{cond};
 ghost use Prim.Native.Nat.{_+_, _<_, _≤_};
 ghost use lib.ListN.{length};
-ghost use Rattle.label.specs.Calls.{refusal, writingOutcome, writeInto, writeAsked, lengths, textAfter, indicesAfter};
-ghost use Rattle.label.specs.Write.{entryBytes, indicesOf};
+ghost use Rattle.label.specs.Wire.{words as wordsOf};
 ghost use Rattle.label.specs.Sound.{clustersOf, glyphsOf};
+ghost use Rattle.label.specs.Write.{entryBytes, indicesOf};
+ghost use Rattle.label.specs.Calls.{refusal, writingOutcome, lengths, textAfter, indicesAfter, writeAsked, outputs};
 ghost use Rattle.words.specs.Puts.{Put};
-ghost use Rattle.words.specs.Places.{glyphAt};
+ghost use Rattle.wire.specs.Numbers.{glyphAt};
 ghost use Rattle.writer.specs.Entries.{semis, led};
 use label::Lengths;
 use label::Refusal;
 use label::Writing;
 
-// ── the indices, stored as far as there is room ──
 // Each `put_..` stores its bytes from `at` on and returns the place behind them; where `out` ends, it only counts.
+
+// ── the indices, stored as far as there is room ──
 
 fn put_semis(out: &mut [u8], at: usize, n: usize) -> usize
     requires { ⌜ (at < 1000000000000000000) × (n < 100000000000000000) ⌝ }
@@ -31,16 +34,20 @@ fn put_semis(out: &mut [u8], at: usize, n: usize) -> usize
 }
 
 // The entry of the glyph at place k, with the separators owed before it; nothing for a glyph wholly the font's, whose entry has no bytes.
-fn put_next(out: &mut [u8], at: usize, owed: usize, a: u32, b: u32, gs: &[i32], k: usize) -> usize
-    requires { ⌜ (at < 1000000000000000000) × (owed < 100000000000000000) × (k + 3 < length (now gs)) ⌝ }
-    ensures { λ r. ⌜ Put (now (out .entry)) at (led owed (entryBytes a b (glyphAt (now (gs .entry)) k))) r (now (out .exit)) ⌝ }
+fn put_next(out: &mut [u8], at: usize, owed: usize, a: u32, b: u32, gs: &[u8], k: usize) -> usize
+    requires { ⌜ (at < 1000000000000000000) × (owed < 100000000000000000) × (k + 3 < length (wordsOf (now gs))) ⌝ }
+    ensures { λ r. ⌜ Put (now (out .entry)) at (led owed (entryBytes a b (glyphAt (wordsOf (now (gs .entry))) k))) r (now (out .exit)) ⌝ }
     ensures bounds { λ r. ⌜ r ≤ at + owed + 80 ⌝ }
 {
-    if words::is_font_at(gs, k) {
+    let index = wire::number_at(gs, k);
+    let advance = wire::number_at(gs, k + 1);
+    let u = wire::number_at(gs, k + 2);
+    let v = wire::number_at(gs, k + 3);
+    if wire::is_font(index, advance, u, v) {
         return at;
     }
     let p = put_semis(out, at, owed);
-    entry_bytes::put_entry(out, p, a, b, gs, k)
+    entry_bytes::put_entry(out, p, a, b, index, advance, u, v)
 }
 
 // The separators owed before the next entry: one, and those before an entry that was not stored.
@@ -54,16 +61,18 @@ fn owes(stored: bool, owed: usize) -> usize
 
 // The indices of a run. Entries without bytes at the end are never stored, as the separators before an entry are stored with it.
 // `lack`: glyphs that the open cluster still lacks.
-fn put_indices(out: &mut [u8], cs: &[i32], gs: &[i32]) -> usize
-    requires { ⌜ length (now gs) ≤ 1000000000000 ⌝ }
-    ensures { λ r. ⌜ Put (now (out .entry)) 0 (indicesOf (clustersOf (now (cs .entry))) (glyphsOf (now (gs .entry)))) r (now (out .exit)) ⌝ }
+fn put_indices(out: &mut [u8], cs: &[u8], gs: &[u8]) -> usize
+    requires { ⌜ length (wordsOf (now gs)) ≤ 1000000000000 ⌝ }
+    ensures { λ r. ⌜ Put (now (out .entry)) 0 (indicesOf (clustersOf (wordsOf (now (cs .entry)))) (glyphsOf (wordsOf (now (gs .entry))))) r (now (out .exit)) ⌝ }
 {
+    let counts = wire::number_count(cs);
+    let numbers = wire::number_count(gs);
     let mut lack = 0;
     let mut i = 0;
     let mut k = 0;
     let mut at = 0;
     let mut owed = 0;
-    while 4 <= gs.len() - k {
+    while 4 <= numbers - k {
         if 0 < lack {
             let p = put_next(out, at, owed, 1, 1, gs, k);
             owed = owes(at < p, owed);
@@ -72,11 +81,11 @@ fn put_indices(out: &mut [u8], cs: &[i32], gs: &[i32]) -> usize
             k += 4;
             continue;
         }
-        if cs.len() - i < 2 {
+        if counts - i < 2 {
             return at;
         }
-        let a = words::nat_at(cs, i);
-        let b = words::nat_at(cs, i + 1);
+        let a = wire::nat(wire::number_at(cs, i));
+        let b = wire::nat(wire::number_at(cs, i + 1));
         let p = put_next(out, at, owed, a, b, gs, k);
         owed = owes(at < p, owed);
         at = p;
@@ -88,9 +97,9 @@ fn put_indices(out: &mut [u8], cs: &[i32], gs: &[i32]) -> usize
 }
 
 // How many bytes the indices of a run have.
-fn indices_length(cs: &[i32], gs: &[i32]) -> usize
-    requires { ⌜ length (now gs) ≤ 1000000000000 ⌝ }
-    ensures { λ r. ⌜ r ≡ length (indicesOf (clustersOf (now (cs .entry))) (glyphsOf (now (gs .entry)))) ⌝ }
+fn indices_length(cs: &[u8], gs: &[u8]) -> usize
+    requires { ⌜ length (wordsOf (now gs)) ≤ 1000000000000 ⌝ }
+    ensures { λ r. ⌜ r ≡ length (indicesOf (clustersOf (wordsOf (now (cs .entry)))) (glyphsOf (wordsOf (now (gs .entry))))) ⌝ }
 {
     let mut none = [0u8; 1];
     put_indices(&mut none, cs, gs)
@@ -107,15 +116,15 @@ fn refused(number: usize, place: usize) -> Writing
 // The writing of a run as it is asked for, where the run is sound and both outputs have room. Indices have no byte to escape.
 pub fn write_as(
     escape: bool,
-    units: &[u16],
-    clusters: &[i32],
-    glyphs: &[i32],
+    units: &[u8],
+    clusters: &[u8],
+    glyphs: &[u8],
     text: &mut [u8],
     indices: &mut [u8],
 ) -> Writing
-    ensures result { λ r. ⌜ writingOutcome r ≡ lengths (writeAsked escape (length (now (text .entry))) (length (now (indices .entry))) (now (units .entry)) (now (clusters .entry)) (now (glyphs .entry))) ⌝ }
-    ensures text { λ r. ⌜ now (text .exit) ≡ textAfter (writeAsked escape (length (now (text .entry))) (length (now (indices .entry))) (now (units .entry)) (now (clusters .entry)) (now (glyphs .entry))) (now (text .entry)) ⌝ }
-    ensures indices { λ r. ⌜ now (indices .exit) ≡ indicesAfter (writeAsked escape (length (now (text .entry))) (length (now (indices .entry))) (now (units .entry)) (now (clusters .entry)) (now (glyphs .entry))) (now (indices .entry)) ⌝ }
+    ensures result { λ r. ⌜ writingOutcome r ≡ lengths (writeAsked escape (outputs (now (text .entry)) (now (indices .entry))) (places (now (units .entry)) (now (clusters .entry)) (now (glyphs .entry)))) ⌝ }
+    ensures text { λ r. ⌜ now (text .exit) ≡ textAfter (writeAsked escape (outputs (now (text .entry)) (now (indices .entry))) (places (now (units .entry)) (now (clusters .entry)) (now (glyphs .entry)))) (now (text .entry)) ⌝ }
+    ensures indices { λ r. ⌜ now (indices .exit) ≡ indicesAfter (writeAsked escape (outputs (now (text .entry)) (now (indices .entry))) (places (now (units .entry)) (now (clusters .entry)) (now (glyphs .entry)))) (now (indices .entry)) ⌝ }
 {
     let is_sound = sound::is_sound(units, clusters, glyphs);
     if !is_sound {
@@ -135,34 +144,4 @@ pub fn write_as(
         text: text_bytes,
         indices: indices_bytes,
     })
-}
-
-// The normal writing of a run, where it is sound and both outputs have room.
-pub fn write(
-    units: &[u16],
-    clusters: &[i32],
-    glyphs: &[i32],
-    text: &mut [u8],
-    indices: &mut [u8],
-) -> Writing
-    ensures result { λ r. ⌜ writingOutcome r ≡ lengths (writeInto (length (now (text .entry))) (length (now (indices .entry))) (now (units .entry)) (now (clusters .entry)) (now (glyphs .entry))) ⌝ }
-    ensures text { λ r. ⌜ now (text .exit) ≡ textAfter (writeInto (length (now (text .entry))) (length (now (indices .entry))) (now (units .entry)) (now (clusters .entry)) (now (glyphs .entry))) (now (text .entry)) ⌝ }
-    ensures indices { λ r. ⌜ now (indices .exit) ≡ indicesAfter (writeInto (length (now (text .entry))) (length (now (indices .entry))) (now (units .entry)) (now (clusters .entry)) (now (glyphs .entry))) (now (indices .entry)) ⌝ }
-{
-    write_as(false, units, clusters, glyphs, text, indices)
-}
-
-// The same with `&`, `<`, `"`, tab, line feed and carriage return as references, for an attribute of XML.
-pub fn write_escaped(
-    units: &[u16],
-    clusters: &[i32],
-    glyphs: &[i32],
-    text: &mut [u8],
-    indices: &mut [u8],
-) -> Writing
-    ensures result { λ r. ⌜ writingOutcome r ≡ lengths (writeAsked true (length (now (text .entry))) (length (now (indices .entry))) (now (units .entry)) (now (clusters .entry)) (now (glyphs .entry))) ⌝ }
-    ensures text { λ r. ⌜ now (text .exit) ≡ textAfter (writeAsked true (length (now (text .entry))) (length (now (indices .entry))) (now (units .entry)) (now (clusters .entry)) (now (glyphs .entry))) (now (text .entry)) ⌝ }
-    ensures indices { λ r. ⌜ now (indices .exit) ≡ indicesAfter (writeAsked true (length (now (text .entry))) (length (now (indices .entry))) (now (units .entry)) (now (clusters .entry)) (now (glyphs .entry))) (now (indices .entry)) ⌝ }
-{
-    write_as(true, units, clusters, glyphs, text, indices)
 }

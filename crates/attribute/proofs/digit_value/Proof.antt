@@ -1,5 +1,5 @@
 -- `attribute::digit_value` meets its contract. Assumes nothing.
-use Rattle.label.specs.Attribute.{digitValue}
+use Rattle.label.specs.Requests.Attribute.{digitValue}
 use Rattle.label.proofs.Basics.{within-lo, within-hi}
 use mathlib.Core.Path.{sym, _∙_}
 use native.Mathlib.Omega.{arith}

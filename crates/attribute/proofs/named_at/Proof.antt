@@ -1,7 +1,7 @@
 -- `attribute::named_at` meets its contract. Assumes nothing.
 use Rattle.attribute.proofs.Names.{hit, missed, names}
-use Rattle.label.specs.Text.{xmlChar}
 use Rattle.label.specs.Bytes.{ascii}
+use Rattle.label.specs.Text.{xmlChar}
 use mathlib.Core.Path.{refl}
 use borrow.Author.Needs.{needs}
 use Rattle.attribute.proofs.named_at.Statement.{statement}

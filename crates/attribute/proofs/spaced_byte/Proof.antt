@@ -1,5 +1,5 @@
 -- `attribute::spaced_byte` meets its contract. Assumes nothing.
-use Rattle.label.specs.Attribute.{spaced}
+use Rattle.label.specs.Requests.Attribute.{spaced}
 use lib.Dec.{eqb}
 use mathlib.Core.Bool.{Bool, _||_}
 use mathlib.Core.Path.{sym, _∙_, ap}

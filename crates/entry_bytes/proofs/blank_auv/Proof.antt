@@ -1,14 +1,12 @@
 -- `entry_bytes::blank_auv` meets its contract. Assumes nothing.
-use borrow.Author.Needs.{needs}
 use Rattle.entry_bytes.proofs.WriteLaws.{blank-auv-is}
+use Rattle.label.specs.Wire.{signed}
+use borrow.Author.Needs.{needs}
 use Rattle.entry_bytes.proofs.blank_auv.Statement.{statement}
 use Rattle.entry_bytes.proofs.blank_auv.Tie as tie
 
-natural-at-requires : tie.Need-natural-at-requires
-natural-at-requires c κs = search needs
-
-add-blank-uv : tie.Need-add-blank-uv
-add-blank-uv c = search needs
+is-natural-requires : tie.Need-is-natural-requires
+is-natural-requires c κs = search needs
 
 blank-uv-requires : tie.Need-blank-uv-requires
 blank-uv-requires c κs = search needs
@@ -17,8 +15,10 @@ both-requires : tie.Need-both-requires
 both-requires c κs = search needs
 
 returns : tie.Need-returns
-returns c = blank-auv-is _ _ _ (c .before .before .natural-at .ensures) (c .before .blank-uv .ensures) (c .both .ensures)
+returns c =
+    let start = c .before .before .before in
+    blank-auv-is (signed (start .args .a)) (signed (start .args .u)) (signed (start .args .v)) (c .before .before .is-natural .ensures)
+    (c .before .blank-uv .ensures) (c .both .ensures)
 
 pub blank-auv-spec : {M : Type 1} → statement M
-blank-auv-spec =
-    tie.close (tie.spec natural-at-requires add-blank-uv blank-uv-requires both-requires returns)
+blank-auv-spec = tie.close (tie.spec is-natural-requires blank-uv-requires both-requires returns)

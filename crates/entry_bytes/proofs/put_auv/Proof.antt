@@ -1,11 +1,9 @@
 -- `entry_bytes::put_auv` meets its contract. Assumes nothing.
-use Prim.Native.Nat.{_+_}
-use native.Mathlib.Omega.{arith}
-use lib.IntN.{pos}
-use lib.ListN.{getD}
-use borrow.Author.Needs.{needs}
-use Rattle.words.proofs.Puts.{then, none, put-as}
 use Rattle.entry_bytes.proofs.WriteLaws.{fields-blank, fields-auv}
+use Rattle.words.proofs.Puts.{then, none, put-as}
+use Rattle.label.specs.Wire.{signed}
+use native.Mathlib.Omega.{arith}
+use borrow.Author.Needs.{needs}
 use Rattle.entry_bytes.proofs.put_auv.Statement.{statement}
 use Rattle.entry_bytes.proofs.put_auv.Tie as tie
 
@@ -18,11 +16,8 @@ returns c = (put-as (fields-blank _ (c .before .blank-auv .ensures) (c .if1 .tak
 put-byte-requires : tie.Need-put-byte-requires
 put-byte-requires c κs = search needs
 
-put-advance-at-requires : tie.Need-put-advance-at-requires
-put-advance-at-requires c κs = search needs
-
-add-put-uv : tie.Need-add-put-uv
-add-put-uv c = search needs
+put-advance-requires : tie.Need-put-advance-requires
+put-advance-requires c κs = search needs
 
 put-uv-requires : tie.Need-put-uv-requires
 put-uv-requires c κs = search needs
@@ -31,7 +26,16 @@ same-length : tie.Need-same-length
 same-length c = search needs
 
 returns-2 : tie.Need-returns-2
-returns-2 c = (put-as (fields-auv (getD (c .before .before .before .before .before .before .before .before .before .before .before .before .before .before .before .args .s .now) (c .before .before .before .before .before .before .before .before .before .before .before .before .before .before .before .args .k) (pos 0)) (getD (c .before .before .before .before .before .before .before .before .before .before .before .before .before .before .before .args .s .now) (c .before .before .before .before .before .before .before .before .before .before .before .before .before .before .before .args .k + 1) (pos 0)) (getD (c .before .before .before .before .before .before .before .before .before .before .before .before .before .before .before .args .s .now) (c .before .before .before .before .before .before .before .before .before .before .before .before .before .before .before .args .k + 1 + 1) (pos 0)) (c .before .before .before .before .before .before .before .before .before .before .before .before .before .blank-auv .ensures) (c .before .before .before .before .before .before .before .before .before .before .before .before .if1 .left)) (then (c .before .before .before .before .before .before .before .before .before .before .put-byte .ensures .0) (then (c .before .before .before .before .before .before .put-advance-at .ensures .0) (c .before .before .put-uv .ensures .0))), omega arith)
+returns-2 c =
+    let at-put-advance = c .before .before .before .before .before .before in
+    let at-put-byte = at-put-advance .before .before .before .before in
+    let at-if1 = at-put-byte .before .before in
+    let at-blank-auv = at-if1 .before in
+    let start = at-blank-auv .before .before in (
+      put-as (fields-auv (signed (start .args .a)) (signed (start .args .u)) (signed (start .args .v)) (at-blank-auv .blank-auv .ensures) (at-if1 .if1 .left))
+          (then (at-put-byte .put-byte .ensures .0) (then (at-put-advance .put-advance .ensures .0) (c .before .before .put-uv .ensures .0))),
+      omega arith,
+    )
 
 pub put-auv-spec : {M : Type 1} → statement M
 put-auv-spec =
@@ -40,8 +44,7 @@ put-auv-spec =
     blank-auv-requires
     returns
     put-byte-requires
-    put-advance-at-requires
-    add-put-uv
+    put-advance-requires
     put-uv-requires
     same-length
     returns-2)

@@ -1,16 +1,14 @@
 -- `entry_bytes::put_entry` meets its contract. Assumes nothing.
-use native.Mathlib.Omega.{arith}
-use Rattle.words.proofs.Puts.{then, put-as}
 use Rattle.entry_bytes.proofs.WriteLaws.{entry-is}
+use Rattle.words.proofs.Puts.{then, put-as}
+use Rattle.label.specs.Wire.{signed}
+use native.Mathlib.Omega.{arith}
 use borrow.Author.Needs.{needs}
 use Rattle.entry_bytes.proofs.put_entry.Statement.{statement}
 use Rattle.entry_bytes.proofs.put_entry.Tie as tie
 
-put-index-at-requires : tie.Need-put-index-at-requires
-put-index-at-requires c κs = search needs
-
-add-put-auv : tie.Need-add-put-auv
-add-put-auv c = search needs
+put-index-requires : tie.Need-put-index-requires
+put-index-requires c κs = search needs
 
 put-auv-requires : tie.Need-put-auv-requires
 put-auv-requires c κs = search needs
@@ -19,8 +17,14 @@ same-length : tie.Need-same-length
 same-length c = search needs
 
 returns : tie.Need-returns
-returns c = (put-as (entry-is (c .before .before .before .before .before .before .before .before .before .args .a) (c .before .before .before .before .before .before .before .before .before .args .b) (c .before .before .before .before .before .before .before .before .before .args .s .now) (c .before .before .before .before .before .before .before .before .before .args .k)) (then (c .before .before .before .before .before .before .put-index-at .ensures .0) (c .before .before .put-auv .ensures .0)), omega arith)
+returns c =
+    let at-put-index = c .before .before .before .before .before .before in
+    let start = at-put-index .before .before .before in
+    let a = start .args in (
+      put-as (entry-is (a .a) (a .b) (signed (a .index)) (signed (a .advance)) (signed (a .u)) (signed (a .v)))
+          (then (at-put-index .put-index .ensures .0) (c .before .before .put-auv .ensures .0)),
+      omega arith,
+    )
 
 pub put-entry-spec : {M : Type 1} → statement M
-put-entry-spec =
-    tie.close (tie.spec put-index-at-requires add-put-auv put-auv-requires same-length returns)
+put-entry-spec = tie.close (tie.spec put-index-requires put-auv-requires same-length returns)

@@ -1,11 +1,9 @@
 -- `entry_bytes::put_uv` meets its contract. Assumes nothing.
-use Prim.Native.Nat.{_+_}
-use native.Mathlib.Omega.{arith}
-use lib.IntN.{pos}
-use lib.ListN.{getD}
-use borrow.Author.Needs.{needs}
-use Rattle.words.proofs.Puts.{then, none, put-as}
 use Rattle.entry_bytes.proofs.WriteLaws.{fields-blank, fields-uv}
+use Rattle.words.proofs.Puts.{then, none, put-as}
+use Rattle.label.specs.Wire.{signed}
+use native.Mathlib.Omega.{arith}
+use borrow.Author.Needs.{needs}
 use Rattle.entry_bytes.proofs.put_uv.Statement.{statement}
 use Rattle.entry_bytes.proofs.put_uv.Tie as tie
 
@@ -18,11 +16,8 @@ returns c = (put-as (fields-blank _ (c .before .blank-uv .ensures) (c .if1 .take
 put-byte-requires : tie.Need-put-byte-requires
 put-byte-requires c κs = search needs
 
-put-offset-at-requires : tie.Need-put-offset-at-requires
-put-offset-at-requires c κs = search needs
-
-add-put-v : tie.Need-add-put-v
-add-put-v c = search needs
+put-offset-requires : tie.Need-put-offset-requires
+put-offset-requires c κs = search needs
 
 put-v-requires : tie.Need-put-v-requires
 put-v-requires c κs = search needs
@@ -31,7 +26,16 @@ same-length : tie.Need-same-length
 same-length c = search needs
 
 returns-2 : tie.Need-returns-2
-returns-2 c = (put-as (fields-uv (getD (c .before .before .before .before .before .before .before .before .before .before .before .before .before .before .before .args .s .now) (c .before .before .before .before .before .before .before .before .before .before .before .before .before .before .before .args .k) (pos 0)) (getD (c .before .before .before .before .before .before .before .before .before .before .before .before .before .before .before .args .s .now) (c .before .before .before .before .before .before .before .before .before .before .before .before .before .before .before .args .k + 1) (pos 0)) (c .before .before .before .before .before .before .before .before .before .before .before .before .before .blank-uv .ensures) (c .before .before .before .before .before .before .before .before .before .before .before .before .if1 .left)) (then (c .before .before .before .before .before .before .before .before .before .before .put-byte .ensures .0) (then (c .before .before .before .before .before .before .put-offset-at .ensures .0) (c .before .before .put-v .ensures .0))), omega arith)
+returns-2 c =
+    let at-put-offset = c .before .before .before .before .before .before in
+    let at-put-byte = at-put-offset .before .before .before .before in
+    let at-if1 = at-put-byte .before .before in
+    let at-blank-uv = at-if1 .before in
+    let start = at-blank-uv .before .before in (
+      put-as (fields-uv (signed (start .args .u)) (signed (start .args .v)) (at-blank-uv .blank-uv .ensures) (at-if1 .if1 .left))
+          (then (at-put-byte .put-byte .ensures .0) (then (at-put-offset .put-offset .ensures .0) (c .before .before .put-v .ensures .0))),
+      omega arith,
+    )
 
 pub put-uv-spec : {M : Type 1} → statement M
 put-uv-spec =
@@ -40,8 +44,7 @@ put-uv-spec =
     blank-uv-requires
     returns
     put-byte-requires
-    put-offset-at-requires
-    add-put-v
+    put-offset-requires
     put-v-requires
     same-length
     returns-2)

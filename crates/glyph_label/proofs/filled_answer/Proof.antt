@@ -1,3 +1,4 @@
+-- `glyph_label::filled_answer` meets its contract. Assumes nothing.
 use native.Mathlib.Omega.{arith}
 use mathlib.Core.Path.{sym, ap, subst}
 use Rattle.label.specs.Calls.{fillingOutcome}
@@ -17,15 +18,12 @@ enum-known-r-2 c = search needs
 cast-t5 : tie.Need-cast-t5
 cast-t5 c = omega (arith, subst (λ (a : Filling). FilledFits (fillingOutcome a)) (c .before .before .r2 .given .1) (c .before .before .before .before .pre))
 
-place-32-requires : tie.Need-place-32-requires
-place-32-requires c κs = search needs
-
 returns : tie.Need-returns
 returns c = sym (ap (λ (a : Filling). filledAnswer (fillingOutcome a)) (c .before .r .given .1))
 
 returns-2 : tie.Need-returns-2
-returns-2 c = rw (c .place-32 .ensures) (sym (ap (λ (a : Filling). filledAnswer (fillingOutcome a)) (c .before .before .before .r2 .given .1)))
+returns-2 c = sym (ap (λ (a : Filling). filledAnswer (fillingOutcome a)) (c .before .before .r2 .given .1))
 
 pub filled-answer-spec : {M : Type 1} → statement M
 filled-answer-spec =
-    tie.close (tie.spec enum-known-r enum-known-r-2 cast-t5 place-32-requires returns returns-2)
+    tie.close (tie.spec enum-known-r enum-known-r-2 cast-t5 returns returns-2)

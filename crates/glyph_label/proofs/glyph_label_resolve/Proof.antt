@@ -1,3 +1,4 @@
+-- `glyph_label::glyph_label_resolve` meets its contract. Assumes nothing.
 use Rattle.glyph_label.proofs.Bounds.{filled-fits}
 use Rattle.glyph_label.specs.Fits.{FilledFits}
 use Rattle.glyph_label.specs.Answers.{filledAnswer}

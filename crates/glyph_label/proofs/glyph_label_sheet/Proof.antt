@@ -7,18 +7,18 @@ use borrow.Author.Needs.{needs}
 use Rattle.glyph_label.proofs.glyph_label_sheet.Statement.{statement}
 use Rattle.glyph_label.proofs.glyph_label_sheet.Tie as tie
 
-read-sheet-bytes-requires : tie.Need-read-sheet-bytes-requires
-read-sheet-bytes-requires c κs = search needs
+read-sheet-requires : tie.Need-read-sheet-requires
+read-sheet-requires c κs = search needs
 
 filled-answer-requires : tie.Need-filled-answer-requires
-filled-answer-requires c κs = subst FilledFits (sym (c .before .before .read-sheet-bytes .ensures .0)) (sheet-fits _ _)
+filled-answer-requires c κs = subst FilledFits (sym (c .before .before .read-sheet .ensures .0)) (sheet-fits _ _)
 
 same-length : tie.Need-same-length
 same-length c = search needs
 
 returns : tie.Need-returns
-returns c = (c .filled-answer .ensures ∙ ap filledAnswer (c .before .before .before .read-sheet-bytes .ensures .0), c .before .before .before .read-sheet-bytes .ensures .1)
+returns c = (c .filled-answer .ensures ∙ ap filledAnswer (c .before .before .before .read-sheet .ensures .0), c .before .before .before .read-sheet .ensures .1)
 
 pub glyph-label-sheet-spec : {M : Type 1} → statement M
 glyph-label-sheet-spec =
-    tie.close (tie.spec read-sheet-bytes-requires filled-answer-requires same-length returns)
+    tie.close (tie.spec read-sheet-requires filled-answer-requires same-length returns)

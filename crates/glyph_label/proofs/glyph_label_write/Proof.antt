@@ -1,32 +1,40 @@
-use mathlib.Core.Path.{sym, ap, subst, _∙_}
-use lib.ListN.{length}
-use Rattle.label.proofs.Escapes.{unasked-bytes}
-use Rattle.glyph_label.specs.Answers.{writingAnswer}
-use Rattle.glyph_label.specs.Fits.{WritingFits}
 use Rattle.glyph_label.proofs.Bounds.{writing-fits}
+use Rattle.glyph_label.specs.Fits.{WritingFits}
+use Rattle.glyph_label.specs.Answers.{writingAnswer}
+use lib.ListN.{length}
+use mathlib.Core.Path.{sym, ap, subst, _∙_}
 use borrow.Author.Needs.{needs}
 use Rattle.glyph_label.proofs.glyph_label_write.Statement.{statement}
 use Rattle.glyph_label.proofs.glyph_label_write.Tie as tie
+use Rattle.glyph_label.proofs.glyph_label_write.Reads as reads
+use Rattle.glyph_label.proofs.glyph_label_write.Lts as lts
+use Rattle.glyph_label.proofs.writing_answer.Reads as writing-answer-reads
+use Rattle.writer.proofs.write_as.Reads as write-as-reads
 
-write-bytes-requires : tie.Need-write-bytes-requires
-write-bytes-requires c κs = search needs
+-- src/lib.rt:204:20
+write-as-requires : tie.Need-write-as-requires
+write-as-requires c κs = search needs
 
+-- src/lib.rt:204:5
 writing-answer-requires : tie.Need-writing-answer-requires
-writing-answer-requires c κs = subst WritingFits (sym (c .before .before .before .before .write-bytes .ensures .answer)) (writing-fits _ _ _ _ _ _)
+writing-answer-requires c κs = subst WritingFits (sym (c .before .before .before .before .write-as .ensures .0)) (writing-fits _ _ _)
 
+-- src/lib.rt:192:1
 same-length : tie.Need-same-length
 same-length c = search needs
 
+-- src/lib.rt:192:1
 same-length-2 : tie.Need-same-length-2
 same-length-2 c = search needs
 
+-- src/lib.rt:192:1
 returns : tie.Need-returns
 returns c =
     let a = c .before .before .before .before .before .before .before .before .before .before .before .before .before .args in
-    let w = c .before .before .before .before .before .write-bytes .ensures in
-    rw (← unasked-bytes (length (a .text .now)) (length (a .indices .now)) (a .units .now) (a .clusters .now) (a .glyphs .now)) (c .writing-answer .ensures ∙ ap writingAnswer (w .answer), (w .text, w .indices))
+    let w = c .before .before .before .before .before .write-as .ensures in
+    record { answer = c .writing-answer .ensures ∙ ap writingAnswer (w .0); text = w .1 .0; indices = w .1 .1 }
 
 pub glyph-label-write-spec : {M : Type 1} → statement M
 glyph-label-write-spec =
     tie.close
-    (tie.spec write-bytes-requires writing-answer-requires same-length same-length-2 returns)
+    (tie.spec write-as-requires writing-answer-requires same-length same-length-2 returns)

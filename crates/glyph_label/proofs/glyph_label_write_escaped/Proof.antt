@@ -1,16 +1,17 @@
-use mathlib.Core.Path.{sym, ap, subst, _∙_}
-use Rattle.glyph_label.specs.Answers.{writingAnswer}
-use Rattle.glyph_label.specs.Fits.{WritingFits}
+-- `glyph_label::glyph_label_write_escaped` meets its contract. Assumes nothing.
 use Rattle.glyph_label.proofs.Bounds.{writing-fits}
+use Rattle.glyph_label.specs.Fits.{WritingFits}
+use Rattle.glyph_label.specs.Answers.{writingAnswer}
+use mathlib.Core.Path.{sym, ap, subst, _∙_}
 use borrow.Author.Needs.{needs}
 use Rattle.glyph_label.proofs.glyph_label_write_escaped.Statement.{statement}
 use Rattle.glyph_label.proofs.glyph_label_write_escaped.Tie as tie
 
-write-bytes-requires : tie.Need-write-bytes-requires
-write-bytes-requires c κs = search needs
+write-as-requires : tie.Need-write-as-requires
+write-as-requires c κs = search needs
 
 writing-answer-requires : tie.Need-writing-answer-requires
-writing-answer-requires c κs = subst WritingFits (sym (c .before .before .before .before .write-bytes .ensures .answer)) (writing-fits _ _ _ _ _ _)
+writing-answer-requires c κs = subst WritingFits (sym (c .before .before .before .before .write-as .ensures .0)) (writing-fits _ _ _)
 
 same-length : tie.Need-same-length
 same-length c = search needs
@@ -20,10 +21,10 @@ same-length-2 c = search needs
 
 returns : tie.Need-returns
 returns c =
-    let w = c .before .before .before .before .before .write-bytes .ensures in
-    (c .writing-answer .ensures ∙ ap writingAnswer (w .answer), (w .text, w .indices))
+    let w = c .before .before .before .before .before .write-as .ensures in
+    record { answer = c .writing-answer .ensures ∙ ap writingAnswer (w .0); text = w .1 .0; indices = w .1 .1 }
 
 pub glyph-label-write-escaped-spec : {M : Type 1} → statement M
 glyph-label-write-escaped-spec =
     tie.close
-    (tie.spec write-bytes-requires writing-answer-requires same-length same-length-2 returns)
+    (tie.spec write-as-requires writing-answer-requires same-length same-length-2 returns)

@@ -1,3 +1,4 @@
+-- `glyph_label::reading_answer` meets its contract. Assumes nothing.
 use Rattle.glyph_label.specs.Fits.{Small32, ReadingFits}
 use Rattle.glyph_label.specs.Answers.{readingAnswer}
 use Rattle.label.specs.declared.Reading.{Reading}

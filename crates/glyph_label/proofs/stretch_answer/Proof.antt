@@ -1,3 +1,4 @@
+-- `glyph_label::stretch_answer` meets its contract. Assumes nothing.
 use Rattle.glyph_label.specs.Fits.{StretchFits}
 use Rattle.glyph_label.specs.Answers.{stretchAnswer}
 use Rattle.label.specs.declared.Pick.{Pick}

@@ -1,3 +1,4 @@
+-- `glyph_label::writing_answer` meets its contract. Assumes nothing.
 use Rattle.glyph_label.specs.Fits.{WritingFits}
 use Rattle.glyph_label.specs.Answers.{writingAnswer}
 use Rattle.label.specs.declared.Writing.{Writing}

@@ -1,4 +1,4 @@
--- `lines::relabel` meets its contract. Assumes nothing.
+-- `lines::relabel` meets its contract: a line that is too long is refused first; the arrays have the lengths that `relabel_in` asks for. Assumes nothing.
 use Rattle.lines.proofs.Relabels.{long-line}
 use mathlib.Core.Path.{refl}
 use borrow.Author.Needs.{needs}
@@ -6,7 +6,8 @@ use Rattle.lines.proofs.relabel.Statement.{statement}
 use Rattle.lines.proofs.relabel.Tie as tie
 
 returns : tie.Need-returns
-returns c = rw (← long-line (c .before .before .before .before .before .args .text .now) (c .before .before .before .before .before .args .indices .now) (c .if1 .taken)) (refl, (refl, refl))
+returns c = let start = c .before .before .before .before .before in
+    rw (← long-line (start .args .text .now) (start .args .indices .now) (c .if1 .taken)) (refl, (refl, refl))
 
 slice-aggregate-relabel-in : tie.Need-slice-aggregate-relabel-in
 slice-aggregate-relabel-in c = search needs

@@ -1,4 +1,4 @@
--- `lines::two_lines` meets its contract. Assumes nothing.
+-- `lines::two_lines` meets its contract: each place follows from the one before it. Assumes nothing.
 use Rattle.lines.specs.Lines.{twoLines}
 use native.Mathlib.Omega.{arith}
 use borrow.Author.Needs.{needs}
@@ -19,11 +19,12 @@ next-line-requires-2 c κs = search needs
 
 returns : tie.Need-returns
 unfolding twoLines
-returns c = let a = c .before .before .before .line-end in
-    let b = c .before .before .next-line in
-    let d = c .before .line-end2 in
-    let e = c .next-line2 in
-    (rw (e .ensures .0, d .ensures .0, b .ensures .0, a .ensures .0), (a .ensures .1 .0, a .ensures .1 .1, d .ensures .1 .0, d .ensures .1 .1, e .ensures .1 .1, λ h. omega (arith, h, a .ensures .1 .0, b .ensures .1 .2, d .ensures .1 .0, e .ensures .1 .0)))
+returns c =
+    let a = c .before .before .before .line-end .ensures in
+    let b = c .before .before .next-line .ensures in
+    let d = c .before .line-end2 .ensures in
+    let e = c .next-line2 .ensures in
+    (rw (e .0, d .0, b .0, a .0), (a .1 .0, a .1 .1, d .1 .0, d .1 .1, e .1 .1, λ h. omega (arith, h, a .1 .0, b .1 .2, d .1 .0, e .1 .0)))
 
 pub two-lines-spec : {M : Type 1} → statement M
 two-lines-spec =

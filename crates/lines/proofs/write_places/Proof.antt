@@ -1,10 +1,15 @@
--- `lines::write_places` meets its contract. Assumes nothing.
-use Rattle.lines.specs.Lines.{answered}
-use lib.Seq.{length-take-le}
+-- `lines::write_places` meets its contract: the front of each buffer is handed to the writer, not asked to escape. Assumes nothing.
 use mathlib.Core.Path.{sym, _∙_, ap}
+use Prim.Native.Nat.{_*_}
+use lib.ListN.{length, take}
+use lib.Seq.{length-take-le}
+use Rattle.lines.specs.Lines.{answered}
 use borrow.Author.Needs.{needs}
 use Rattle.lines.proofs.write_places.Statement.{statement}
 use Rattle.lines.proofs.write_places.Tie as tie
+
+mul-u : tie.Need-mul-u
+mul-u c = search needs
 
 mul-c : tie.Need-mul-c
 mul-c c = search needs
@@ -12,17 +17,17 @@ mul-c c = search needs
 mul-g : tie.Need-mul-g
 mul-g c = search needs
 
-slice-aggregate-write : tie.Need-slice-aggregate-write
-slice-aggregate-write c = sym (length-take-le _ _ (search needs))
+slice-aggregate-write-as : tie.Need-slice-aggregate-write-as
+slice-aggregate-write-as c = sym (length-take-le _ _ (search needs))
 
-slice-aggregate-write-2 : tie.Need-slice-aggregate-write-2
-slice-aggregate-write-2 c = sym (length-take-le _ _ (search needs))
+slice-aggregate-write-as-2 : tie.Need-slice-aggregate-write-as-2
+slice-aggregate-write-as-2 c = sym (length-take-le _ _ (search needs))
 
-slice-aggregate-write-3 : tie.Need-slice-aggregate-write-3
-slice-aggregate-write-3 c = sym (length-take-le _ _ (search needs))
+slice-aggregate-write-as-3 : tie.Need-slice-aggregate-write-as-3
+slice-aggregate-write-as-3 c = sym (length-take-le _ _ (search needs))
 
-write-requires : tie.Need-write-requires
-write-requires c κs = search needs
+write-as-requires : tie.Need-write-as-requires
+write-as-requires c κs = search needs
 
 answer-requires : tie.Need-answer-requires
 answer-requires c κs = search needs
@@ -34,18 +39,22 @@ same-length-2 : tie.Need-same-length-2
 same-length-2 c = search needs
 
 returns : tie.Need-returns
-returns c = (c .answer .ensures ∙ ap (answered _) (c .before .before .before .before .before .write .ensures .0), (c .before .before .before .before .before .write .ensures .1 .0, c .before .before .before .before .before .write .ensures .1 .1))
+returns c =
+    let at-write = c .before .before .before .before .before in
+    let w = at-write .write-as .ensures in
+    (c .answer .ensures ∙ ap (answered _) (w .0), w .1)
 
 pub write-places-spec : {M : Type 1} → statement M
 write-places-spec =
     tie.close
     (tie.spec
+    mul-u
     mul-c
     mul-g
-    slice-aggregate-write
-    slice-aggregate-write-2
-    slice-aggregate-write-3
-    write-requires
+    slice-aggregate-write-as
+    slice-aggregate-write-as-2
+    slice-aggregate-write-as-3
+    write-as-requires
     answer-requires
     same-length
     same-length-2

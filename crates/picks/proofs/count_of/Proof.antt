@@ -1,13 +1,25 @@
+-- `picks::count_of` meets its contract. Assumes nothing.
 use Rattle.sound.proofs.Parts.{glyph-count}
-use mathlib.Core.Path.{sym}
+use Rattle.label.specs.Wire.{words}
+use Prim.Native.Nat.{ℕ, _/_}
+use mathlib.Core.Path.{sym, ap, _∙_}
+use borrow.Author.Needs.{needs}
 use Rattle.picks.proofs.count_of.Statement.{statement}
 use Rattle.picks.proofs.count_of.Tie as tie
 
+unit-count-requires : tie.Need-unit-count-requires
+unit-count-requires c κs = search needs
+
+number-count-requires : tie.Need-number-count-requires
+number-count-requires c κs = search needs
+
 returns : tie.Need-returns
-returns c = rw (c .if1 .taken)
+returns c = rw (c .before .if1 .taken) (c .unit-count .ensures .0)
 
 returns-2 : tie.Need-returns-2
-returns-2 c = rw (c .if1 .left) (sym (glyph-count _))
+returns-2 c =
+    let start = c .before .before .before .before in
+    rw (c .before .if1 .left) (ap (λ (n : ℕ). n / 4) (c .number-count .ensures .0) ∙ sym (glyph-count (words (start .args .glyphs .now))))
 
 pub count-of-spec : {M : Type 1} → statement M
-count-of-spec = tie.close (tie.spec returns returns-2)
+count-of-spec = tie.close (tie.spec unit-count-requires number-count-requires returns returns-2)

@@ -1,3 +1,4 @@
+-- `picks::start_at` meets its contract. Assumes nothing.
 use borrow.Author.Tests.{le-leb, lt-leb}
 use Rattle.picks.proofs.start_at.Statement.{statement}
 use Rattle.picks.proofs.start_at.Tie as tie

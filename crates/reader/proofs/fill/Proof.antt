@@ -1,57 +1,40 @@
-use Prim.Native.Nat.{ℕ, _+_, _-_, _*_, _≤_}
+-- `reader::fill` meets its contract. Assumes nothing.
+use Prim.Native.Nat.{_+_, _-_}
 use native.Mathlib.Omega.{arith}
-use mathlib.Core.Path.{_≡_, sym, _∙_, ap, subst}
-use borrow.Author.Needs.{needs}
-use lib.ListN.{length, drop}
-use Rattle.label.specs.Calls.{filled}
-use Rattle.label.specs.Outcome.{ok}
-use Rattle.label.specs.Sound.{flatClusters, flatGlyphs}
-use Rattle.label.specs.Text.{decode}
+use mathlib.Core.Path.{sym, _∙_, ap}
+use lib.ListN.{length}
+use Rattle.label.specs.Wire.{fromWords}
+use Rattle.label.specs.Places.{flatClusters, flatGlyphs}
 use Rattle.text.specs.Moves.{unitsFrom}
-use Rattle.text.specs.Texts.{unitsStart}
 use Rattle.entry.specs.declared.EntryRead.the-variants.{Read}
-use Rattle.reader.proofs.Calls.{Found, found, units-filled, clusters-filled, glyphs-filled}
-use Rattle.reader.proofs.Filling.{Filled, fill-never, storable, filled-on, end-clusters, end-glyphs, clusters-end, glyphs-end}
+use Rattle.reader.specs.Stores.{clusterBytes, glyphBytes}
+use Rattle.reader.proofs.Calls.{filling, units-are, clusters-room, glyphs-room, units-filled, clusters-filled, glyphs-filled}
+use Rattle.reader.proofs.Filling.{Filled, place-behind, fill-never, storable, filled-on, end-clusters, end-glyphs, clusters-end, glyphs-end}
 use Rattle.reader.proofs.Stores.{stored-start}
 use Rattle.reader.proofs.Tails.{units-left}
 use Rattle.survey.proofs.Walking.{nothing, stands-start, ready-start, read-here, digits-here}
+use borrow.Author.Needs.{needs}
 use Rattle.reader.proofs.fill.Statement.{statement}
 use Rattle.reader.proofs.fill.Tie as tie
 
 abbrev Inv-loop : tie.InvT-loop
-Inv-loop text indices units clusters₀ glyphs₀ count at₀ clusters glyphs at = Filled (unitsFrom text (unitsStart text)) indices clusters₀ glyphs₀ clusters glyphs at
+Inv-loop text start indices count units clusters₀ glyphs₀ at₀ clusters glyphs at = Filled (unitsFrom text start) indices clusters₀ glyphs₀ clusters glyphs at
 
 abbrev μ-loop : tie.MeasureT-loop
-μ-loop text indices units clusters₀ glyphs₀ count at₀ clusters glyphs at = length indices + 1 - at .place
-
--- the label is accepted, with these counts
-label : (c : tie.Start Inv-loop μ-loop) → Found (c .args .text .now) (c .args .indices .now) (c .args .counts)
-label c = found (c .args .text .now) (c .args .indices .now) (c .args .counts) (c .pre .0)
-
--- its places have room
-room : (c : tie.Start Inv-loop μ-loop) → (2 * length (label c .all .clusters) ≤ length (c .args .clusters .now)) × (4 * length (label c .all .glyphs) ≤ length (c .args .glyphs .now))
-room c = let f = label c in omega (arith, f .clusters-are, f .glyphs-are, c .pre .1 .1, c .pre .1 .2)
-
-units-start-requires : tie.Need-units-start-requires Inv-loop μ-loop
-units-start-requires c κs = search needs
+μ-loop text start indices count units clusters₀ glyphs₀ at₀ clusters glyphs at = length indices + 1 - at .place
 
 fill-units-requires : tie.Need-fill-units-requires Inv-loop μ-loop
 fill-units-requires c κs =
-    let a = c .before .before .before .before .before in
-    let t = a .args .text .now in
-    let f = label (c .before .before .before .before .before) in
-    let e = sym (c .before .units-start .ensures) in (
-      subst (λ (b : ℕ). decode 0 b (drop b t) ≡ ok (unitsFrom t b)) e (f .text .decodes),
-      subst (λ (b : ℕ). length (unitsFrom t b) ≤ length (a .args .units .now)) e (omega (arith, f .text .count, a .pre .1 .0)),
-    )
+    let start = c .before .before .before .before .before .before in
+    let f = filling (start .pre) in (f .text .decodes, omega (arith, f .text .count, start .pre .units-room))
 
 first-cursor-requires : tie.Need-first-cursor-requires Inv-loop μ-loop
 first-cursor-requires c κs = search needs
 
 loop-holds : tie.Need-loop-holds Inv-loop μ-loop
-unfolding flatClusters flatGlyphs
+unfolding flatClusters flatGlyphs fromWords clusterBytes glyphBytes
 loop-holds c =
-    let f = label (c .before .before .before .before .before .before .before .before .before) in
+    let f = filling (c .before .before .before .before .before .before .before .before .before .before .pre) in
     let e = c .first-cursor .ensures in
     record {
       pre = nothing;
@@ -73,21 +56,39 @@ index-item-requires c κs = c .before .is-index .ensures .1 (c .if2 .taken) .0
 
 put-entry-requires : tie.Need-put-entry-requires Inv-loop μ-loop
 put-entry-requires c κs =
-    let a = c .before .before .before .before .before .before .before .before .before .before .before .before .before .before .before .before .before .before in
-    let l = c .before .before .before .before .before .before .before .before .loop in
-    storable _ _ (label a .all) (label a .walked) _ _ _ _ (l .at) (l .inv) (c .before .before .before .before .before .before .if1 .taken) (room a .0) (room a .1) _ (label a .text .count) _ (c .before .before .before .before .is-index .ensures .1 (c .before .before .before .if2 .taken) .1 (c .before .before .before .before .before .before .before .before .loop .at .entry) ∙ ap Read (sym (c .before .before .index-item .ensures)))
+    let at-if2 = c .before .before .before in
+    let at-is-index = at-if2 .before in
+    let at-if1 = at-is-index .before .before in
+    let at-loop = at-if1 .before .before in
+    let start = at-loop .before .before .before .before .before .before .before .before .before .before .before in
+    let p = start .pre in
+    let f = filling p in
+    let l = at-loop .loop in
+    let x = at-is-index .is-index .ensures .1 (at-if2 .if2 .taken) .1 (l .at .entry) ∙ ap Read (sym (c .before .before .index-item .ensures)) in
+    storable _ _ (f .all) (f .walked) _ _ _ _ (l .at) (l .inv) (at-if1 .if1 .taken) (clusters-room p) (glyphs-room p) _ (units-are p) _ x
 
 loop-less : tie.Need-loop-less Inv-loop μ-loop
 loop-less c =
-    let a = c .before .before .before .before .before .before .before .before .before .before .before .before .before .before .before .before .before .before .before .before .before in
-    let l = c .before .before .before .before .before .before .before .before .before .before .before .loop in
-    let w = filled-on _ _ (label a .all) (label a .walked) _ _ _ _ (l .at) (l .inv) (c .before .before .before .before .before .before .before .before .before .if1 .taken) (room a .0) (room a .1) _ (label a .text .count) _ (c .before .before .before .before .before .before .before .is-index .ensures .1 (c .before .before .before .before .before .before .if2 .taken) .1 (c .before .before .before .before .before .before .before .before .before .before .before .loop .at .entry) ∙ ap Read (sym (c .before .before .before .before .before .index-item .ensures))) _ _ _ (c .before .before .put-entry .ensures .0) (c .before .before .put-entry .ensures .1 .0) (c .before .before .put-entry .ensures .1 .1) in omega (arith, w .1, w .0 .ready .place)
+    let at-put-entry = c .before .before .before .before in
+    let at-if1 = at-put-entry .before .before .before .before .before .before .before in
+    omega (arith, place-behind _ _ _ _ _ _ (at-put-entry .put-entry .ensures .0), at-if1 .if1 .taken)
 
 loop-again : tie.Need-loop-again Inv-loop μ-loop
 loop-again c =
-    let a = c .before .before .before .before .before .before .before .before .before .before .before .before .before .before .before .before .before .before .before .before .before in
-    let l = c .before .before .before .before .before .before .before .before .before .before .before .loop in
-    filled-on _ _ (label a .all) (label a .walked) _ _ _ _ (l .at) (l .inv) (c .before .before .before .before .before .before .before .before .before .if1 .taken) (room a .0) (room a .1) _ (label a .text .count) _ (c .before .before .before .before .before .before .before .is-index .ensures .1 (c .before .before .before .before .before .before .if2 .taken) .1 (c .before .before .before .before .before .before .before .before .before .before .before .loop .at .entry) ∙ ap Read (sym (c .before .before .before .before .before .index-item .ensures))) _ _ _ (c .before .before .put-entry .ensures .0) (c .before .before .put-entry .ensures .1 .0) (c .before .before .put-entry .ensures .1 .1) .0
+    let at-put-entry = c .before .before .before .before in
+    let at-index-item = at-put-entry .before .before .before in
+    let at-if2 = at-index-item .before in
+    let at-is-index = at-if2 .before in
+    let at-if1 = at-is-index .before .before in
+    let at-loop = at-if1 .before .before in
+    let start = at-loop .before .before .before .before .before .before .before .before .before .before .before in
+    let p = start .pre in
+    let f = filling p in
+    let l = at-loop .loop in
+    let x = at-is-index .is-index .ensures .1 (at-if2 .if2 .taken) .1 (l .at .entry) ∙ ap Read (sym (at-index-item .index-item .ensures)) in
+    let e = at-put-entry .put-entry .ensures in
+    filled-on _ _ (f .all) (f .walked) _ _ _ _ (l .at) (l .inv) (at-if1 .if1 .taken) (clusters-room p) (glyphs-room p) _ (units-are p) _ x _ _ _ (e .0)
+    (e .1 .0) (e .1 .1)
 
 sub-read-entry : tie.Need-sub-read-entry Inv-loop μ-loop
 sub-read-entry c = search needs
@@ -100,28 +101,49 @@ part-read-entry-end c = search needs
 
 read-entry-requires : tie.Need-read-entry-requires Inv-loop μ-loop
 read-entry-requires c κs =
-    let d = c .before .before .before .digits-at in digits-here (c .before .before .before .before .before .before .before .before .before .before .before .before .before .before .before .before .args .indices .now) (c .before .before .before .before .before .before .loop .at .place) (d .result) (d .ensures .0) (d .ensures .1 .0)
+    let at-digits-at = c .before .before .before in
+    let at-loop = at-digits-at .before .before .before in
+    let start = at-loop .before .before .before .before .before .before .before .before .before .before .before in
+    let d = at-digits-at .digits-at in
+    digits-here (start .args .indices .now) (at-loop .loop .at .place) (d .result) (d .ensures .0) (d .ensures .1 .0)
 
 enum-known-x : tie.Need-enum-known-x Inv-loop μ-loop
 enum-known-x c = search needs
 
 put-entry-requires-2 : tie.Need-put-entry-requires-2 Inv-loop μ-loop
 put-entry-requires-2 c κs =
-    let a = c .before .before .before .before .before .before .before .before .before .before .before .before .before .before .before .before .before .before .before .before .before .before in
-    let l = c .before .before .before .before .before .before .before .before .before .before .before .before .loop in
-    storable _ _ (label a .all) (label a .walked) _ _ _ _ (l .at) (l .inv) (c .before .before .before .before .before .before .before .before .before .before .if1 .taken) (room a .0) (room a .1) _ (label a .text .count) _ (read-here _ (c .before .before .before .before .before .before .before .before .before .before .before .before .loop .at) _ (c .before .before .before .before .before .read-entry .ensures) _ (c .before .before .before .x .given .1))
+    let at-x = c .before .before .before in
+    let at-read-entry = at-x .before .before in
+    let at-if1 = at-read-entry .before .before .before .before .before in
+    let at-loop = at-if1 .before .before in
+    let start = at-loop .before .before .before .before .before .before .before .before .before .before .before in
+    let p = start .pre in
+    let f = filling p in
+    let l = at-loop .loop in
+    let x = read-here _ (l .at) _ (at-read-entry .read-entry .ensures) _ (at-x .x .given .1) in
+    storable _ _ (f .all) (f .walked) _ _ _ _ (l .at) (l .inv) (at-if1 .if1 .taken) (clusters-room p) (glyphs-room p) _ (units-are p) _ x
 
 loop-less-2 : tie.Need-loop-less-2 Inv-loop μ-loop
 loop-less-2 c =
-    let a = c .before .before .before .before .before .before .before .before .before .before .before .before .before .before .before .before .before .before .before .before .before .before .before .before .before in
-    let l = c .before .before .before .before .before .before .before .before .before .before .before .before .before .before .before .loop in
-    let w = filled-on _ _ (label a .all) (label a .walked) _ _ _ _ (l .at) (l .inv) (c .before .before .before .before .before .before .before .before .before .before .before .before .before .if1 .taken) (room a .0) (room a .1) _ (label a .text .count) _ (read-here _ (c .before .before .before .before .before .before .before .before .before .before .before .before .before .before .before .loop .at) _ (c .before .before .before .before .before .before .before .before .read-entry .ensures) _ (c .before .before .before .before .before .before .x .given .1)) _ _ _ (c .before .before .put-entry2 .ensures .0) (c .before .before .put-entry2 .ensures .1 .0) (c .before .before .put-entry2 .ensures .1 .1) in omega (arith, w .1, w .0 .ready .place)
+    let at-put-entry2 = c .before .before .before .before in
+    let at-if1 = at-put-entry2 .before .before .before .before .before .before .before .before .before .before .before in
+    omega (arith, place-behind _ _ _ _ _ _ (at-put-entry2 .put-entry2 .ensures .0), at-if1 .if1 .taken)
 
 loop-again-2 : tie.Need-loop-again-2 Inv-loop μ-loop
 loop-again-2 c =
-    let a = c .before .before .before .before .before .before .before .before .before .before .before .before .before .before .before .before .before .before .before .before .before .before .before .before .before in
-    let l = c .before .before .before .before .before .before .before .before .before .before .before .before .before .before .before .loop in
-    filled-on _ _ (label a .all) (label a .walked) _ _ _ _ (l .at) (l .inv) (c .before .before .before .before .before .before .before .before .before .before .before .before .before .if1 .taken) (room a .0) (room a .1) _ (label a .text .count) _ (read-here _ (c .before .before .before .before .before .before .before .before .before .before .before .before .before .before .before .loop .at) _ (c .before .before .before .before .before .before .before .before .read-entry .ensures) _ (c .before .before .before .before .before .before .x .given .1)) _ _ _ (c .before .before .put-entry2 .ensures .0) (c .before .before .put-entry2 .ensures .1 .0) (c .before .before .put-entry2 .ensures .1 .1) .0
+    let at-put-entry2 = c .before .before .before .before in
+    let at-x = at-put-entry2 .before .before .before .before in
+    let at-read-entry = at-x .before .before in
+    let at-if1 = at-read-entry .before .before .before .before .before in
+    let at-loop = at-if1 .before .before in
+    let start = at-loop .before .before .before .before .before .before .before .before .before .before .before in
+    let p = start .pre in
+    let f = filling p in
+    let l = at-loop .loop in
+    let x = read-here _ (l .at) _ (at-read-entry .read-entry .ensures) _ (at-x .x .given .1) in
+    let e = at-put-entry2 .put-entry2 .ensures in
+    filled-on _ _ (f .all) (f .walked) _ _ _ _ (l .at) (l .inv) (at-if1 .if1 .taken) (clusters-room p) (glyphs-room p) _ (units-are p) _ x _ _ _ (e .0)
+    (e .1 .0) (e .1 .1)
 
 enum-told : tie.Need-enum-told Inv-loop μ-loop
 enum-told c = search needs
@@ -137,54 +159,89 @@ same-length-3 c = c .before .before .before .before .before .before .before .bef
 
 returns : tie.Need-returns Inv-loop μ-loop
 returns c =
-    let f = label (c .before .before .before .before .before .before .before .before .before .before .before .before .before .before .before .before .before .before .before) in
-    let l = c .before .before .before .before .before .before .before .before .before .loop in
-    fill-never _ _ (f .all) (f .walked) _ _ _ (l .inv .stands) (l .inv .ready) (c .before .before .before .before .before .before .before .if1 .taken) _ (read-here _ (l .at) _ (c .before .before .read-entry .ensures) _ (c .enum-told .given .1))
+    let at-if1 = c .before .before .before .before .before .before .before in
+    let at-loop = at-if1 .before .before in
+    let start = at-loop .before .before .before .before .before .before .before .before .before .before .before in
+    let f = filling (start .pre) in
+    let l = at-loop .loop in
+    let x = read-here _ (l .at) _ (c .before .before .read-entry .ensures) _ (c .enum-told .given .1) in
+    fill-never _ _ (f .all) (f .walked) _ _ _ (l .inv .stands) (l .inv .ready) (at-if1 .if1 .taken) _ x
 
-mul-fill-tail : tie.Need-mul-fill-tail Inv-loop μ-loop
-mul-fill-tail c = search needs
+mul-from : tie.Need-mul-from Inv-loop μ-loop
+mul-from c = search needs
+
+mul-end : tie.Need-mul-end Inv-loop μ-loop
+mul-end c =
+    let start = c .before .before .before .before .before .before .before .before .before .before .before .before .before .before in
+    let p = start .pre in record { fits = omega (arith, p .units, filling p .text .few) }
 
 sub-fill-tail : tie.Need-sub-fill-tail Inv-loop μ-loop
-sub-fill-tail c = omega (arith, c .before .before .loop .inv .ready .inside, label (c .before .before .before .before .before .before .before .before .before .before .before .before) .text .count)
+sub-fill-tail c =
+    let at-loop = c .before .before .before in
+    let start = at-loop .before .before .before .before .before .before .before .before .before .before .before in
+    omega (arith, at-loop .loop .inv .ready .inside, units-are (start .pre))
 
 part-fill-tail-start : tie.Need-part-fill-tail-start Inv-loop μ-loop
-part-fill-tail-start c = omega (arith, c .before .before .before .loop .inv .ready .inside, label (c .before .before .before .before .before .before .before .before .before .before .before .before .before) .text .count)
+part-fill-tail-start c =
+    let at-loop = c .before .before .before .before in
+    let start = at-loop .before .before .before .before .before .before .before .before .before .before .before in
+    omega (arith, at-loop .loop .inv .ready .inside, units-are (start .pre))
 
 part-fill-tail-end : tie.Need-part-fill-tail-end Inv-loop μ-loop
-part-fill-tail-end c = omega (arith, c .before .before .before .before .before .before .before .before .before .before .before .before .before .pre .1 .0, c .before .before .before .before .before .before .before .fill-units .kept .1 .1 .0)
+part-fill-tail-end c =
+    let at-fill-units = c .before .before .before .before .before .before .before .before in
+    let start = at-fill-units .before .before .before .before .before .before .before in
+    let p = start .pre in omega (arith, p .units, p .units-room, at-fill-units .fill-units .kept .1 .1 .0)
 
 fill-tail-requires : tie.Need-fill-tail-requires Inv-loop μ-loop
 fill-tail-requires c κs =
-    let a = c .before .before .before .before .before .before .before .before .before .before .before .before .before .before .before .before in
-    let f = label a in
-    let l = c .before .before .before .before .before .before .loop .inv in
-    let e = units-left _ (a .args .units .now) _ _ (c .before .before .before .before .before .before .loop .at .unit) (f .text .count) (omega (arith, l .ready .inside, f .text .count)) (c .before .before .before .before .before .before .before .before .before .before .fill-units .ensures ∙ ap (λ (b : ℕ). filled (unitsFrom (a .args .text .now) b) (a .args .units .now)) (c .before .before .before .before .before .before .before .before .before .before .before .before .units-start .ensures)) in
-    let cs = end-clusters _ _ (f .all) (f .walked) _ _ _ (l .stands) (l .ready) (c .before .before .before .before .if1 .left) _ e in
-    let gs = end-glyphs _ _ (f .all) (f .walked) _ _ _ (l .stands) (l .ready) (c .before .before .before .before .if1 .left) _ e in
-    omega (arith, cs, gs, f .clusters-are, f .glyphs-are, l .clusters .same, l .glyphs .same, a .pre .1 .1, a .pre .1 .2)
+    let at-if1 = c .before .before .before .before .before in
+    let at-loop = at-if1 .before .before in
+    let at-fill-units = at-loop .before .before .before .before in
+    let start = at-fill-units .before .before .before .before .before .before .before in
+    let p = start .pre in
+    let f = filling p in
+    let i = at-loop .loop .inv in
+    let us = start .args .units .now in
+    let e = units-left _ us _ _ (at-loop .loop .at .unit) (units-are p) (omega (arith, i .ready .inside, units-are p)) (at-fill-units .fill-units .ensures) in
+    let cs = end-clusters _ _ (f .all) (f .walked) _ _ _ (i .stands) (i .ready) (at-if1 .if1 .left) _ e in
+    let gs = end-glyphs _ _ (f .all) (f .walked) _ _ _ (i .stands) (i .ready) (at-if1 .if1 .left) _ e in
+    omega (arith, cs, gs, clusters-room p, glyphs-room p, i .clusters .same, i .glyphs .same)
 
 same-length-4 : tie.Need-same-length-4 Inv-loop μ-loop
 same-length-4 c = search needs
 
 same-length-5 : tie.Need-same-length-5 Inv-loop μ-loop
-same-length-5 c = c .before .before .fill-tail .kept .1 .1 .1 .0 ∙ c .before .before .before .before .before .before .before .before .before .loop .inv .clusters .same
+same-length-5 c =
+    let at-fill-tail = c .before .before .before .before in
+    let at-loop = at-fill-tail .before .before .before .before .before .before .before .before in
+    at-fill-tail .fill-tail .kept .1 .1 .1 .0 ∙ at-loop .loop .inv .clusters .same
 
 same-length-6 : tie.Need-same-length-6 Inv-loop μ-loop
-same-length-6 c = c .before .before .fill-tail .kept .1 .1 .1 .1 .0 ∙ c .before .before .before .before .before .before .before .before .before .loop .inv .glyphs .same
+same-length-6 c =
+    let at-fill-tail = c .before .before .before .before in
+    let at-loop = at-fill-tail .before .before .before .before .before .before .before .before in
+    at-fill-tail .fill-tail .kept .1 .1 .1 .1 .0 ∙ at-loop .loop .inv .glyphs .same
 
 returns-2 : tie.Need-returns-2 Inv-loop μ-loop
 returns-2 c =
-    let a = c .before .before .before .before .before .before .before .before .before .before .before .before .before .before .before .before .before .before .before in
-    let f = label a in
-    let l = c .before .before .before .before .before .before .before .before .before .loop .inv in
-    let u = (c .before .before .before .before .before .before .before .before .before .before .before .before .before .fill-units .ensures ∙ ap (λ (b : ℕ). filled (unitsFrom (a .args .text .now) b) (a .args .units .now)) (c .before .before .before .before .before .before .before .before .before .before .before .before .before .before .before .units-start .ensures)) in
-    let e = units-left _ (a .args .units .now) _ _ (c .before .before .before .before .before .before .before .before .before .loop .at .unit) (f .text .count) (omega (arith, l .ready .inside, f .text .count)) u in (
-      units-filled _ _ _ f _ _ u,
-      (
-        clusters-filled _ _ _ f _ _ (clusters-end _ _ (f .all) (f .walked) _ _ _ (l .stands) (l .ready) (c .before .before .before .before .before .before .before .if1 .left) _ e _ _ _ (l .clusters) (c .before .before .fill-tail .ensures .0) (omega (arith, f .clusters-are, a .pre .1 .1))),
-        glyphs-filled _ _ _ f _ _ (glyphs-end _ _ (f .all) (f .walked) _ _ _ (l .stands) (l .ready) (c .before .before .before .before .before .before .before .if1 .left) _ e _ _ _ (l .glyphs) (c .before .before .fill-tail .ensures .1) (omega (arith, f .glyphs-are, a .pre .1 .2))),
-      ),
-    )
+    let at-fill-tail = c .before .before .before .before in
+    let at-if1 = at-fill-tail .before .before .before .before .before .before in
+    let at-loop = at-if1 .before .before in
+    let at-fill-units = at-loop .before .before .before .before in
+    let start = at-fill-units .before .before .before .before .before .before .before in
+    let p = start .pre in
+    let f = filling p in
+    let i = at-loop .loop .inv in
+    let us = start .args .units .now in
+    let cs = start .args .clusters .now in
+    let gs = start .args .glyphs .now in
+    let e = units-left _ us _ _ (at-loop .loop .at .unit) (units-are p) (omega (arith, i .ready .inside, units-are p)) (at-fill-units .fill-units .ensures) in
+    let ec = clusters-end _ _ (f .all) (f .walked) _ _ _ (i .stands) (i .ready) (at-if1 .if1 .left) _ e _ _ _ (i .clusters)
+    (at-fill-tail .fill-tail .ensures .0) (clusters-room p) in
+    let eg = glyphs-end _ _ (f .all) (f .walked) _ _ _ (i .stands) (i .ready) (at-if1 .if1 .left) _ e _ _ _ (i .glyphs) (at-fill-tail .fill-tail .ensures .1)
+    (glyphs-room p) in
+    (units-filled p us (at-fill-units .fill-units .ensures), (clusters-filled p cs ec, glyphs-filled p gs eg))
 
 pub fill-spec : {M : Type 1} → statement M
 fill-spec =
@@ -192,7 +249,6 @@ fill-spec =
     (tie.spec
     Inv-loop
     μ-loop
-    units-start-requires
     fill-units-requires
     first-cursor-requires
     loop-holds
@@ -215,7 +271,8 @@ fill-spec =
     same-length-2
     same-length-3
     returns
-    mul-fill-tail
+    mul-from
+    mul-end
     sub-fill-tail
     part-fill-tail-start
     part-fill-tail-end

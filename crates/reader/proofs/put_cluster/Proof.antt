@@ -1,55 +1,56 @@
+-- `reader::put_cluster` meets its contract. Assumes nothing.
+use Rattle.reader.proofs.Stores.{pair-room, pair-stored, opened-no}
 use native.Mathlib.Omega.{arith}
 use borrow.Author.Needs.{needs}
-use lib.ListN.{length-set}
-use Rattle.reader.proofs.Stores.{pair-room, pair-stored, opened-no}
 use Rattle.reader.proofs.put_cluster.Statement.{statement}
 use Rattle.reader.proofs.put_cluster.Tie as tie
 
 mul-at : tie.Need-mul-at
 mul-at c = search needs
 
-cast-out : tie.Need-cast-out
-cast-out c = record { sfits = c .before .pre .0 (c .if1 .taken) .0 }
+cast-put-bits : tie.Need-cast-put-bits
+cast-put-bits c = let h = c .before .before .before .pre .0 (c .before .if1 .taken) .0 in record { fits = omega (arith, h) }
 
-mul-out : tie.Need-mul-out
-mul-out c = search needs
+put-bits-requires : tie.Need-put-bits-requires
+put-bits-requires c κs = let h = pair-room _ _ _ _ _ (c .before .if1 .taken) (c .before .before .before .pre .1) in omega (arith, h)
 
-slice-set-from-out : tie.Need-slice-set-from-out
-slice-set-from-out c = let h = pair-room _ _ _ _ _ (c .if1 .taken) (c .before .pre .1) in omega (arith, h)
+add-put-bits : tie.Need-add-put-bits
+add-put-bits c = search needs
 
-cast-out-2 : tie.Need-cast-out-2
-cast-out-2 c = record { sfits = c .before .pre .0 (c .if1 .taken) .1 }
+cast-put-bits-2 : tie.Need-cast-put-bits-2
+cast-put-bits-2 c =
+    let at-if1 = c .before .before .before .before .before in
+    let start = at-if1 .before .before in
+    let h = start .pre .0 (at-if1 .if1 .taken) .1 in record { fits = omega (arith, h) }
 
-add-t9 : tie.Need-add-t9
-add-t9 c = search needs
-
-mul-t11 : tie.Need-mul-t11
-mul-t11 c = search needs
-
-slice-set-from-out-2 : tie.Need-slice-set-from-out-2
-slice-set-from-out-2 c = let h = pair-room _ _ _ _ _ (c .if1 .taken) (c .before .pre .1) in simp length-set (omega (arith, h))
+put-bits-requires-2 : tie.Need-put-bits-requires-2
+put-bits-requires-2 c κs =
+    let at-if1 = c .before .before .before .before .before in
+    let start = at-if1 .before .before in
+    let h = pair-room _ _ _ _ _ (at-if1 .if1 .taken) (start .pre .1) in omega (arith, h)
 
 same-length : tie.Need-same-length
 same-length c = search needs
 
 returns : tie.Need-returns
-returns c = pair-stored _ _ _ _ _ (c .if1 .taken) (c .before .pre .0 (c .if1 .taken) .0) (c .before .pre .0 (c .if1 .taken) .1)
+returns c =
+    let at-put-bits = c .before .before .before .before .before .before in
+    let at-if1 = at-put-bits .before .before in
+    pair-stored _ _ _ _ _ _ _ (at-if1 .if1 .taken) (at-put-bits .put-bits .ensures) (c .before .before .put-bits2 .ensures)
 
 returns-2 : tie.Need-returns-2
-returns-2 c = rw (opened-no (c .before .args .lack) (c .before .args .a) (c .before .args .b) (c .if1 .left))
+returns-2 c = rw (opened-no (c .before .before .args .lack) (c .before .before .args .a) (c .before .before .args .b) (c .if1 .left))
 
 pub put-cluster-spec : {M : Type 1} → statement M
 put-cluster-spec =
     tie.close
     (tie.spec
     mul-at
-    cast-out
-    mul-out
-    slice-set-from-out
-    cast-out-2
-    add-t9
-    mul-t11
-    slice-set-from-out-2
+    cast-put-bits
+    put-bits-requires
+    add-put-bits
+    cast-put-bits-2
+    put-bits-requires-2
     same-length
     returns
     returns-2)

@@ -7,7 +7,9 @@ taken-requires : tie.Need-taken-requires
 taken-requires c κs = search needs
 
 put-cluster-requires : tie.Need-put-cluster-requires
-put-cluster-requires c κs = rw (c .before .before .taken .ensures) (c .before .before .before .pre .0, c .before .before .before .pre .1)
+put-cluster-requires c κs =
+    let start = c .before .before .before .before .before in
+    rw (c .before .before .taken .ensures) (start .pre .0, start .pre .1)
 
 put-glyph-requires : tie.Need-put-glyph-requires
 put-glyph-requires c κs = search needs
@@ -28,7 +30,11 @@ same-length-2 : tie.Need-same-length-2
 same-length-2 c = search needs
 
 returns : tie.Need-returns
-returns c = rw (← c .before .before .before .before .before .before .before .before .before .before .taken .ensures) (c .advance .ensures, (c .before .before .before .before .before .before .before .put-cluster .ensures, c .before .before .before .before .put-glyph .ensures))
+returns c =
+    let at-put-glyph = c .before .before .before .before .before in
+    let at-put-cluster = at-put-glyph .before .before .before .before in
+    let at-taken = at-put-cluster .before .before .before in
+    rw (← at-taken .taken .ensures) (c .advance .ensures, (at-put-cluster .put-cluster .ensures, at-put-glyph .put-glyph .ensures))
 
 pub put-entry-spec : {M : Type 1} → statement M
 put-entry-spec =

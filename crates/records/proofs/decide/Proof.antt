@@ -1,8 +1,8 @@
 -- `records::decide` meets its contract: each test decides one of the three ways of the listing. Assumes nothing.
-use borrow.Author.Tests.{not-true, not-false}
-use mathlib.Core.Path.{sym, _∙_}
-use borrow.Author.Needs.{needs}
 use Rattle.records.proofs.Planned.{unsound, short, whole}
+use mathlib.Core.Path.{sym, _∙_}
+use borrow.Author.Tests.{not-true, not-false}
+use borrow.Author.Needs.{needs}
 use Rattle.records.proofs.decide.Statement.{statement}
 use Rattle.records.proofs.decide.Tie as tie
 
@@ -19,7 +19,9 @@ refuses-requires-2 : tie.Need-refuses-requires-2
 refuses-requires-2 c κs = search needs
 
 returns-2 : tie.Need-returns-2
-returns-2 c = c .refuses2 .ensures ∙ short _ _ _ _ (sym (c .before .before .before .is-sound .ensures) ∙ not-false _ (c .before .before .if1 .left)) (c .before .if2 .taken)
+returns-2 c =
+    let at-if = c .before .before in
+    c .refuses2 .ensures ∙ short _ _ _ _ (sym (at-if .before .is-sound .ensures) ∙ not-false _ (at-if .if1 .left)) (c .before .if2 .taken)
 
 returns-3 : tie.Need-returns-3
 returns-3 c = whole _ _ _ _ (sym (c .before .before .is-sound .ensures) ∙ not-false _ (c .before .if1 .left)) (c .if2 .left)

@@ -1,54 +1,76 @@
--- `records::glyph_at` meets its contract: the four numbers are read, and the record is made of them. Assumes nothing.
-use borrow.Author.Needs.{needs}
+-- `records::glyph_at` meets its contract: the four numbers are fetched, and the record is made of them. Assumes nothing.
+use Rattle.wire.proofs.Fetched.{words-length}
+use native.Mathlib.Omega.{arith}
+use Rattle.label.specs.Wire.{words}
 use Rattle.records.proofs.Parts.{made}
+use borrow.Author.Needs.{needs}
 use Rattle.records.proofs.glyph_at.Statement.{statement}
 use Rattle.records.proofs.glyph_at.Tie as tie
 
 mul-i : tie.Need-mul-i
 mul-i c = search needs
 
-index-at-requires : tie.Need-index-at-requires
-index-at-requires c κs = search needs
+number-at-requires : tie.Need-number-at-requires
+number-at-requires c κs = omega (arith, words-length (c .before .args .glyphs .now))
 
-add-advance-at : tie.Need-add-advance-at
-add-advance-at c = search needs
+index-of-requires : tie.Need-index-of-requires
+index-of-requires c κs = search needs
 
-advance-at-requires : tie.Need-advance-at-requires
-advance-at-requires c κs = search needs
+add-number-at : tie.Need-add-number-at
+add-number-at c = search needs
 
-add-u : tie.Need-add-u
-add-u c = search needs
+number-at-requires-2 : tie.Need-number-at-requires-2
+number-at-requires-2 c κs = omega (arith, words-length (c .before .before .before .args .glyphs .now))
 
-mul-u : tie.Need-mul-u
-mul-u c = search needs
+advance-of-requires : tie.Need-advance-of-requires
+advance-of-requires c κs = search needs
 
-shared-slice-copy-out-u : tie.Need-shared-slice-copy-out-u
-shared-slice-copy-out-u c = search needs
+add-number-at-2 : tie.Need-add-number-at-2
+add-number-at-2 c = search needs
 
-add-v : tie.Need-add-v
-add-v c = search needs
+number-at-requires-3 : tie.Need-number-at-requires-3
+number-at-requires-3 c κs = omega (arith, words-length (c .before .before .before .before .before .args .glyphs .now))
 
-mul-v : tie.Need-mul-v
-mul-v c = search needs
+signed-number-requires : tie.Need-signed-number-requires
+signed-number-requires c κs = search needs
 
-shared-slice-copy-out-v : tie.Need-shared-slice-copy-out-v
-shared-slice-copy-out-v c = search needs
+add-number-at-3 : tie.Need-add-number-at-3
+add-number-at-3 c = search needs
+
+number-at-requires-4 : tie.Need-number-at-requires-4
+number-at-requires-4 c κs = omega (arith, words-length (c .before .before .before .before .before .before .before .args .glyphs .now))
+
+signed-number-requires-2 : tie.Need-signed-number-requires-2
+signed-number-requires-2 c κs = search needs
 
 returns : tie.Need-returns
-returns c = made (c .before .before .before .before .args .glyphs .now) (c .before .before .before .before .args .k) _ _ (c .before .before .before .index-at .ensures) (c .before .before .advance-at .ensures) (c .before .u .given) (c .v .given)
+returns c =
+    let at-u = c .before .before in
+    let at-advance = at-u .before .before in
+    let at-index = at-advance .before .before in
+    let start = at-index .before .before .before in
+    let u = at-u .signed-number in
+    let v = c .signed-number2 in
+    made (words (start .args .glyphs .now)) (start .args .k) _ _ _ _ _ _ _ _
+    (at-index .index-of .ensures) (at-index .before .number-at .ensures)
+    (at-advance .advance-of .ensures) (at-advance .before .number-at2 .ensures)
+    (u .ensures) (u .ok) (at-u .before .number-at3 .ensures)
+    (v .ensures) (v .ok) (c .before .number-at4 .ensures)
 
 pub glyph-at-spec : {M : Type 1} → statement M
 glyph-at-spec =
     tie.close
     (tie.spec
     mul-i
-    index-at-requires
-    add-advance-at
-    advance-at-requires
-    add-u
-    mul-u
-    shared-slice-copy-out-u
-    add-v
-    mul-v
-    shared-slice-copy-out-v
+    number-at-requires
+    index-of-requires
+    add-number-at
+    number-at-requires-2
+    advance-of-requires
+    add-number-at-2
+    number-at-requires-3
+    signed-number-requires
+    add-number-at-3
+    number-at-requires-4
+    signed-number-requires-2
     returns)

@@ -1,7 +1,7 @@
 -- `sheet::answer_to` meets its contract. Assumes nothing.
-use borrow.Author.Needs.{needs}
-use Rattle.sheet.specs.Records.{labelIn}
 use Rattle.sheet.proofs.Answers.{accepted, number-small, place-small, told}
+use Rattle.sheet.specs.Records.{labelIn}
+use borrow.Author.Needs.{needs}
 use Rattle.sheet.proofs.answer_to.Statement.{statement}
 use Rattle.sheet.proofs.answer_to.Tie as tie
 
@@ -29,14 +29,14 @@ survey-requires c κs = search needs
 enum-told : tie.Need-enum-told
 enum-told c = search needs
 
-enum-known-r : tie.Need-enum-known-r
-enum-known-r c = search needs
+enum-known-reading : tie.Need-enum-known-reading
+enum-known-reading c = search needs
 
-cast-t17 : tie.Need-cast-t17
-cast-t17 c = record { sfits = number-small _ _ (c .before .before .before .before .survey .ensures .0) (c .before .before .r .given .1) }
+cast-number : tie.Need-cast-number
+cast-number c = record { sfits = number-small _ _ (c .before .before .before .before .survey .ensures .0) (c .before .before .reading .given .1) }
 
-cast-t18 : tie.Need-cast-t18
-cast-t18 c = record { sfits = place-small _ _ (c .before .before .before .before .before .survey .ensures .0) (c .before .before .before .r .given .1) }
+cast-place : tie.Need-cast-place
+cast-place c = record { sfits = place-small _ _ (c .before .before .before .before .before .survey .ensures .0) (c .before .before .before .reading .given .1) }
 
 returns : tie.Need-returns
 unfolding labelIn
@@ -44,7 +44,7 @@ returns c = accepted _ _ (c .before .before .survey .ensures .0) (c .enum-told .
 
 returns-2 : tie.Need-returns-2
 unfolding labelIn
-returns-2 c = told _ _ (c .before .before .before .before .before .survey .ensures .0) (c .before .before .before .r .given .1)
+returns-2 c = told _ _ (c .before .before .before .before .before .survey .ensures .0) (c .before .before .before .reading .given .1)
 
 pub answer-to-spec : {M : Type 1} → statement M
 answer-to-spec =
@@ -58,8 +58,8 @@ answer-to-spec =
     part-survey-end-2
     survey-requires
     enum-told
-    enum-known-r
-    cast-t17
-    cast-t18
+    enum-known-reading
+    cast-number
+    cast-place
     returns
     returns-2)

@@ -1,7 +1,7 @@
 -- `sheet::judge` meets its contract. Assumes nothing.
 use Rattle.label.specs.Bytes.{ascii, begins}
 use Rattle.label.specs.Wire.{fromHalves}
-use Rattle.label.specs.Sheet.{header}
+use Rattle.label.specs.Requests.Sheet.{header}
 use Rattle.sheet.proofs.Records.{Counted, stands, cut, counted-start, counted-next, judged-25, judged-26, judged-27, judged}
 use lib.ListN.{length}
 use mathlib.Core.Path.{_≡_, sym, _∙_}

@@ -1,10 +1,10 @@
 -- `sheet::put_answers` meets its contract. Assumes nothing.
-use Rattle.sheet.proofs.Records.{stands, cut}
-use Rattle.sheet.proofs.Answers.{as-stored, Stored, not-cut, stored-start, two-places, stored-next, stored-end}
-use lib.ListN.{length, length-set}
-use mathlib.Core.Path.{sym, _∙_}
-use Prim.Native.Nat.{_-_}
 use native.Mathlib.Omega.{arith}
+use Prim.Native.Nat.{_+_, _-_, _/_, _<_}
+use mathlib.Core.Path.{sym, _∙_}
+use lib.ListN.{length}
+use Rattle.sheet.proofs.Answers.{as-stored, Stored, not-cut, stored-start, two-places, stored-next, stored-end}
+use Rattle.sheet.proofs.Records.{Stands, stands, cut}
 use borrow.Author.Needs.{needs}
 use Rattle.sheet.proofs.put_answers.Statement.{statement}
 use Rattle.sheet.proofs.put_answers.Tie as tie
@@ -15,8 +15,19 @@ Inv-loop file answers₀ k₀ at₀ answers k at = Stored file answers₀ answer
 abbrev μ-loop : tie.MeasureT-loop
 μ-loop file answers₀ k₀ at₀ answers k at = length file - at
 
+-- the record that was found
+found : (c : tie.After-x Inv-loop μ-loop)
+    → (let l = c .before .before .before .before in Stands (l .before .before .before .args .file .now) (l .loop .at) (c .x .given .0 .0))
+found c = stands _ _ (c .before .before .before .before .loop .inv .left .inside) (sym (c .x .given .1) ∙ c .before .before .record-at .ensures)
+
+-- its answer's two numbers have room
+room : (c : tie.After-answer-to Inv-loop μ-loop) → (let l = c .before .before .before .before .before .before in l .loop .k + 1 < length (l .loop .answers) / 4)
+room c =
+    let at-loop = c .before .before .before .before .before .before in
+    two-places _ (at-loop .loop .inv) (c .before .before .before .before .before .loop-test .taken) (found (c .before .before)) (c .answer-to .ensures)
+
 loop-holds : tie.Need-loop-holds Inv-loop μ-loop
-loop-holds c = stored-start _ (c .before .pre)
+loop-holds c = stored-start _ (c .before .before .pre)
 
 record-at-requires : tie.Need-record-at-requires Inv-loop μ-loop
 record-at-requires c κs = c .before .loop .inv .left .inside
@@ -25,31 +36,37 @@ enum-known-x : tie.Need-enum-known-x Inv-loop μ-loop
 enum-known-x c = search needs
 
 answer-to-requires : tie.Need-answer-to-requires Inv-loop μ-loop
-answer-to-requires c κs = let s = (stands _ _ (c .before .before .before .before .before .loop .inv .left .inside) (sym (c .before .x .given .1) ∙ c .before .before .before .record-at .ensures)) in (s .text, s .indices, s .inside)
+answer-to-requires c κs = let s = found (c .before) in (s .text, s .indices, s .inside)
 
-mul-number : tie.Need-mul-number Inv-loop μ-loop
-mul-number c = let h = (two-places _ (c .before .before .before .before .before .before .before .before .loop .inv) (c .before .before .before .before .before .before .before .loop-test .taken) (stands _ _ (c .before .before .before .before .before .before .before .before .loop .inv .left .inside) (sym (c .before .before .before .before .x .given .1) ∙ c .before .before .before .before .before .before .record-at .ensures)) (c .before .before .answer-to .ensures)) in search needs
+put-number-requires : tie.Need-put-number-requires Inv-loop μ-loop
+put-number-requires c κs = omega (arith, room (c .before .before))
 
-slice-set-from-number : tie.Need-slice-set-from-number Inv-loop μ-loop
-slice-set-from-number c = omega (arith, (two-places _ (c .before .before .before .before .before .before .before .before .loop .inv) (c .before .before .before .before .before .before .before .loop-test .taken) (stands _ _ (c .before .before .before .before .before .before .before .before .loop .inv .left .inside) (sym (c .before .before .before .before .x .given .1) ∙ c .before .before .before .before .before .before .record-at .ensures)) (c .before .before .answer-to .ensures)))
+add-put-number : tie.Need-add-put-number Inv-loop μ-loop
+add-put-number c = record { fits = omega (arith, room (c .before .before .before .before .before .before)) }
 
-add-place : tie.Need-add-place Inv-loop μ-loop
-add-place c = let h = (two-places _ (c .before .before .before .before .before .before .before .before .loop .inv) (c .before .before .before .before .before .before .before .loop-test .taken) (stands _ _ (c .before .before .before .before .before .before .before .before .loop .inv .left .inside) (sym (c .before .before .before .before .x .given .1) ∙ c .before .before .before .before .before .before .record-at .ensures)) (c .before .before .answer-to .ensures)) in omega arith
-
-mul-place : tie.Need-mul-place Inv-loop μ-loop
-mul-place c = let h = (two-places _ (c .before .before .before .before .before .before .before .before .loop .inv) (c .before .before .before .before .before .before .before .loop-test .taken) (stands _ _ (c .before .before .before .before .before .before .before .before .loop .inv .left .inside) (sym (c .before .before .before .before .x .given .1) ∙ c .before .before .before .before .before .before .record-at .ensures)) (c .before .before .answer-to .ensures)) in search needs
-
-slice-set-from-place : tie.Need-slice-set-from-place Inv-loop μ-loop
-slice-set-from-place c = simp length-set (omega (arith, (two-places _ (c .before .before .before .before .before .before .before .before .loop .inv) (c .before .before .before .before .before .before .before .loop-test .taken) (stands _ _ (c .before .before .before .before .before .before .before .before .loop .inv .left .inside) (sym (c .before .before .before .before .x .given .1) ∙ c .before .before .before .before .before .before .record-at .ensures)) (c .before .before .answer-to .ensures))))
+put-number-requires-2 : tie.Need-put-number-requires-2 Inv-loop μ-loop
+put-number-requires-2 c κs =
+    let at-put-number = c .before .before .before .before in
+    let at-answer-to = at-put-number .before .before .before in
+    omega (arith, room at-answer-to, at-put-number .put-number .kept .0)
 
 add-k : tie.Need-add-k Inv-loop μ-loop
-add-k c = let h = (two-places _ (c .before .before .before .before .before .before .before .before .loop .inv) (c .before .before .before .before .before .before .before .loop-test .taken) (stands _ _ (c .before .before .before .before .before .before .before .before .loop .inv .left .inside) (sym (c .before .before .before .before .x .given .1) ∙ c .before .before .before .before .before .before .record-at .ensures)) (c .before .before .answer-to .ensures)) in omega arith
+add-k c = record { fits = omega (arith, room (c .before .before .before .before .before .before .before .before .before .before)) }
 
 loop-less : tie.Need-loop-less Inv-loop μ-loop
-loop-less c = let s = (stands _ _ (c .before .before .before .before .before .before .before .before .loop .inv .left .inside) (sym (c .before .before .before .before .x .given .1) ∙ c .before .before .before .before .before .before .record-at .ensures)) in let a = s .further in let b = s .inside in omega arith
+loop-less c =
+    let at-x = c .before .before .before .before .before .before .before .before .before .before .before .before in
+    let s = found at-x in omega (arith, s .further, s .inside)
 
 loop-again : tie.Need-loop-again Inv-loop μ-loop
-loop-again c = stored-next _ (c .before .before .before .before .before .before .before .before .loop .inv) (c .before .before .before .before .before .before .before .loop-test .taken) (stands _ _ (c .before .before .before .before .before .before .before .before .loop .inv .left .inside) (sym (c .before .before .before .before .x .given .1) ∙ c .before .before .before .before .before .before .record-at .ensures)) (as-stored _ (c .before .before .answer-to .ensures))
+loop-again c =
+    let at-put-number = c .before .before .before .before .before .before .before in
+    let at-answer-to = at-put-number .before .before .before in
+    let at-x = at-answer-to .before .before in
+    let at-loop-test = at-x .before .before .before in
+    let at-loop = at-loop-test .before in
+    stored-next _ (at-loop .loop .inv) (at-loop-test .loop-test .taken) (found at-x) (as-stored _ (at-answer-to .answer-to .ensures))
+    (at-put-number .put-number .ensures) (c .before .before .put-number2 .ensures)
 
 enum-told : tie.Need-enum-told Inv-loop μ-loop
 enum-told c = search needs
@@ -58,7 +75,9 @@ same-length : tie.Need-same-length Inv-loop μ-loop
 same-length c = c .before .before .before .before .loop .inv .laid .same
 
 returns : tie.Need-returns Inv-loop μ-loop
-returns c = absurd (not-cut _ (c .before .before .before .before .loop .inv .left) (c .before .before .before .loop-test .taken) (cut _ _ (sym (c .enum-told .given .1) ∙ c .before .before .record-at .ensures)))
+returns c =
+    let l = c .before .before .before .before .loop .inv .left in
+    absurd (not-cut _ l (c .before .before .before .loop-test .taken) (cut _ _ (sym (c .enum-told .given .1) ∙ c .before .before .record-at .ensures)))
 
 same-length-2 : tie.Need-same-length-2 Inv-loop μ-loop
 same-length-2 c = c .before .loop .inv .laid .same
@@ -76,11 +95,9 @@ put-answers-spec =
     record-at-requires
     enum-known-x
     answer-to-requires
-    mul-number
-    slice-set-from-number
-    add-place
-    mul-place
-    slice-set-from-place
+    put-number-requires
+    add-put-number
+    put-number-requires-2
     add-k
     loop-less
     loop-again

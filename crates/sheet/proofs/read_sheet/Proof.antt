@@ -4,6 +4,9 @@ use borrow.Author.Needs.{needs}
 use Rattle.sheet.proofs.read_sheet.Statement.{statement}
 use Rattle.sheet.proofs.read_sheet.Tie as tie
 
+number-count-requires : tie.Need-number-count-requires
+number-count-requires c κs = search needs
+
 judge-requires : tie.Need-judge-requires
 judge-requires c κs = search needs
 
@@ -11,7 +14,10 @@ enum-known-n : tie.Need-enum-known-n
 enum-known-n c = search needs
 
 put-answers-requires : tie.Need-put-answers-requires
-put-answers-requires c κs = accepts _ _ (c .before .before .before .before .judge .ensures) (c .before .before .n .given .1)
+put-answers-requires c κs =
+    let at-judge = c .before .before .before .before in
+    let at-number-count = at-judge .before in
+    rw (← at-number-count .number-count .ensures .1) (accepts _ _ (at-judge .judge .ensures) (c .before .before .n .given .1))
 
 enum-known-x : tie.Need-enum-known-x
 enum-known-x c = search needs
@@ -20,19 +26,32 @@ same-length : tie.Need-same-length
 same-length c = search needs
 
 returns : tie.Need-returns
-returns c = (tells _ _ (c .before .before .before .before .before .before .judge .ensures) (c .before .before .before .before .n .given .1), c .before .put-answers .ensures)
+returns c =
+    let at-n = c .before .before .before .before .before in
+    let at-judge = at-n .before .before in
+    let at-number-count = at-judge .before in
+    (rw (← at-number-count .number-count .ensures .1) (tells _ _ (at-judge .judge .ensures) (at-n .n .given .1)), c .before .before .put-answers .ensures)
+
+same-length-2 : tie.Need-same-length-2
+same-length-2 c = search needs
 
 returns-2 : tie.Need-returns-2
-returns-2 c = (tells-no _ _ (c .before .before .before .judge .ensures) (c .before .x .given .1), rw (refuses _ _ (c .before .before .before .judge .ensures) (c .before .x .given .1)))
+returns-2 c =
+    let at-judge = c .before .before .before in
+    let at-number-count = at-judge .before in
+    rw (← at-number-count .number-count .ensures .1)
+    (tells-no _ _ (at-judge .judge .ensures) (c .before .x .given .1), rw (refuses _ _ (at-judge .judge .ensures) (c .before .x .given .1)))
 
 pub read-sheet-spec : {M : Type 1} → statement M
 read-sheet-spec =
     tie.close
     (tie.spec
+    number-count-requires
     judge-requires
     enum-known-n
     put-answers-requires
     enum-known-x
     same-length
     returns
+    same-length-2
     returns-2)

@@ -1,3 +1,4 @@
+-- `survey::advance` meets its contract. Assumes nothing.
 use borrow.Author.Needs.{needs}
 use borrow.Author.Tests.{eq-eqb, ne-eqb}
 use Rattle.survey.specs.Steps.{advanced}

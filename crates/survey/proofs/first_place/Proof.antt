@@ -1,3 +1,4 @@
+-- `survey::first_place` meets its contract. Assumes nothing.
 use Rattle.survey.proofs.Entries.{empty-yes, empty-no}
 use Rattle.survey.proofs.first_place.Statement.{statement}
 use Rattle.survey.proofs.first_place.Tie as tie

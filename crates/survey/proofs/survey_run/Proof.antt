@@ -1,20 +1,21 @@
+-- `survey::survey_run` meets its contract. Assumes nothing.
 use Prim.Native.Nat.{ℕ, _+_, _-_, _<_}
 use native.Mathlib.Omega.{arith}
 use mathlib.Core.Path.{refl, sym, _∙_, ap}
 use borrow.Author.Needs.{needs}
 use lib.ListN.{length}
 use Rattle.label.specs.Calls.{readingOutcome}
-use Rattle.label.specs.Rounded.{beside}
+use Rattle.label.specs.Requests.RoundedCount.{beside}
 use Rattle.text.specs.Moves.{unitsFrom}
 use Rattle.survey.proofs.Endings.{nothing-is, run-nothing, run-stop, run-tail, refused-outcome}
-use Rattle.survey.proofs.Surveying.{Surveyed, surveyed-on, rounding-start, rounding-few, rounding-end, none-rounded}
+use Rattle.survey.proofs.Surveying.{Underway, surveyed-on, rounding-start, rounding-few, rounding-end, none-rounded}
 use Rattle.survey.proofs.Walking.{nothing, stands-start, ready-start, at-start, at-decodes, at-length, code-stopped, ends-open}
 use Rattle.survey.proofs.survey_run.Statement.{statement}
 use Rattle.survey.proofs.survey_run.Tie as tie
 
 abbrev Inv-loop : tie.InvT-loop
 Inv-loop text indices count start bare c₀ rounded-sum₀ c rounded-sum =
-    Surveyed text (unitsFrom text start) indices c rounded-sum
+    Underway text (unitsFrom text start) indices c rounded-sum
 
 abbrev μ-loop : tie.MeasureT-loop
 μ-loop text indices count start bare c₀ rounded-sum₀ c rounded-sum = length indices + 1 - c .place
@@ -66,7 +67,7 @@ taken : (c : tie.After-known-told Inv-loop μ-loop)
     → let a = c .before .before .before .before .before .before .before .before .before .before .before .before .args in
     let l = c .before .before .before .before .before .before .loop in
     let n = c .before .next .given .0 in
-    Surveyed (a .text .now) (unitsFrom (a .text .now) (a .start)) (a .indices .now) (n .0) (l .rounded-sum + n .1 .0) × (l .c .place < n .0 .place)
+    Underway (a .text .now) (unitsFrom (a .text .now) (a .start)) (a .indices .now) (n .0) (l .rounded-sum + n .1 .0) × (l .c .place < n .0 .place)
 taken c =
     surveyed-on _ _ _ _ _ (c .before .before .before .before .before .before .loop .inv) (c .before .before .before .before .if2 .taken) _
     (c .before .before .before .before .before .before .before .before .before .before .before .before .pre .1 .0) _ (c .before .before .before .survey-entry .ensures) _ _ (c .before .next .given .1)

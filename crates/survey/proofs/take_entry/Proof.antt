@@ -1,3 +1,4 @@
+-- `survey::take_entry` meets its contract. Assumes nothing.
 use mathlib.Core.Bool.{not}
 use mathlib.Core.Path.{refl, sym, _∙_}
 use borrow.Author.Needs.{needs}

@@ -1,12 +1,12 @@
 -- `text::fill_units` meets its contract. Assumes nothing.
-use Rattle.text.proofs.Fills.{Fill, fill-start, fill-room, fill-next, fill-end}
-use Rattle.text.proofs.Moves.{no-ill, no-outside}
-use Rattle.utf8.proofs.Chars.{char-plain-as, char-inside}
-use borrow.Author.Needs.{needs}
-use lib.ListN.{length}
-use mathlib.Core.Path.{sym, _∙_}
-use native.Mathlib.Omega.{arith}
 use Prim.Native.Nat.{_-_}
+use native.Mathlib.Omega.{arith}
+use mathlib.Core.Path.{sym, _∙_}
+use lib.ListN.{length}
+use Rattle.utf8.proofs.Chars.{char-plain-as, char-inside}
+use Rattle.text.proofs.Moves.{no-ill, no-outside}
+use Rattle.text.proofs.Fills.{Fill, fill-start, fill-room, fill-next, fill-end}
+use borrow.Author.Needs.{needs}
 use Rattle.text.proofs.fill_units.Statement.{statement}
 use Rattle.text.proofs.fill_units.Tie as tie
 
@@ -33,8 +33,13 @@ wide-requires c κs = search needs
 
 put-char-requires : tie.Need-put-char-requires Inv-loop μ-loop
 put-char-requires c κs =
-    let g = char-plain-as _ _ _ (c .wide .ensures .0) (sym (c .before .before .before .before .is-within .ensures) ∙ c .before .before .before .if1 .taken) in
-    fill-room (c .before .before .before .before .before .before .before .loop .inv) (c .before .before .before .before .before .before .loop-test .taken) g (c .before .before .before .before .before .before .before .before .before .before .pre .1)
+    let at-if1 = c .before .before .before in
+    let at-is-within = at-if1 .before in
+    let at-loop-test = at-is-within .before .before in
+    let at-loop = at-loop-test .before in
+    let start = at-loop .before .before .before in
+    let g = char-plain-as _ _ _ (c .wide .ensures .0) (sym (at-is-within .is-within .ensures) ∙ at-if1 .if1 .taken) in
+    fill-room (at-loop .loop .inv) (at-loop-test .loop-test .taken) g (start .pre .1)
 
 add-i : tie.Need-add-i Inv-loop μ-loop
 add-i c = search needs
@@ -44,7 +49,13 @@ loop-less c = search needs
 
 loop-again : tie.Need-loop-again Inv-loop μ-loop
 loop-again c =
-    fill-next (c .before .before .before .before .before .before .before .before .before .before .loop .inv) (c .before .before .before .before .before .before .before .before .before .loop-test .taken) (char-plain-as _ _ _ (c .before .before .before .wide .ensures .0) (sym (c .before .before .before .before .before .before .before .is-within .ensures) ∙ c .before .before .before .before .before .before .if1 .taken)) (c .before .before .put-char .ensures)
+    let at-wide = c .before .before .before in
+    let at-if1 = at-wide .before .before .before in
+    let at-is-within = at-if1 .before in
+    let at-loop-test = at-is-within .before .before in
+    let at-loop = at-loop-test .before in
+    fill-next (at-loop .loop .inv) (at-loop-test .loop-test .taken)
+    (char-plain-as _ _ _ (at-wide .wide .ensures .0) (sym (at-is-within .is-within .ensures) ∙ at-if1 .if1 .taken)) (c .before .before .put-char .ensures)
 
 char-at-requires : tie.Need-char-at-requires Inv-loop μ-loop
 char-at-requires c κs = search needs
@@ -54,16 +65,29 @@ enum-known-code c = search needs
 
 put-char-requires-2 : tie.Need-put-char-requires-2 Inv-loop μ-loop
 put-char-requires-2 c κs =
-    let g = sym (c .before .before .before .before .char-at .ensures) ∙ c .before .before .code .given .1 in
-    fill-room (c .before .before .before .before .before .before .before .before .before .loop .inv) (c .before .before .before .before .before .before .before .before .loop-test .taken) g (c .before .before .before .before .before .before .before .before .before .before .before .before .pre .1)
+    let at-char-at = c .before .before .before .before in
+    let at-loop-test = at-char-at .before .before .before .before in
+    let at-loop = at-loop-test .before in
+    let start = at-loop .before .before .before in
+    let g = sym (at-char-at .char-at .ensures) ∙ c .before .before .code .given .1 in
+    fill-room (at-loop .loop .inv) (at-loop-test .loop-test .taken) g (start .pre .1)
 
 loop-less-2 : tie.Need-loop-less-2 Inv-loop μ-loop
 loop-less-2 c =
-    let d = char-inside _ _ _ _ (c .before .before .before .before .before .before .before .before .before .before .before .loop-test .taken) (sym (c .before .before .before .before .before .before .before .char-at .ensures) ∙ c .before .before .before .before .before .code .given .1) in
+    let at-code = c .before .before .before .before .before in
+    let at-char-at = at-code .before .before in
+    let at-loop-test = at-char-at .before .before .before .before in
+    let d = char-inside _ _ _ _ (at-loop-test .loop-test .taken) (sym (at-char-at .char-at .ensures) ∙ at-code .code .given .1) in
     omega (arith, d)
 
 loop-again-2 : tie.Need-loop-again-2 Inv-loop μ-loop
-loop-again-2 c = fill-next (c .before .before .before .before .before .before .before .before .before .before .before .before .loop .inv) (c .before .before .before .before .before .before .before .before .before .before .before .loop-test .taken) (sym (c .before .before .before .before .before .before .before .char-at .ensures) ∙ c .before .before .before .before .before .code .given .1) (c .before .before .put-char2 .ensures)
+loop-again-2 c =
+    let at-code = c .before .before .before .before .before in
+    let at-char-at = at-code .before .before in
+    let at-loop-test = at-char-at .before .before .before .before in
+    let at-loop = at-loop-test .before in
+    fill-next (at-loop .loop .inv) (at-loop-test .loop-test .taken) (sym (at-char-at .char-at .ensures) ∙ at-code .code .given .1)
+    (c .before .before .put-char2 .ensures)
 
 enum-told : tie.Need-enum-told Inv-loop μ-loop
 enum-told c = search needs
@@ -72,7 +96,10 @@ same-length : tie.Need-same-length Inv-loop μ-loop
 same-length c = c .before .before .before .before .before .before .before .loop .inv .same
 
 returns : tie.Need-returns Inv-loop μ-loop
-returns c = no-ill _ _ _ (c .before .before .before .before .before .before .before .loop .inv .here) (c .before .before .before .before .before .before .loop-test .taken) (sym (c .before .before .char-at .ensures) ∙ c .enum-told .given .1)
+returns c =
+    let at-loop-test = c .before .before .before .before .before .before in
+    let at-loop = at-loop-test .before in
+    no-ill _ _ _ (at-loop .loop .inv .here) (at-loop-test .loop-test .taken) (sym (c .before .before .char-at .ensures) ∙ c .enum-told .given .1)
 
 enum-told-2 : tie.Need-enum-told-2 Inv-loop μ-loop
 enum-told-2 c = search needs
@@ -81,7 +108,10 @@ same-length-2 : tie.Need-same-length-2 Inv-loop μ-loop
 same-length-2 c = c .before .before .before .before .before .before .before .loop .inv .same
 
 returns-2 : tie.Need-returns-2 Inv-loop μ-loop
-returns-2 c = no-outside _ _ _ (c .before .before .before .before .before .before .before .loop .inv .here) (c .before .before .before .before .before .before .loop-test .taken) (sym (c .before .before .char-at .ensures) ∙ c .enum-told2 .given .1)
+returns-2 c =
+    let at-loop-test = c .before .before .before .before .before .before in
+    let at-loop = at-loop-test .before in
+    no-outside _ _ _ (at-loop .loop .inv .here) (at-loop-test .loop-test .taken) (sym (c .before .before .char-at .ensures) ∙ c .enum-told2 .given .1)
 
 same-length-3 : tie.Need-same-length-3 Inv-loop μ-loop
 same-length-3 c = c .before .loop .inv .same

@@ -1,21 +1,18 @@
 -- `text::put_char` meets its contract. Assumes nothing.
-use mathlib.Core.Path.{refl, ap}
-use native.Mathlib.Omega.{arith}
-use native.Mathlib.Numerals.{add-one}
-use lib.ListN.{length, length-set}
+use Rattle.text.proofs.Fills.{one-char, two-chars}
 use Rattle.text.proofs.Counts.{one-is, two-are}
+use lib.ListN.{length}
+use native.Mathlib.Omega.{arith}
+use mathlib.Core.Path.{refl, ap, _∙_}
 use borrow.Author.Needs.{needs}
 use Rattle.text.proofs.put_char.Statement.{statement}
 use Rattle.text.proofs.put_char.Tie as tie
 
-cast-out : tie.Need-cast-out
-cast-out c = search needs
+cast-put-unit : tie.Need-cast-put-unit
+cast-put-unit c = search needs
 
-mul-out : tie.Need-mul-out
-mul-out c = search needs
-
-slice-write-out : tie.Need-slice-write-out
-slice-write-out c = omega (arith, ap length (one-is _ (c .if1 .taken)))
+put-unit-requires : tie.Need-put-unit-requires
+put-unit-requires c κs = omega (arith, ap length (one-is _ (c .before .if1 .taken)))
 
 add-result : tie.Need-add-result
 add-result c = search needs
@@ -24,7 +21,7 @@ same-length : tie.Need-same-length
 same-length c = search needs
 
 returns : tie.Need-returns
-returns c = rw (one-is _ (c .if1 .taken)) (refl, refl)
+returns c = rw (one-is _ (c .before .before .before .before .if1 .taken)) (refl, c .before .before .put-unit .ensures ∙ one-char _ _ _)
 
 add-m : tie.Need-add-m
 add-m c = search needs
@@ -32,20 +29,14 @@ add-m c = search needs
 high-half-requires : tie.Need-high-half-requires
 high-half-requires c κs = search needs
 
-mul-out-2 : tie.Need-mul-out-2
-mul-out-2 c = search needs
-
-slice-write-out-2 : tie.Need-slice-write-out-2
-slice-write-out-2 c = omega (arith, ap length (two-are _ (c .before .if1 .left)))
+put-unit-requires-2 : tie.Need-put-unit-requires-2
+put-unit-requires-2 c κs = omega (arith, ap length (two-are _ (c .before .before .if1 .left)))
 
 low-half-requires : tie.Need-low-half-requires
 low-half-requires c κs = search needs
 
-mul-out-3 : tie.Need-mul-out-3
-mul-out-3 c = search needs
-
-slice-write-out-3 : tie.Need-slice-write-out-3
-slice-write-out-3 c = simp length-set (omega (arith, ap length (two-are _ (c .before .before .if1 .left))))
+put-unit-requires-3 : tie.Need-put-unit-requires-3
+put-unit-requires-3 c κs = omega (arith, ap length (two-are _ (c .before .before .before .before .before .before .before .if1 .left)))
 
 add-result-2 : tie.Need-add-result-2
 add-result-2 c = search needs
@@ -54,25 +45,28 @@ same-length-2 : tie.Need-same-length-2
 same-length-2 c = search needs
 
 returns-2 : tie.Need-returns-2
-returns-2 c = rw (two-are _ (c .before .before .if1 .left)) (refl, cc (add-one (c .before .before .before .before .args .n)))
+returns-2 c =
+    let at-low-half = c .before .before .before in
+    let at-put-unit2 = at-low-half .before .before .before .before in
+    let at-high-half = at-put-unit2 .before in
+    let at-if1 = at-high-half .before .before in
+    two-chars _ _ _ _ _ _ _ _ _ (two-are _ (at-if1 .if1 .left)) (at-high-half .high-half .ensures) (at-low-half .low-half .ensures)
+    (at-put-unit2 .put-unit2 .ensures) (c .before .before .put-unit3 .ensures)
 
 pub put-char-spec : {M : Type 1} → statement M
 put-char-spec =
     tie.close
     (tie.spec
-    cast-out
-    mul-out
-    slice-write-out
+    cast-put-unit
+    put-unit-requires
     add-result
     same-length
     returns
     add-m
     high-half-requires
-    mul-out-2
-    slice-write-out-2
+    put-unit-requires-2
     low-half-requires
-    mul-out-3
-    slice-write-out-3
+    put-unit-requires-3
     add-result-2
     same-length-2
     returns-2)

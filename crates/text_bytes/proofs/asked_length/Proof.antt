@@ -1,7 +1,7 @@
 -- `text_bytes::asked_length` meets its contract. Assumes nothing.
 use native.Mathlib.Omega.{arith}
 use mathlib.Core.Path.{sym, _∙_}
-use Rattle.text_bytes.specs.Units.{askedLength}
+use Rattle.text_bytes.specs.Lengths.{askedLength}
 use Rattle.text_bytes.proofs.Utf8.{ascii-most}
 use borrow.Author.Needs.{needs}
 use Rattle.text_bytes.proofs.asked_length.Statement.{statement}
@@ -11,7 +11,8 @@ both-requires : tie.Need-both-requires
 both-requires c κs = search needs
 
 cast-escaped-length : tie.Need-cast-escaped-length
-cast-escaped-length c = omega (arith, ascii-most (c .before .before .args .escape) (c .before .before .args .u) (sym (c .before .both .ensures) ∙ c .if1 .taken))
+cast-escaped-length c =
+    omega (arith, ascii-most (c .before .before .args .escape) (c .before .before .args .u) (sym (c .before .both .ensures) ∙ c .if1 .taken))
 
 escaped-length-requires : tie.Need-escaped-length-requires
 escaped-length-requires c κs = search needs

@@ -1,18 +1,19 @@
 -- `text_bytes::mark_length` meets its contract. Assumes nothing.
+use Rattle.label.specs.Wire.{halves}
 use native.Mathlib.Omega.{arith}
 use Rattle.text_bytes.proofs.Utf8.{mark-two, mark-none}
 use borrow.Author.Needs.{needs}
 use Rattle.text_bytes.proofs.mark_length.Statement.{statement}
 use Rattle.text_bytes.proofs.mark_length.Tie as tie
 
-unit-or-zero-requires : tie.Need-unit-or-zero-requires
-unit-or-zero-requires c κs = search needs
+is-braced-requires : tie.Need-is-braced-requires
+is-braced-requires c κs = search needs
 
 returns : tie.Need-returns
-returns c = (mark-two (c .before .before .before .args .us .now) (c .before .unit-or-zero .ensures) (c .if1 .taken), omega arith)
+returns c = (mark-two (halves (c .before .before .before .args .us .now)) (c .before .is-braced .ensures) (c .if1 .taken), omega arith)
 
 returns-2 : tie.Need-returns-2
-returns-2 c = (mark-none (c .before .before .before .args .us .now) (c .before .unit-or-zero .ensures) (c .if1 .left), omega arith)
+returns-2 c = (mark-none (halves (c .before .before .before .args .us .now)) (c .before .is-braced .ensures) (c .if1 .left), omega arith)
 
 pub mark-length-spec : {M : Type 1} → statement M
-mark-length-spec = tie.close (tie.spec unit-or-zero-requires returns returns-2)
+mark-length-spec = tie.close (tie.spec is-braced-requires returns returns-2)

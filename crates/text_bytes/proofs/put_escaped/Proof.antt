@@ -1,8 +1,8 @@
 -- `text_bytes::put_escaped` meets its contract. Assumes nothing.
 use native.Mathlib.Omega.{arith}
 use mathlib.Core.Path.{sym, ap}
-use Rattle.label.specs.Attribute.{escapeByte}
 use Rattle.label.specs.Bytes.{ascii}
+use Rattle.label.specs.Requests.Attribute.{escapeByte}
 use Rattle.words.proofs.Puts.{put-as}
 use Rattle.text_bytes.proofs.Utf8.{escape-other}
 use borrow.Author.Needs.{needs}

@@ -1,12 +1,13 @@
 -- `text_bytes::put_text` meets its contract. Assumes nothing.
+use Rattle.label.specs.Wire.{halves}
 use Rattle.words.proofs.Puts.{then, put-as}
 use Rattle.text_bytes.proofs.Utf8.{text-braced, text-plain}
 use borrow.Author.Needs.{needs}
 use Rattle.text_bytes.proofs.put_text.Statement.{statement}
 use Rattle.text_bytes.proofs.put_text.Tie as tie
 
-unit-or-zero-requires : tie.Need-unit-or-zero-requires
-unit-or-zero-requires c κs = search needs
+is-braced-requires : tie.Need-is-braced-requires
+is-braced-requires c κs = search needs
 
 slice-aggregate-put-bytes : tie.Need-slice-aggregate-put-bytes
 slice-aggregate-put-bytes c = search needs
@@ -21,7 +22,13 @@ same-length : tie.Need-same-length
 same-length c = search needs
 
 returns : tie.Need-returns
-returns c = put-as (text-braced (c .before .before .before .before .before .before .before .before .before .before .before .before .before .args .us .now) (c .before .before .before .before .before .before .before .before .before .before .unit-or-zero .ensures) (c .before .before .before .before .before .before .before .before .before .before .before .before .before .args .escape) (c .before .before .before .before .before .before .before .before .before .if1 .taken)) (then (c .before .before .before .before .before .before .put-bytes .ensures .0) (c .before .before .put-units .ensures))
+returns c =
+    let at-put-bytes = c .before .before .before .before .before .before in
+    let at-if1 = at-put-bytes .before .before .before in
+    let at-is-braced = at-if1 .before in
+    let start = at-is-braced .before .before .before in
+    put-as (text-braced (halves (start .args .us .now)) (at-is-braced .is-braced .ensures) (start .args .escape) (at-if1 .if1 .taken))
+    (then (at-put-bytes .put-bytes .ensures .0) (c .before .before .put-units .ensures))
 
 put-units-requires-2 : tie.Need-put-units-requires-2
 put-units-requires-2 c κs = search needs
@@ -30,13 +37,18 @@ same-length-2 : tie.Need-same-length-2
 same-length-2 c = search needs
 
 returns-2 : tie.Need-returns-2
-returns-2 c = put-as (text-plain (c .before .before .before .before .before .before .before .before .args .us .now) (c .before .before .before .before .before .unit-or-zero .ensures) (c .before .before .before .before .before .before .before .before .args .escape) (c .before .before .before .before .if1 .left)) (c .before .before .put-units2 .ensures)
+returns-2 c =
+    let at-if1 = c .before .before .before .before in
+    let at-is-braced = at-if1 .before in
+    let start = at-is-braced .before .before .before in
+    put-as (text-plain (halves (start .args .us .now)) (at-is-braced .is-braced .ensures) (start .args .escape) (at-if1 .if1 .left))
+    (c .before .before .put-units2 .ensures)
 
 pub put-text-spec : {M : Type 1} → statement M
 put-text-spec =
     tie.close
     (tie.spec
-    unit-or-zero-requires
+    is-braced-requires
     slice-aggregate-put-bytes
     put-bytes-requires
     put-units-requires

@@ -1,32 +1,37 @@
 -- `text_bytes::text_length` meets its contract. Assumes nothing.
-use Prim.Native.Nat.{_+_, _-_, _*_, _≤_}
-use native.Mathlib.Omega.{arith}
-use mathlib.Core.Path.{_≡_}
-use lib.ListN.{length, drop}
-use Rattle.label.specs.Attribute.{asAsked}
-use Rattle.label.specs.Write.{unitsBytes, textOf}
 use Rattle.text_bytes.proofs.Utf8.{length-start, length-next, length-end}
+use Rattle.label.specs.Wire.{halves}
+use Rattle.label.specs.Write.{unitsBytes, textOf}
+use Rattle.label.specs.Requests.Attribute.{asAsked}
+use lib.ListN.{length, drop}
+use Rattle.text_bytes.specs.Lengths.{askedLength}
+use mathlib.Core.Path.{_≡_, sym, ap, _∙_}
+use native.Mathlib.Omega.{arith}
+use Prim.Native.Nat.{_+_, _-_, _*_, _≤_}
 use borrow.Author.Needs.{needs}
 use Rattle.text_bytes.proofs.text_length.Statement.{statement}
 use Rattle.text_bytes.proofs.text_length.Tie as tie
 
 abbrev Inv-loop : tie.InvT-loop
-Inv-loop escape us n₀ i₀ n i = (n ≤ 2 + 6 * i) × (n + length (asAsked escape (unitsBytes (drop i us))) ≡ length (asAsked escape (textOf us)))
+Inv-loop escape us count n₀ i₀ n i =
+    (n ≤ 2 + 6 * i) × (n + length (asAsked escape (unitsBytes (drop i (halves us)))) ≡ length (asAsked escape (textOf (halves us))))
 
 abbrev μ-loop : tie.MeasureT-loop
-μ-loop escape us n₀ i₀ n i = length us - i
+μ-loop escape us count n₀ i₀ n i = count - i
+
+unit-count-requires : tie.Need-unit-count-requires Inv-loop μ-loop
+unit-count-requires c κs = search needs
 
 mark-length-requires : tie.Need-mark-length-requires Inv-loop μ-loop
 mark-length-requires c κs = search needs
 
 loop-holds : tie.Need-loop-holds Inv-loop μ-loop
-loop-holds c = (omega arith, length-start (c .before .before .args .escape) (c .before .before .args .us .now) (c .mark-length .ensures .0))
+loop-holds c =
+    let start = c .before .before .before in
+    (omega arith, length-start (start .args .escape) (halves (start .args .us .now)) (c .mark-length .ensures .0))
 
-mul-asked-length : tie.Need-mul-asked-length Inv-loop μ-loop
-mul-asked-length c = search needs
-
-shared-slice-read-asked-length : tie.Need-shared-slice-read-asked-length Inv-loop μ-loop
-shared-slice-read-asked-length c = search needs
+unit-at-requires : tie.Need-unit-at-requires Inv-loop μ-loop
+unit-at-requires c κs = search needs
 
 asked-length-requires : tie.Need-asked-length-requires Inv-loop μ-loop
 asked-length-requires c κs = search needs
@@ -42,11 +47,22 @@ loop-less c = search needs
 
 loop-again : tie.Need-loop-again Inv-loop μ-loop
 loop-again c =
-    let a = c .before .before .before .before .before .before .args in
-    (omega arith, length-next (a .escape) (a .us .now) (c .before .before .before .loop .i) _ _ _ (c .before .before .loop-test .taken) (c .before .shared-slice-known2 .given (c .before .before .before .loop .i) .fits) (c .asked-length .ensures .0) (c .before .before .before .loop .inv .1))
+    let at-loop = c .before .before .before in
+    let at-unit-count = at-loop .before .before in
+    let start = at-unit-count .before .before in
+    let a = start .args in (
+      omega arith,
+      length-next (a .escape) (halves (a .us .now)) (at-loop .loop .i) _ _ _ (omega (arith, at-unit-count .unit-count .ensures .0))
+          (rw (sym (c .before .unit-at .ensures)) (omega arith)) (c .asked-length .ensures .0 ∙ ap (askedLength (a .escape)) (c .before .unit-at .ensures))
+          (at-loop .loop .inv .1),
+    )
 
 returns : tie.Need-returns Inv-loop μ-loop
-returns c = length-end (c .before .before .before .before .args .escape) (c .before .before .before .before .args .us .now) (c .before .loop .i) _ _ (c .loop-test .left) (c .before .loop .inv .1)
+returns c =
+    let at-unit-count = c .before .before .before in
+    let start = at-unit-count .before .before in
+    length-end (start .args .escape) (halves (start .args .us .now)) (c .before .loop .i) _ _ (omega (arith, at-unit-count .unit-count .ensures .0))
+    (c .before .loop .inv .1)
 
 pub text-length-spec : {M : Type 1} → statement M
 text-length-spec =
@@ -54,10 +70,10 @@ text-length-spec =
     (tie.spec
     Inv-loop
     μ-loop
+    unit-count-requires
     mark-length-requires
     loop-holds
-    mul-asked-length
-    shared-slice-read-asked-length
+    unit-at-requires
     asked-length-requires
     add-n
     add-i

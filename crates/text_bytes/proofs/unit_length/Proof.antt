@@ -2,7 +2,7 @@
 use native.Mathlib.Omega.{arith}
 use mathlib.Core.Path.{sym, _∙_}
 use borrow.Author.Tests.{le-leb, lt-leb}
-use Rattle.text_bytes.specs.Units.{unitLength}
+use Rattle.text_bytes.specs.Lengths.{unitLength}
 use borrow.Author.Needs.{needs}
 use Rattle.text_bytes.proofs.unit_length.Statement.{statement}
 use Rattle.text_bytes.proofs.unit_length.Tie as tie
@@ -20,18 +20,44 @@ is-high-requires c κs = search needs
 
 returns-3 : tie.Need-returns-3
 unfolding unitLength
-returns-3 c = (rw (lt-leb _ _ (c .before .before .before .if1 .left), lt-leb _ _ (c .before .before .if2 .left), sym (c .before .is-high .ensures) ∙ c .if3 .taken), omega arith)
+returns-3 c =
+    let at-if1 = c .before .before .before in
+    (rw (lt-leb _ _ (at-if1 .if1 .left), lt-leb _ _ (c .before .before .if2 .left), sym (c .before .is-high .ensures) ∙ c .if3 .taken), omega arith)
 
 is-low-requires : tie.Need-is-low-requires
 is-low-requires c κs = search needs
 
 returns-4 : tie.Need-returns-4
 unfolding unitLength
-returns-4 c = (rw (lt-leb _ _ (c .before .before .before .before .before .if1 .left), lt-leb _ _ (c .before .before .before .before .if2 .left), sym (c .before .before .before .is-high .ensures) ∙ c .before .before .if3 .left, sym (c .before .is-low .ensures) ∙ c .if4 .taken), omega arith)
+returns-4 c =
+    let at-is-high = c .before .before .before in
+    let at-if2 = at-is-high .before in
+    let at-if1 = at-if2 .before in (
+      rw (
+        lt-leb _ _ (at-if1 .if1 .left),
+        lt-leb _ _ (at-if2 .if2 .left),
+        sym (at-is-high .is-high .ensures) ∙ c .before .before .if3 .left,
+        sym
+            (c .before .is-low .ensures) ∙ c .if4 .taken,
+      ),
+      omega arith,
+    )
 
 returns-5 : tie.Need-returns-5
 unfolding unitLength
-returns-5 c = (rw (lt-leb _ _ (c .before .before .before .before .before .if1 .left), lt-leb _ _ (c .before .before .before .before .if2 .left), sym (c .before .before .before .is-high .ensures) ∙ c .before .before .if3 .left, sym (c .before .is-low .ensures) ∙ c .if4 .left), omega arith)
+returns-5 c =
+    let at-is-high = c .before .before .before in
+    let at-if2 = at-is-high .before in
+    let at-if1 = at-if2 .before in (
+      rw (
+        lt-leb _ _ (at-if1 .if1 .left),
+        lt-leb _ _ (at-if2 .if2 .left),
+        sym (at-is-high .is-high .ensures) ∙ c .before .before .if3 .left,
+        sym
+            (c .before .is-low .ensures) ∙ c .if4 .left,
+      ),
+      omega arith,
+    )
 
 pub unit-length-spec : {M : Type 1} → statement M
 unit-length-spec =

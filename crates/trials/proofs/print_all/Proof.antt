@@ -1,4 +1,4 @@
--- `trials::print_all` meets its contract. Assumes nothing.
+-- `trials::print_all` ends: each label printed leaves less of the input. Assumes nothing.
 use borrow.Author.Needs.{needs}
 use lib.ListN.{length}
 use native.Mathlib.Omega.{arith}

@@ -1,4 +1,4 @@
--- `trials::print_next` meets its contract. Assumes nothing.
+-- `trials::print_next` meets its contract: the two lines lie within the input, and the place behind them is further on. Assumes nothing.
 use borrow.Author.Needs.{needs}
 use Rattle.trials.proofs.print_next.Statement.{statement}
 use Rattle.trials.proofs.print_next.Tie as tie
@@ -28,7 +28,10 @@ print-label-requires : tie.Need-print-label-requires
 print-label-requires c κs = search needs
 
 returns : tie.Need-returns
-returns c = (c .before .before .before .two-lines .ensures .1 .5 (c .before .before .before .before .before .pre), c .before .before .before .two-lines .ensures .1 .4)
+returns c =
+    let at-lines = c .before .before .before in
+    let l = at-lines .two-lines .ensures .1 in
+    (l .5 (at-lines .before .before .pre), l .4)
 
 pub print-next-spec : {M : Type 1} → statement M
 print-next-spec =

@@ -1,3 +1,4 @@
+-- `words::get_u16` meets its contract. Assumes nothing.
 use Rattle.words.specs.Words.{halfAt}
 use borrow.Author.Needs.{needs}
 use Rattle.words.proofs.get_u16.Statement.{statement}

@@ -1,3 +1,4 @@
+-- `words::get_u32` meets its contract. Assumes nothing.
 use Rattle.words.specs.Words.{wordAt}
 use borrow.Author.Needs.{needs}
 use Rattle.words.proofs.get_u32.Statement.{statement}

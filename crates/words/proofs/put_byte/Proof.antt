@@ -1,3 +1,4 @@
+-- `words::put_byte` meets its contract. Assumes nothing.
 use Rattle.words.proofs.Puts.{put-one, put-past}
 use native.Mathlib.Omega.{arith}
 use borrow.Author.Needs.{needs}

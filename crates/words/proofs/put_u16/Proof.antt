@@ -1,5 +1,7 @@
-use Rattle.words.specs.Words.{putHalf}
+-- `words::put_u16` meets its contract. Assumes nothing.
+use Rattle.words.specs.Puts.{puts}
 use lib.Bits.{and-le-r, and-mask}
+use native.Mathlib.Numerals.{add-one}
 use native.Mathlib.Omega.{arith}
 use borrow.Author.Needs.{needs}
 use Rattle.words.proofs.put_u16.Statement.{statement}
@@ -24,8 +26,8 @@ same-length : tie.Need-same-length
 same-length c = search needs
 
 returns : tie.Need-returns
-unfolding putHalf
-returns c = rw (and-mask (c .args .n) 8)
+unfolding puts
+returns c = rw (and-mask (c .args .n) 8, add-one (c .args .at))
 
 pub put-u16-spec : {M : Type 1} → statement M
 put-u16-spec =

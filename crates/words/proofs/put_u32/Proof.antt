@@ -1,8 +1,10 @@
+-- `words::put_u32` meets its contract. Assumes nothing.
 use Prim.Native.Nat.{_/_}
+use native.Mathlib.Numerals.{add-one, add-two, add-three}
 use native.Mathlib.Omega.{arith}
 use lib.ListN.{length-set}
 use lib.Bits.{and-le-r, and-mask}
-use Rattle.words.specs.Words.{putWord}
+use Rattle.words.specs.Puts.{puts}
 use borrow.Author.Needs.{needs}
 use Rattle.words.proofs.put_u32.Statement.{statement}
 use Rattle.words.proofs.put_u32.Tie as tie
@@ -32,7 +34,7 @@ slice-write-buf-3 : tie.Need-slice-write-buf-3
 slice-write-buf-3 c = simp length-set (omega arith)
 
 cast-buf-4 : tie.Need-cast-buf-4
-cast-buf-4 c = omega (arith, and-le-r (c .args .n / 16777216) 255)
+cast-buf-4 c = search needs
 
 add-buf-3 : tie.Need-add-buf-3
 add-buf-3 c = search needs
@@ -44,10 +46,11 @@ same-length : tie.Need-same-length
 same-length c = search needs
 
 returns : tie.Need-returns
-unfolding putWord
+unfolding puts
 returns c =
     let n = c .args .n in
-    rw (and-mask n 8, and-mask (n / 256) 8, and-mask (n / 65536) 8, and-mask (n / 16777216) 8)
+    let at = c .args .at in
+    rw (and-mask n 8, and-mask (n / 256) 8, and-mask (n / 65536) 8, add-one at, add-two at, add-three at)
 
 pub put-u32-spec : {M : Type 1} → statement M
 put-u32-spec =

@@ -1,26 +1,34 @@
-use Rattle.writer.proofs.Stores.{owed, writtenAt, indices-start, rest-further, rest-opens, rest-none, rest-end, entry-stored, owes-bound}
-use Rattle.words.proofs.Puts.{Left, left-start, left-as, left-end}
-use Rattle.label.specs.Sound.{clustersOf, glyphsOf}
-use Rattle.label.specs.Write.{indicesOf}
-use lib.ListN.{length}
-use Prim.Native.Nat.{ℕ, _+_, _-_, _*_, _≤_}
-use mathlib.Core.Path.{ap, _∙_}
+-- `writer::put_indices` meets its contract. Assumes nothing.
 use native.Mathlib.Omega.{arith}
+use mathlib.Core.Path.{ap, _∙_}
+use Prim.Native.Nat.{ℕ, _+_, _-_, _*_, _≤_}
+use Rattle.label.specs.Wire.{words}
+use Rattle.label.specs.Sound.{nat as natOf, clustersOf, glyphsOf}
+use Rattle.label.specs.Write.{indicesOf}
+use Rattle.words.proofs.Puts.{Left, left-start, left-as, left-end}
+use Rattle.writer.proofs.Stores.{owed, writtenAt, indices-start, rest-further, rest-opens, rest-none, rest-end, entry-stored, owes-bound}
 use borrow.Author.Needs.{needs}
 use Rattle.writer.proofs.put_indices.Statement.{statement}
 use Rattle.writer.proofs.put_indices.Tie as tie
 
 abbrev Inv-loop : tie.InvT-loop
-Inv-loop out₀ cs gs lack₀ i₀ k₀ at₀ owed₀ out lack i k at n =
-    Left out₀ (indicesOf (clustersOf cs) (glyphsOf gs)) out 0 at (owed n (writtenAt cs gs lack i k)) × (at + n ≤ 21 * k) × (i ≤ length cs) × (k ≤ length gs)
+Inv-loop out₀ cs gs counts numbers lack₀ i₀ k₀ at₀ owed₀ out lack i k at n =
+    Left out₀ (indicesOf (clustersOf (words cs)) (glyphsOf (words gs))) out 0 at (owed n (writtenAt (words cs) (words gs) lack i k)) × (at + n ≤ 21 * k)
+    × (i ≤ counts) × (k ≤ numbers)
 
 abbrev μ-loop : tie.MeasureT-loop
-μ-loop out₀ cs gs lack₀ i₀ k₀ at₀ owed₀ out lack i k at n = length gs - k
+μ-loop out₀ cs gs counts numbers lack₀ i₀ k₀ at₀ owed₀ out lack i k at n = numbers - k
+
+number-count-requires : tie.Need-number-count-requires Inv-loop μ-loop
+number-count-requires c κs = search needs
+
+number-count-requires-2 : tie.Need-number-count-requires-2 Inv-loop μ-loop
+number-count-requires-2 c κs = search needs
 
 loop-holds : tie.Need-loop-holds Inv-loop μ-loop
 loop-holds c =
-    let a = c .before .args in
-    (left-as (indices-start (a .cs .now) (a .gs .now)) left-start, search needs, search needs, search needs)
+    let a = c .before .before .before .before .before .args in
+    (left-as (indices-start (words (a .cs .now)) (words (a .gs .now))) left-start, search needs, search needs, search needs)
 
 sub-loop : tie.Need-sub-loop Inv-loop μ-loop
 sub-loop c = search needs
@@ -42,10 +50,18 @@ loop-less c = search needs
 
 loop-again : tie.Need-loop-again Inv-loop μ-loop
 loop-again c =
-    let a = c .before .before .before .before .before .before .before .before .before .args in
-    let l = c .before .before .before .before .before .before .before .loop in (
-      entry-stored _ _ _ (rest-further (a .cs .now) (a .gs .now) (l .owed) (l .lack) (l .i) (l .k) (c .before .before .before .before .before .before .loop-test .taken) (c .before .before .before .before .before .if1 .taken)) (l .inv .0) (c .before .before .before .put-next .ensures .0) (c .owes .ensures .0),
-      owes-bound (l .at) _ (l .owed) (l .k) _ (c .owes .ensures .0) (omega arith) (c .before .before .before .put-next .ensures .1) (l .inv .1),
+    let at-put-next = c .before .before .before in
+    let at-if1 = at-put-next .before .before in
+    let at-loop-test = at-if1 .before in
+    let at-loop = at-loop-test .before in
+    let at-number-count2 = at-loop .before in
+    let start = at-number-count2 .before .before .before .before .before in
+    let a = start .args in
+    let l = at-loop .loop in (
+      entry-stored _ _ _ (rest-further (words (a .cs .now)) (words (a .gs .now)) (l .owed) (l .lack) (l .i) (l .k)
+          (omega (arith, at-number-count2 .number-count2 .ensures .0, at-loop-test .loop-test .taken)) (at-if1 .if1 .taken)) (l .inv .0)
+          (at-put-next .put-next .ensures .0) (c .owes .ensures .0),
+      owes-bound (l .at) _ (l .owed) (l .k) _ (c .owes .ensures .0) (omega arith) (at-put-next .put-next .ensures .1) (l .inv .1),
       omega arith,
       omega arith,
     )
@@ -58,18 +74,30 @@ same-length c = c .before .before .before .loop .inv .0 .same
 
 returns : tie.Need-returns Inv-loop μ-loop
 returns c =
-    let a = c .before .before .before .before .before .args in
-    let l = c .before .before .before .loop in
-    left-end (left-as (rest-none (a .cs .now) (a .gs .now) (l .owed) (l .lack) (l .i) (l .k) (c .before .before .loop-test .taken) (omega arith) (c .if2 .taken)) (l .inv .0))
+    let at-loop = c .before .before .before in
+    let at-number-count2 = at-loop .before in
+    let at-number-count = at-number-count2 .before in
+    let start = at-number-count .before .before .before .before in
+    let a = start .args in
+    let l = at-loop .loop in
+    left-end (left-as (rest-none (words (a .cs .now)) (words (a .gs .now)) (l .owed) (l .lack) (l .i) (l .k)
+    (omega (arith, at-number-count2 .number-count2 .ensures .0, c .before .before .loop-test .taken)) (omega arith)
+    (omega (arith, at-number-count .number-count .ensures .0, c .if2 .taken))) (l .inv .0))
 
-nat-at-requires : tie.Need-nat-at-requires Inv-loop μ-loop
-nat-at-requires c κs = search needs
+number-at-requires : tie.Need-number-at-requires Inv-loop μ-loop
+number-at-requires c κs = search needs
 
-add-nat-at : tie.Need-add-nat-at Inv-loop μ-loop
-add-nat-at c = search needs
+nat-requires : tie.Need-nat-requires Inv-loop μ-loop
+nat-requires c κs = search needs
 
-nat-at-requires-2 : tie.Need-nat-at-requires-2 Inv-loop μ-loop
-nat-at-requires-2 c κs = search needs
+add-number-at : tie.Need-add-number-at Inv-loop μ-loop
+add-number-at c = search needs
+
+number-at-requires-2 : tie.Need-number-at-requires-2 Inv-loop μ-loop
+number-at-requires-2 c κs = search needs
+
+nat-requires-2 : tie.Need-nat-requires-2 Inv-loop μ-loop
+nat-requires-2 c κs = search needs
 
 put-next-requires-2 : tie.Need-put-next-requires-2 Inv-loop μ-loop
 put-next-requires-2 c κs = search needs
@@ -94,11 +122,27 @@ loop-less-2 c = search needs
 
 loop-again-2 : tie.Need-loop-again-2 Inv-loop μ-loop
 loop-again-2 c =
-    let a = c .before .before .before .before .before .before .before .before .before .before .before .before .before .before .args in
-    let l = c .before .before .before .before .before .before .before .before .before .before .before .before .loop in
+    let at-put-next2 = c .before .before .before .before .before in
+    let at-nat2 = at-put-next2 .before .before in
+    let at-number-at2 = at-nat2 .before in
+    let at-nat = at-number-at2 .before in
+    let at-number-at = at-nat .before in
+    let at-if2 = at-number-at .before in
+    let at-loop-test = at-if2 .before .before in
+    let at-loop = at-loop-test .before in
+    let at-number-count2 = at-loop .before in
+    let at-number-count = at-number-count2 .before in
+    let start = at-number-count .before .before .before .before in
+    let a = start .args in
+    let l = at-loop .loop in
     let d = c .less-one .ensures ∙ ap (λ (z : ℕ). z - 1) (c .before .widened .ensures .0) in (
-      entry-stored _ _ _ (rest-opens (a .cs .now) (a .gs .now) (l .owed) (l .lack) (l .i) (l .k) (c .before .before .before .before .before .before .before .before .nat-at .ensures) (c .before .before .before .before .before .before .before .nat-at2 .ensures) d (c .before .before .before .before .before .before .before .before .before .before .before .loop-test .taken) (omega arith) (c .before .before .before .before .before .before .before .before .before .if2 .left)) (l .inv .0) (c .before .before .before .before .before .put-next2 .ensures .0) (c .before .before .owes2 .ensures .0),
-      owes-bound (l .at) _ (l .owed) (l .k) _ (c .before .before .owes2 .ensures .0) (omega arith) (c .before .before .before .before .before .put-next2 .ensures .1) (l .inv .1),
+      entry-stored _ _ _ (rest-opens (words (a .cs .now)) (words (a .gs .now)) (l .owed) (l .lack) (l .i) (l .k)
+          (at-nat .nat .ensures .0 ∙ ap natOf (at-number-at .number-at .ensures)) (at-nat2 .nat2 .ensures .0 ∙ ap natOf (at-number-at2 .number-at2 .ensures)) d
+          (omega (arith, at-number-count2 .number-count2 .ensures .0, at-loop-test .loop-test .taken)) (omega arith)
+          (omega (arith, at-number-count .number-count .ensures .0, at-if2 .if2 .left))) (l .inv .0) (at-put-next2 .put-next2 .ensures .0)
+          (c .before .before .owes2 .ensures .0),
+      owes-bound (l .at) _ (l .owed) (l .k) _ (c .before .before .owes2 .ensures .0) (omega (arith, at-put-next2 .put-next2 .ensures .0 .behind))
+          (at-put-next2 .put-next2 .ensures .1) (l .inv .1),
       omega arith,
       omega arith,
     )
@@ -108,9 +152,11 @@ same-length-2 c = c .before .loop .inv .0 .same
 
 returns-2 : tie.Need-returns-2 Inv-loop μ-loop
 returns-2 c =
-    let a = c .before .before .before .args in
+    let start = c .before .before .before .before .before .before .before in
+    let a = start .args in
     let l = c .before .loop in
-    left-end (left-as (rest-end (a .cs .now) (a .gs .now) (l .owed) (l .lack) (l .i) (l .k) (c .loop-test .left)) (l .inv .0))
+    left-end (left-as (rest-end (words (a .cs .now)) (words (a .gs .now)) (l .owed) (l .lack) (l .i) (l .k)
+    (omega (arith, c .before .before .number-count2 .ensures .0, c .loop-test .left))) (l .inv .0))
 
 pub put-indices-spec : {M : Type 1} → statement M
 put-indices-spec =
@@ -118,6 +164,8 @@ put-indices-spec =
     (tie.spec
     Inv-loop
     μ-loop
+    number-count-requires
+    number-count-requires-2
     loop-holds
     sub-loop
     put-next-requires
@@ -129,9 +177,11 @@ put-indices-spec =
     sub-if2
     same-length
     returns
-    nat-at-requires
-    add-nat-at
-    nat-at-requires-2
+    number-at-requires
+    nat-requires
+    add-number-at
+    number-at-requires-2
+    nat-requires-2
     put-next-requires-2
     owes-requires-2
     add-i

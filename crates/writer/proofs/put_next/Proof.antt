@@ -1,21 +1,55 @@
 -- `writer::put_next` meets its contract. Assumes nothing.
-use mathlib.Core.Path.{sym, _∙_}
-use Rattle.label.proofs.Outputs.{empty-is-font}
-use Rattle.words.specs.Places.{glyphAt}
-use Rattle.writer.proofs.Stores.{led-none, led-some}
-use Rattle.words.proofs.Puts.{none, then, put-as}
 use native.Mathlib.Omega.{arith}
+use Rattle.words.proofs.Puts.{none, then, put-as}
+use Rattle.writer.proofs.Stores.{glyph-is, led-none, led-some}
+use Rattle.wire.specs.Numbers.{glyphAt}
+use Rattle.label.proofs.Outputs.{empty-is-font}
+use Rattle.label.specs.Wire.{words}
+use Rattle.label.specs.Sound.{isFont}
+use Rattle.label.specs.Write.{entryBytes}
+use mathlib.Core.Path.{sym, ap, _∙_}
+use Rattle.wire.proofs.Fetched.{words-length}
 use borrow.Author.Needs.{needs}
 use Rattle.writer.proofs.put_next.Statement.{statement}
 use Rattle.writer.proofs.put_next.Tie as tie
 
-is-font-at-requires : tie.Need-is-font-at-requires
-is-font-at-requires c κs = search needs
+number-at-requires : tie.Need-number-at-requires
+number-at-requires c κs = search needs
+
+add-number-at : tie.Need-add-number-at
+add-number-at c = record { fits = omega (arith, words-length (c .before .before .before .args .gs .now)) }
+
+number-at-requires-2 : tie.Need-number-at-requires-2
+number-at-requires-2 c κs = search needs
+
+add-number-at-2 : tie.Need-add-number-at-2
+add-number-at-2 c = record { fits = omega (arith, words-length (c .before .before .before .before .args .gs .now)) }
+
+number-at-requires-3 : tie.Need-number-at-requires-3
+number-at-requires-3 c κs = search needs
+
+add-number-at-3 : tie.Need-add-number-at-3
+add-number-at-3 c = record { fits = omega (arith, words-length (c .before .before .before .before .before .args .gs .now)) }
+
+number-at-requires-4 : tie.Need-number-at-requires-4
+number-at-requires-4 c κs = search needs
+
+is-font-requires : tie.Need-is-font-requires
+is-font-requires c κs = search needs
 
 returns : tie.Need-returns
 returns c =
-    let a = c .before .before .before .args in
-    (put-as (led-none (a .owed) _ (c .before .is-font-at .ensures ∙ sym (empty-is-font (a .a) (a .b) (glyphAt (a .gs .now) (a .k)))) (c .if1 .taken)) none, omega arith)
+    let at-number-at3 = c .before .before .before in
+    let at-number-at2 = at-number-at3 .before in
+    let at-number-at = at-number-at2 .before in
+    let start = at-number-at .before .before .before in
+    let a = start .args in
+    let g = glyph-is (words (a .gs .now)) (a .k) _ _ _ _ (at-number-at .number-at .ensures) (at-number-at2 .number-at2 .ensures)
+    (at-number-at3 .number-at3 .ensures) (c .before .before .number-at4 .ensures) in (
+      put-as (led-none (a .owed) _ (c .before .is-font .ensures ∙ ap isFont g ∙ sym (empty-is-font (a .a) (a .b) (glyphAt (words (a .gs .now)) (a .k))))
+          (c .if1 .taken)) none,
+      omega arith,
+    )
 
 put-semis-requires : tie.Need-put-semis-requires
 put-semis-requires c κs = search needs
@@ -28,16 +62,35 @@ same-length c = search needs
 
 returns-2 : tie.Need-returns-2
 returns-2 c =
-    let a = c .before .before .before .before .before .before .before .before .before .before .before .args in (
-      put-as (led-some (a .owed) _ (c .before .before .before .before .before .before .before .before .before .is-font-at .ensures ∙ sym (empty-is-font (a .a) (a .b) (glyphAt (a .gs .now) (a .k)))) (c .before .before .before .before .before .before .before .before .if1 .left)) (then (c .before .before .before .before .before .before .put-semis .ensures .0) (c .before .before .put-entry .ensures .0)),
-      omega arith,
+    let at-put-semis = c .before .before .before .before .before .before in
+    let at-if1 = at-put-semis .before .before in
+    let at-is-font = at-if1 .before in
+    let at-number-at4 = at-is-font .before in
+    let at-number-at3 = at-number-at4 .before in
+    let at-number-at2 = at-number-at3 .before in
+    let at-number-at = at-number-at2 .before in
+    let start = at-number-at .before .before .before in
+    let a = start .args in
+    let g = glyph-is (words (a .gs .now)) (a .k) _ _ _ _ (at-number-at .number-at .ensures) (at-number-at2 .number-at2 .ensures)
+    (at-number-at3 .number-at3 .ensures) (at-number-at4 .number-at4 .ensures) in (
+      put-as (led-some (a .owed) _ (at-is-font .is-font .ensures ∙ ap isFont g ∙ sym (empty-is-font (a .a) (a .b) (glyphAt (words (a .gs .now)) (a .k))))
+          (at-if1 .if1 .left)) (then (at-put-semis .put-semis .ensures .0)
+          (put-as (ap (entryBytes (a .a) (a .b)) g) (c .before .before .put-entry .ensures .0))),
+      omega (arith, at-put-semis .put-semis .ensures .1, c .before .before .put-entry .ensures .1),
     )
 
 pub put-next-spec : {M : Type 1} → statement M
 put-next-spec =
     tie.close
     (tie.spec
-    is-font-at-requires
+    number-at-requires
+    add-number-at
+    number-at-requires-2
+    add-number-at-2
+    number-at-requires-3
+    add-number-at-3
+    number-at-requires-4
+    is-font-requires
     returns
     put-semis-requires
     put-entry-requires

@@ -1,9 +1,10 @@
-use Rattle.writer.proofs.Stores.{semis-step, semis-none}
-use Rattle.writer.specs.Entries.{semis}
-use Rattle.words.proofs.Puts.{Left, left-start, left-next, left-as, left-end}
-use mathlib.Core.Path.{_≡_, refl}
-use Prim.Native.Nat.{_+_}
+-- `writer::put_semis` meets its contract. Assumes nothing.
 use native.Mathlib.Omega.{arith}
+use Prim.Native.Nat.{_+_}
+use mathlib.Core.Path.{_≡_, refl}
+use Rattle.words.proofs.Puts.{Left, left-start, left-next, left-as, left-end}
+use Rattle.writer.specs.Entries.{semis}
+use Rattle.writer.proofs.Stores.{semis-step, semis-none}
 use borrow.Author.Needs.{needs}
 use Rattle.writer.proofs.put_semis.Statement.{statement}
 use Rattle.writer.proofs.put_semis.Tie as tie
@@ -27,7 +28,12 @@ loop-less : tie.Need-loop-less Inv-loop μ-loop
 loop-less c = search needs
 
 loop-again : tie.Need-loop-again Inv-loop μ-loop
-loop-again c = (left-next (left-as (semis-step (c .before .before .before .before .before .loop .m) (c .before .before .before .before .loop-test .taken)) (c .before .before .before .before .before .loop .inv .0)) (c .before .before .put-byte .ensures .0), omega arith)
+loop-again c =
+    let at-loop-test = c .before .before .before .before in
+    let at-loop = at-loop-test .before in (
+      left-next (left-as (semis-step (at-loop .loop .m) (at-loop-test .loop-test .taken)) (at-loop .loop .inv .0)) (c .before .before .put-byte .ensures .0),
+      omega arith,
+    )
 
 same-length : tie.Need-same-length Inv-loop μ-loop
 same-length c = c .before .loop .inv .0 .same

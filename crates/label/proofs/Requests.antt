@@ -1,0 +1,4 @@
+pub mod RoundedCount
+pub mod Attribute
+pub mod Escaping
+pub mod Sheet

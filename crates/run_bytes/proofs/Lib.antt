@@ -1,4 +1,0 @@
-pub mod Sizes
-pub mod Fills
-pub mod Writes
-pub mod Tasks

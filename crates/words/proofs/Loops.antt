@@ -1,0 +1,12 @@
+-- A turn of a loop that tests: the whole w is what is here, which is a test t and what follows; x is the code's flag of the test.
+-- Assumes nothing.
+use mathlib.Core.Path.{_≡_, sym, ap, _∙_}
+use mathlib.Core.Bool.{Bool, true, false, not, _&&_}
+use borrow.Author.Tests.{not-true, not-false}
+
+module _ {w h x : Bool} (t n : Bool) (p : w ≡ h) (q : h ≡ (t && n)) (e : x ≡ t) where
+  pub stops : not x ≡ true → false ≡ w
+  stops k = sym (p ∙ q ∙ ap (λ (b : Bool). b && n) (sym e ∙ not-true x k))
+
+  pub goes : not x ≡ false → w ≡ n
+  goes k = p ∙ q ∙ ap (λ (b : Bool). b && n) (sym e ∙ not-false x k)
