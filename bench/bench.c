@@ -1,6 +1,7 @@
 /* Reading and writing through the C calls beside a plain loop of the kind that viewers use: digits by hand, strtof for the rest, no checks, no clusters
-   tied to the text. Both in one run, best of several rounds; the ratio is what counts. Then the growth with the label, and the stack that the calls take;
-   resolving beside a plain loop, escaped writing beside the normal one; and all labels of a sheet in one call beside one reading each and the plain loop. */
+   tied to the text. Both in one run, best of several rounds; the ratio is what counts. Then the growth with the label, the time a glyph at sizes next to
+   each other, and the stack that each call takes; resolving beside a plain loop, escaped writing beside the normal one; and all labels of a sheet in one
+   call beside one reading each and the plain loop. */
 #include <alloca.h>
 #include <pthread.h>
 #include <stdio.h>
@@ -195,7 +196,7 @@ static double best(int what, int n, int rounds)
     return least;
 }
 
-static double reading_ns;
+static double reading_ns, writing_ns;
 
 static void measure(const char *name, int n)
 {
@@ -203,6 +204,7 @@ static void measure(const char *name, int n)
     double a = best(0, n, rounds), b = best(1, n, rounds), c = best(2, n, rounds), d = best(3, n, rounds);
     if (last.number) { printf("%s: refused with %u\n", name, last.number); exit(1); }
     reading_ns = b;
+    writing_ns = d;
     printf("%-34s %9.0f %9.0f %6.2f   %9.0f %9.0f %6.2f\n", name, a, b, b / a, c, d, d / c);
 }
 
@@ -214,6 +216,20 @@ static void measure_font(const char *name, int n, const char *character)
     double b = best(1, n, 500), d = best(3, n, 500);
     if (last.number || last.glyphs != (uint32_t)n) { printf("%s: not one glyph each\n", name); exit(1); }
     printf("%-34s %9s %9.0f %6s   %9s %9.0f\n", name, "", b, "", "", d);
+}
+
+/* Time a glyph at sizes next to each other: no size is a step. */
+static void measure_sizes(void)
+{
+    static const int sizes[] = {31, 32, 33, 34, 255, 256, 257, 258, 1023, 1024, 1025, 1026, 4000};
+    printf("%-34s %9s %9s\n", "glyphs, all fields (ns a glyph)", "read", "write");
+    for (size_t k = 0; k < sizeof sizes / sizeof sizes[0]; k++) {
+        int n = sizes[k], rounds = 200000 / n;
+        make(n, "%d,55.5,-1.25,.5", "A");
+        double b = best(1, n, rounds), d = best(3, n, rounds);
+        if (last.number || last.glyphs != (uint32_t)n) { printf("%d glyphs: not read\n", n); exit(1); }
+        printf("%-34d %9.1f %9.1f\n", n, b / n, d / n);
+    }
 }
 
 /* ── resolving, and escaped writing ── */
@@ -442,52 +458,75 @@ static void measure_sheets(void)
 
 /* ── the stack of a call ── */
 
-#define STACK (1 << 20)
+#define STACK (1 << 18)
 
 static uint8_t stack[STACK] __attribute__((aligned(4096)));
+static long stack_bytes;
 
-static void *no_call(void *unused) { return unused; }
-
-static void *both_calls(void *unused)
+static void call_read(void)
 {
     last = glyph_label_read((uint8_t *)text, strlen(text), (uint8_t *)indices, strlen(indices), units, sizeof units, clusters, sizeof clusters, glyphs, sizeof glyphs);
-    glyph_label_write(units, last.units * 2, clusters, last.clusters * 8, glyphs, last.glyphs * 16, out_text, sizeof out_text, out_indices, sizeof out_indices);
-    return unused;
 }
 
-static void *raw_calls(void *unused)
+static void call_plain_write(void) { call_write(NULL, 0); }
+
+static void call_escaped_write(void) { call_write_escaped(NULL, 0); }
+
+static void call_units_of(void)
 {
-    both_calls(unused);
-    call_write_escaped(NULL, 0);
-    call_resolve(text, strlen(text));
-    return unused;
+    sink += (int)glyph_label_units_of(units, last.units * 2, clusters, last.clusters * 8, glyphs, last.glyphs * 16, 0, last.glyphs).end;
 }
 
-static void *sheet_call(void *unused)
+static void call_glyphs_of(void)
+{
+    sink += (int)glyph_label_glyphs_of(units, last.units * 2, clusters, last.clusters * 8, glyphs, last.glyphs * 16, 0, last.units).end;
+}
+
+static void call_text_resolve(void) { call_resolve(text, strlen(text)); }
+
+static void call_fault(void) { sink += (int)glyph_label_fault((uint8_t *)text, strlen(text), (uint8_t *)indices, strlen(indices), 7, last.glyphs - 1).start; }
+
+static void call_sheet(void)
 {
     file_now = file;
     sheet_at_once();
-    return unused;
 }
 
-/* The bytes of a fresh stack that a thread has changed when it ends. */
-static long touched(void *(*run)(void *))
+/* Makes the call; then the bytes from here down to the last of the stack that has changed. */
+static void *on_stack(void *call)
+{
+    volatile uint8_t here = 0;
+    long k = 0;
+    (*(void (**)(void))call)();
+    while (k < STACK && stack[k] == 0xa5) k++;
+    stack_bytes = (long)((uintptr_t)&here - (uintptr_t)(stack + k));
+    return NULL;
+}
+
+static long stack_of(void (*call)(void))
 {
     pthread_attr_t attr;
     pthread_t thread;
+    call(); /* functions of the C library are then bound */
     memset(stack, 0xa5, STACK);
     pthread_attr_init(&attr);
     pthread_attr_setstack(&attr, stack, STACK);
-    if (pthread_create(&thread, &attr, run, NULL) != 0 || pthread_join(thread, NULL) != 0) exit(1);
-    long k = 0;
-    while (k < STACK && stack[k] == 0xa5) k++;
-    return STACK - k;
+    if (pthread_create(&thread, &attr, on_stack, &call) != 0 || pthread_join(thread, NULL) != 0) exit(1);
+    return stack_bytes;
 }
 
-static long stack_of_calls(void *(*calls)(void *), int n)
+static void measure_stack(void)
 {
-    make(n, "%d,55.5", "A");
-    return touched(calls) - touched(no_call);
+    static void (*const calls[])(void) = {call_read, call_plain_write, call_escaped_write, call_units_of, call_glyphs_of, call_text_resolve, call_fault, call_sheet};
+    static const char *const names[] = {"read", "write", "write_escaped", "units_of", "glyphs_of", "resolve", "fault", "sheet, of 400 and 4,000 labels"};
+    long used[2][8];
+    for (int k = 0; k < 2; k++) {
+        make_sheet(k ? 4000 : 400, "%d,55.5");
+        make(k ? 4096 : 32, "%d,1234.567,-12e-1,.0005", "\xe0\xb8\xb3");
+        for (int c = 0; c < 8; c++) used[k][c] = stack_of(calls[c]);
+    }
+    printf("%-34s %9s %9s\n", "stack of a call (bytes), by glyphs", "32", "4,096");
+    for (int c = 0; c < 8; c++) printf("%-34s %9ld %9ld\n", names[c], used[0][c], used[1][c]);
 }
 
 int main(void)
@@ -513,14 +552,13 @@ int main(void)
     measure_font("1,000 pairs left to the font", 1000, "\xf0\x9f\x98\x80");
     make(100, "%d,55.5,-1.25,.5", "A");
     measure("100 glyphs, all fields", 100);
-    double small = reading_ns;
+    double small = reading_ns, small_writing = writing_ns;
     make(4000, "%d,55.5,-1.25,.5", "A");
     measure("4,000 glyphs, all fields", 4000);
-    printf("growth of reading from 100 to 4,000 glyphs: %.1f times (40 is linear)\n", reading_ns / small);
-    printf("stack of a reading and a writing, bytes: %ld for 32 glyphs, %ld for 4,096\n", stack_of_calls(both_calls, 32), stack_of_calls(both_calls, 4096));
+    printf("growth from 100 to 4,000 glyphs (40 is linear): reading %.1f times, writing %.1f times\n", reading_ns / small, writing_ns / small_writing);
+    measure_sizes();
     measure_raw();
-    printf("stack with an escaped writing and a resolving, bytes: %ld for 32 glyphs, %ld for 4,096\n", stack_of_calls(raw_calls, 32), stack_of_calls(raw_calls, 4096));
     measure_sheets();
-    printf("stack of a sheet's call, bytes: %ld for 4,000 labels\n", touched(sheet_call) - touched(no_call));
+    measure_stack();
     return 0;
 }

@@ -1,5 +1,6 @@
 #!/usr/bin/env bash
-# Builds the archive and the benchmark and runs it: times and ratios of one run, the growth with the label, the stack of the calls, resolving, escaped writing, and sheets.
+# Builds the archive and the benchmark and runs it: times and ratios of one run, the growth with the label, the time a glyph at sizes next to each other,
+# resolving, escaped writing, sheets, and the stack of each call.
 set -euo pipefail
 cd "$(dirname "$0")/.."
 rt staticlib glyph_label > /dev/null

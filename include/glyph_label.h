@@ -11,9 +11,10 @@
  *
  * A sheet is a file of labels. One call says of each of them whether it is accepted, as reading it would.
  *
- * Link target/staticlib/libglyph_label.a (made by `rt staticlib glyph_label`). Nothing is allocated, nothing is kept
- * between calls, and there is no state: any number of threads may call at once. A call takes at most 110 KiB of stack,
- * and some 2 KiB where the run has up to 32 code units, clusters and glyphs.
+ * Link target/staticlib/libglyph_label.a (made by `rt staticlib glyph_label`), which is for Linux on x86-64. Nothing is
+ * allocated, nothing is kept between calls, and there is no state: any number of threads may call at once. A call takes
+ * at most GLYPH_LABEL_STACK_MAX bytes of stack, whatever the size of the run. The archive is not instrumented, so that
+ * sanitizers do not see what a call reads and writes: check your calls with valgrind.
  *
  * BUFFERS. A buffer is a pointer and its size in bytes. A size of 0 is an empty buffer, and the pointer may then be
  * NULL. Inputs are const and only read. A buffer that a call fills may share no byte with any other buffer of that
@@ -29,11 +30,14 @@
  *                                      u offset
  *                                      v offset
  *
- * Each number of clusters and glyphs is 4 bytes in two's complement. Advances and offsets are in thousandths of the
- * standard's unit, which is a hundredth of an em, rounded to the nearest whole number, a half to the even one: .0015
- * and .0025 are 2, -.0025 is -2. Each cluster holds the units and the glyphs next after those of the clusters before
- * it. The code units behind the last entry, the tail, are left to the font: a pair of surrogates is one cluster of 2
- * units and 1 glyph, every other unit one of 1 and 1.
+ * Each number of clusters and glyphs is 4 bytes in two's complement. glyph_label_unit_at, glyph_label_number_at,
+ * glyph_label_put_unit and glyph_label_put_number fetch and store them, on every machine. On x86-64 the buffers may as
+ * well be arrays of uint16_t, of glyph_label_cluster and of glyph_label_glyph, passed as bytes.
+ *
+ * Advances and offsets are in thousandths of the standard's unit, which is a hundredth of an em, rounded to the nearest
+ * whole number, a half to the even one: .0015 and .0025 are 2, -.0025 is -2. Each cluster holds the units and the
+ * glyphs next after those of the clusters before it. The code units behind the last entry, the tail, are left to the
+ * font: a pair of surrogates is one cluster of 2 units and 1 glyph, every other unit one of 1 and 1.
  *
  * ANSWERS. `number` is 0 where the call did what it was asked. Else it is the number of a refusal, `place` is its
  * place, the other fields are 0, and no byte of any buffer has changed. A call that succeeds changes exactly the
@@ -70,11 +74,11 @@
  *         26  the file ends inside a record                           number of the record
  *         27  answers has too little room                             labels in the file
  *
- * Bytes, entries, code units, clusters, glyphs and records are numbered from 0. The checks are made in this order;
- * entries are checked one by one, each from 7 to 13. The first that fails gives the answer. 23 and 24, in this order,
- * come before 1: resolving is a call of its own, made before a reading, for the text and then for the indices. 25 to 27
- * are of a sheet's file and are checked before any of its labels. A place above 4,294,967,295, which only a raw value
- * of 4 GiB or a file of 24 GiB can have, is given as 4,294,967,295. */
+ * Bytes, entries, code units, clusters, glyphs and records are numbered from 0. The bytes of 2 and 3 are those of the
+ * text that is read, the resolved one, and not of a raw value. The checks are made in this order; entries are checked
+ * one by one, each from 7 to 13. The first that fails gives the answer. 23 and 24, in this order, come before 1:
+ * resolving is a call of its own, made before a reading, for the text and then for the indices. 25 to 27 are of a
+ * sheet's file and are checked before any of its labels. */
 #ifndef GLYPH_LABEL_H
 #define GLYPH_LABEL_H
 
@@ -84,6 +88,126 @@
 #ifdef __cplusplus
 extern "C" {
 #endif
+
+/* The version of this header, and of the archive: where they differ, so do calls, structs or answers. */
+#define GLYPH_LABEL_VERSION 1
+
+uint32_t glyph_label_version(void);
+
+/* The largest sizes, in bytes: of the buffers of a run, of a text and of indices, and of the stack that a call takes. */
+#define GLYPH_LABEL_UNITS_MAX 8192
+#define GLYPH_LABEL_CLUSTERS_MAX 32768
+#define GLYPH_LABEL_GLYPHS_MAX 65536
+#define GLYPH_LABEL_TEXT_MAX 16384
+#define GLYPH_LABEL_ESCAPED_TEXT_MAX 24576
+#define GLYPH_LABEL_INDICES_MAX 262144
+#define GLYPH_LABEL_STACK_MAX 2048
+
+/* The numbers of the table. */
+enum glyph_label_refusal {
+    GLYPH_LABEL_DONE = 0,
+    GLYPH_LABEL_LABEL_TOO_LONG = 1,
+    GLYPH_LABEL_ILL_FORMED_UTF8 = 2,
+    GLYPH_LABEL_CHARACTER_NOT_ALLOWED = 3,
+    GLYPH_LABEL_BRACE_FIRST = 4,
+    GLYPH_LABEL_TOO_MANY_UNITS = 5,
+    GLYPH_LABEL_EMPTY_LABEL = 6,
+    GLYPH_LABEL_ENTRY_NOT_WELL_FORMED = 7,
+    GLYPH_LABEL_INDEX_TOO_LARGE = 8,
+    GLYPH_LABEL_NUMBER_TOO_LARGE = 9,
+    GLYPH_LABEL_COUNT_OF_ZERO = 10,
+    GLYPH_LABEL_MAP_OR_MISSING_INDEX = 11,
+    GLYPH_LABEL_CLUSTER_PASSES_TEXT = 12,
+    GLYPH_LABEL_CLUSTER_SPLITS_PAIR = 13,
+    GLYPH_LABEL_CLUSTER_LACKS_GLYPHS = 14,
+    GLYPH_LABEL_TOO_MANY_GLYPHS = 15,
+    GLYPH_LABEL_NO_ROOM_FOR_UNITS = 16,
+    GLYPH_LABEL_NO_ROOM_FOR_CLUSTERS = 17,
+    GLYPH_LABEL_NO_ROOM_FOR_GLYPHS = 18,
+    GLYPH_LABEL_RUN_NOT_SOUND = 19,
+    GLYPH_LABEL_NO_ROOM_FOR_TEXT = 20,
+    GLYPH_LABEL_NO_ROOM_FOR_INDICES = 21,
+    GLYPH_LABEL_BAD_STRETCH = 22,
+    GLYPH_LABEL_BAD_REFERENCE = 23,
+    GLYPH_LABEL_NO_ROOM_FOR_OUT = 24,
+    GLYPH_LABEL_NOT_A_SHEET = 25,
+    GLYPH_LABEL_SHEET_CUT_OFF = 26,
+    GLYPH_LABEL_NO_ROOM_FOR_ANSWERS = 27
+};
+
+/* The cause of a number in the table's words; also for 0, and for a number that is not in the table. */
+static inline const char *glyph_label_cause(uint32_t number) {
+    switch (number) {
+    case GLYPH_LABEL_DONE: return "no refusal";
+    case GLYPH_LABEL_LABEL_TOO_LONG: return "text above 16,384 bytes or indices above 262,144";
+    case GLYPH_LABEL_ILL_FORMED_UTF8: return "ill-formed UTF-8";
+    case GLYPH_LABEL_CHARACTER_NOT_ALLOWED: return "character that XML 1.0 does not allow";
+    case GLYPH_LABEL_BRACE_FIRST: return "the text begins with `{` and not with `{}`";
+    case GLYPH_LABEL_TOO_MANY_UNITS: return "above 4,096 code units";
+    case GLYPH_LABEL_EMPTY_LABEL: return "no code units and no bytes of indices";
+    case GLYPH_LABEL_ENTRY_NOT_WELL_FORMED: return "entry not well formed";
+    case GLYPH_LABEL_INDEX_TOO_LARGE: return "index above 65,535";
+    case GLYPH_LABEL_NUMBER_TOO_LARGE:
+        return "number with above 18 digits, or above 2 in its exponent, or a size above 1,000,000,000 thousandths";
+    case GLYPH_LABEL_COUNT_OF_ZERO: return "a count of the map is 0";
+    case GLYPH_LABEL_MAP_OR_MISSING_INDEX: return "a map or a missing index where none may be";
+    case GLYPH_LABEL_CLUSTER_PASSES_TEXT: return "the cluster passes the end of the text";
+    case GLYPH_LABEL_CLUSTER_SPLITS_PAIR: return "the cluster ends inside a pair";
+    case GLYPH_LABEL_CLUSTER_LACKS_GLYPHS: return "the last cluster lacks glyphs";
+    case GLYPH_LABEL_TOO_MANY_GLYPHS: return "above 4,096 glyphs, the tail included";
+    case GLYPH_LABEL_NO_ROOM_FOR_UNITS: return "units has too little room";
+    case GLYPH_LABEL_NO_ROOM_FOR_CLUSTERS: return "clusters has too little room";
+    case GLYPH_LABEL_NO_ROOM_FOR_GLYPHS: return "glyphs has too little room";
+    case GLYPH_LABEL_RUN_NOT_SOUND: return "the run is not sound: no label reads as it";
+    case GLYPH_LABEL_NO_ROOM_FOR_TEXT: return "text has too little room";
+    case GLYPH_LABEL_NO_ROOM_FOR_INDICES: return "indices has too little room";
+    case GLYPH_LABEL_BAD_STRETCH: return "the stretch is empty, reversed or passes the end";
+    case GLYPH_LABEL_BAD_REFERENCE: return "bad reference or raw `<`";
+    case GLYPH_LABEL_NO_ROOM_FOR_OUT: return "out has too little room";
+    case GLYPH_LABEL_NOT_A_SHEET: return "the file does not begin with `SLB` and the version 1";
+    case GLYPH_LABEL_SHEET_CUT_OFF: return "the file ends inside a record";
+    case GLYPH_LABEL_NO_ROOM_FOR_ANSWERS: return "answers has too little room";
+    default: return "no such number";
+    }
+}
+
+/* Unit i of units. */
+static inline uint16_t glyph_label_unit_at(const uint8_t *units, size_t i) {
+    const uint8_t *p = units + 2 * i;
+    return (uint16_t)(p[0] | p[1] << 8);
+}
+
+static inline void glyph_label_put_unit(uint8_t *units, size_t i, uint16_t unit) {
+    uint8_t *p = units + 2 * i;
+    p[0] = (uint8_t)(unit & 255);
+    p[1] = (uint8_t)(unit >> 8);
+}
+
+/* Number i of clusters, of glyphs or of a sheet's answers: cluster k has the numbers 2 k and 2 k + 1, glyph k has 4 k
+ * to 4 k + 3. */
+static inline int32_t glyph_label_number_at(const uint8_t *numbers, size_t i) {
+    const uint8_t *p = numbers + 4 * i;
+    uint32_t bits = (uint32_t)p[0] | (uint32_t)p[1] << 8 | (uint32_t)p[2] << 16 | (uint32_t)p[3] << 24;
+    return bits < 0x80000000u ? (int32_t)bits : -(int32_t)(0xffffffffu - bits) - 1;
+}
+
+static inline void glyph_label_put_number(uint8_t *numbers, size_t i, int32_t number) {
+    uint8_t *p = numbers + 4 * i;
+    uint32_t bits = (uint32_t)number;
+    p[0] = (uint8_t)(bits & 255);
+    p[1] = (uint8_t)(bits >> 8 & 255);
+    p[2] = (uint8_t)(bits >> 16 & 255);
+    p[3] = (uint8_t)(bits >> 24);
+}
+
+/* The numbers of a cluster and of a glyph; where the machine's are low byte first, these are their bytes too. */
+typedef struct {
+    int32_t units, glyphs;
+} glyph_label_cluster;
+
+typedef struct {
+    int32_t index, advance, u, v;
+} glyph_label_glyph;
 
 /* What was read: counts of code units, clusters and glyphs, at most 4,096 each. `rounded` counts the advances and
  * offsets given in the label whose exact value is no whole number of thousandths, at most 12,288. It is no part of the
@@ -99,8 +223,8 @@ typedef struct {
 
 /* What was filled: bytes by glyph_label_resolve, numbers of 4 bytes each by glyph_label_sheet. */
 typedef struct {
-    uint32_t number, place;
-    size_t filled;
+    uint32_t number;
+    size_t place, filled;
 } glyph_label_filled;
 
 /* A stretch from `first` up to and without `end`. */
@@ -122,9 +246,9 @@ typedef struct {
  * longer than the raw value, so that raw_len bytes of out are always large enough; out may not be raw itself. */
 glyph_label_filled glyph_label_resolve(const uint8_t *raw, size_t raw_len, uint8_t *out, size_t out_len);
 
-/* Reads a label into the three buffers of a run. Refusals 1 to 18. Buffers of 8,192, 32,768 and 65,536 bytes are
- * large enough for every label; to learn what one needs, read it with empty buffers and look at 16, 17 and 18 one
- * after the other. */
+/* Reads a label into the three buffers of a run. Refusals 1 to 18. Buffers of GLYPH_LABEL_UNITS_MAX,
+ * GLYPH_LABEL_CLUSTERS_MAX and GLYPH_LABEL_GLYPHS_MAX bytes are large enough for every label; to learn what one needs,
+ * read it with empty buffers and look at 16, 17 and 18 one after the other. */
 glyph_label_reading glyph_label_read(const uint8_t *text, size_t text_len, const uint8_t *indices, size_t indices_len,
                                      uint8_t *units, size_t units_len, uint8_t *clusters, size_t clusters_len,
                                      uint8_t *glyphs, size_t glyphs_len);
@@ -153,7 +277,7 @@ glyph_label_filled glyph_label_sheet(const uint8_t *file, size_t file_len, uint8
 /* Writes a run's normal writing into text and indices. The three sizes of the run are exactly those of its numbers,
  * so a left-over byte makes it unsound. A cluster of 2 units and 1 glyph may leave its index to the font only where the
  * units are one pair, and this glyph and all behind it are wholly the font's: -1, -1, 0, 0. Refusals 19 to 21. Buffers
- * of 16,384 and 262,144 bytes are large enough for every run. */
+ * of GLYPH_LABEL_TEXT_MAX and GLYPH_LABEL_INDICES_MAX bytes are large enough for every run. */
 glyph_label_writing glyph_label_write(const uint8_t *units, size_t units_len, const uint8_t *clusters,
                                       size_t clusters_len, const uint8_t *glyphs, size_t glyphs_len, uint8_t *text,
                                       size_t text_len, uint8_t *indices, size_t indices_len);
@@ -161,13 +285,15 @@ glyph_label_writing glyph_label_write(const uint8_t *units, size_t units_len, co
 /* As glyph_label_write, with the text escaped: `&` `<` `"` tab, line feed and carriage return are written as `&amp;`
  * `&lt;` `&quot;` `&#9;` `&#10;` and `&#13;`. Both outputs can then stand between double quotes as attribute values.
  * Resolving gives back the bytes of glyph_label_write; the indices have nothing to escape. Refusals 19 to 21, where 20
- * counts the escaped bytes. Buffers of 24,576 and 262,144 bytes are large enough for every run. */
+ * counts the escaped bytes. Buffers of GLYPH_LABEL_ESCAPED_TEXT_MAX and GLYPH_LABEL_INDICES_MAX bytes are large enough
+ * for every run. */
 glyph_label_writing glyph_label_write_escaped(const uint8_t *units, size_t units_len, const uint8_t *clusters,
                                               size_t clusters_len, const uint8_t *glyphs, size_t glyphs_len,
                                               uint8_t *text, size_t text_len, uint8_t *indices, size_t indices_len);
 
 /* The code units of all clusters touched by the glyphs from `first` up to and without `end`: 0 to 0 in a run without
- * code units. The run's sizes are exact, as in glyph_label_write. Refusals 19 and 22. */
+ * code units. The run's sizes are exact, as in glyph_label_write. Each pick judges the whole run first. Refusals 19 and
+ * 22. */
 glyph_label_stretch glyph_label_units_of(const uint8_t *units, size_t units_len, const uint8_t *clusters,
                                          size_t clusters_len, const uint8_t *glyphs, size_t glyphs_len,
                                          size_t first, size_t end);

@@ -20,6 +20,15 @@ python3 tests/independent/trials.py target/trials
 cmp target/trials/stdin crates/trials/stdin
 cmp target/trials/stdout crates/trials/stdout
 
+# `relabel` asked for its usage prints it on standard output; on any other argument it prints it on standard error; neither reads the input
+usage=$(target/bin/relabel --help < /dev/null 2> /dev/null)
+[ "${usage%%$'\n'*}" = 'usage: relabel < LABEL' ]
+[ "$({ target/bin/relabel --help > /dev/null; cat; } <<< flow)" = flow ]
+for word in -h --helpful '' flow; do
+    [ "$({ target/bin/relabel "$word" 2> /dev/null; cat; } <<< flow)" = flow ]
+    [ "$(target/bin/relabel "$word" <<< flow 2>&1 > /dev/null)" = "$usage" ]
+done
+
 # the archive's calls run beside the programs
 python3 $compare archive target/libglyph_label.so --seed "$seed" --count $archive > target/archive.log & calls=$!
 python3 $compare relabel target/bin/relabel --seed "$seed" --count $relabel

@@ -1,15 +1,18 @@
 /* Tests of the calls of glyph_label.h: labels with their runs and normal writings, refusals that must change nothing,
  * sizes one byte short, left-over bytes, picks, faults, halves, raw values, escaped writings, sheets, pairs left to the
- * font, well-formed UTF-8, and runs, labels, raw values and files from random bytes. Every label that a test reads is
- * also put into a sheet, and every run that is tried is judged by a plain model too.
+ * font, well-formed UTF-8, and runs, labels, raw values and files from random bytes; the header's own functions and
+ * structs, and all calls on a stack of 16 KiB. Every label that a test reads is also put into a sheet, and every run that
+ * is tried is judged by a plain model too.
  *
  *     test_calls SHEET ANSWERS [ROUNDS]     a sheet's file and the answers that it must get; how many random cases of
  *                                           each kind: with fewer than 200,000 the exhaustive ones are thinned out
  *     test_calls large                      only raw values and files above 4 GiB, which takes about a minute
+ *     test_calls causes                     prints each number with its cause
  *
  * Inputs are allocated at their exact sizes and outputs stand between guard bytes, so that valgrind or a compare sees
  * any byte read or written outside. */
 #define _DEFAULT_SOURCE /* for MAP_ANONYMOUS */
+#include <pthread.h>
 #include <stdarg.h>
 #include <stdio.h>
 #include <stdlib.h>
@@ -151,7 +154,7 @@ static int is_stretch(glyph_label_stretch s, uint32_t number, uint32_t first, ui
     return s.number == number && s.place == 0 && s.first == first && s.end == end;
 }
 
-static int is_filled(glyph_label_filled f, uint32_t number, uint32_t place, size_t filled) {
+static int is_filled(glyph_label_filled f, uint32_t number, size_t place, size_t filled) {
     return f.number == number && f.place == place && f.filled == filled;
 }
 
@@ -298,16 +301,16 @@ static void add_label(sheet *s, const void *text, size_t text_len, const void *i
 
 /* A reading with buffers that are large enough for every label. */
 static glyph_label_reading large_reading(const uint8_t *text, size_t text_len, const uint8_t *indices, size_t indices_len) {
-    static uint8_t units[8192], clusters[32768], glyphs[65536];
+    static uint8_t units[GLYPH_LABEL_UNITS_MAX], clusters[GLYPH_LABEL_CLUSTERS_MAX], glyphs[GLYPH_LABEL_GLYPHS_MAX];
     return glyph_label_read(text, text_len, indices, indices_len, units, sizeof units, clusters, sizeof clusters, glyphs, sizeof glyphs);
 }
 
 /* Calls with `room` bytes of answers: the answer must be this one, with these bytes where it is no refusal, and the rest must stay. */
-static void sheet_into(const char *what, const uint8_t *file, size_t n, size_t room, uint32_t number, uint32_t place, const uint8_t *answers,
+static void sheet_into(const char *what, const uint8_t *file, size_t n, size_t room, uint32_t number, size_t place, const uint8_t *answers,
                        size_t labels) {
     output o = new_output(room);
     glyph_label_filled f = glyph_label_sheet(file, n, o.bytes, room);
-    check(is_filled(f, number, place, number == 0 ? 2 * labels : 0), "%s: a file of %zu bytes into %zu: %u %u, %zu filled", what, n, room, f.number,
+    check(is_filled(f, number, place, number == 0 ? 2 * labels : 0), "%s: a file of %zu bytes into %zu: %u %zu, %zu filled", what, n, room, f.number,
           f.place, f.filled);
     check(f.filled <= room / 4 && stays_behind(&o, 4 * f.filled), "%s: a file of %zu bytes into %zu changed other bytes", what, n, room);
     for (size_t k = 0; number == 0 && k < labels && k < f.filled / 2; k++)
@@ -323,7 +326,7 @@ static void test_sheet(const char *what, const sheet *s) {
     sheet_into(what, file, s->size, room, 0, 0, s->answers, s->labels);
     sheet_into(what, file, s->size, room + 1 + random_below(7), 0, 0, s->answers, s->labels);
     if (s->labels > 0)
-        sheet_into(what, file, s->size, room - 1, 27, (uint32_t)s->labels, NULL, 0);
+        sheet_into(what, file, s->size, room - 1, 27, s->labels, NULL, 0);
     check(same_bytes(file, s->bytes, s->size), "%s: the file has changed", what);
     free(file);
 }
@@ -334,7 +337,8 @@ static void test_start(const char *what, const sheet *s, size_t n) {
     size_t k = 0;
     while (k < s->labels && s->starts[k + 1] <= n)
         k++;
-    uint32_t number = n < 5 ? 25 : s->starts[k] < n ? 26 : 0, place = number == 26 ? (uint32_t)k : 0;
+    uint32_t number = n < 5 ? 25 : s->starts[k] < n ? 26 : 0;
+    size_t place = number == 26 ? k : 0;
     sheet_into(what, file, n, 8 * k, number, place, s->answers, k);
     if (number != 0)
         sheet_into(what, file, n, 8 * s->labels + 3, number, place, NULL, 0);
@@ -447,12 +451,12 @@ static const char *shown(const uint8_t *raw, size_t n) {
 }
 
 /* Resolves into `room` bytes: the answer must be this one, with these bytes where it is no refusal, and the rest must stay. */
-static void resolve_into(const uint8_t *raw, size_t n, size_t room, uint32_t number, uint32_t place, const void *bytes, size_t size) {
+static void resolve_into(const uint8_t *raw, size_t n, size_t room, uint32_t number, size_t place, const void *bytes, size_t size) {
     output o = new_output(room);
     glyph_label_filled f = glyph_label_resolve(raw, n, o.bytes, room);
     int right = number != 0 ? is_filled(f, number, place, 0) : is_filled(f, 0, 0, size) && same_bytes(o.bytes, bytes, size);
     int stays = stays_behind(&o, f.filled);
-    check(right, "%s resolved into %zu bytes: %u %u, %zu filled", right ? "" : shown(raw, n), room, f.number, f.place, f.filled);
+    check(right, "%s resolved into %zu bytes: %u %zu, %zu filled", right ? "" : shown(raw, n), room, f.number, f.place, f.filled);
     check(stays, "%s resolved into %zu bytes: other bytes changed", stays ? "" : shown(raw, n), room);
     free_output(&o);
 }
@@ -801,7 +805,7 @@ static void test_faults(void) {
     check(is_part(fault("AB", "5", UINT32_MAX, 0), 0, 0, 0), "no such number");
 }
 
-/* ---- Sizes: runs about the size of each of the four arrays ---- */
+/* ---- Sizes: runs short and long, next to powers of two ---- */
 
 static void test_size(size_t n) {
     uint8_t *text = new_bytes(n), *indices = new_bytes(8 * n);
@@ -877,7 +881,6 @@ static const rounded_row rounded_rows[] = {
 };
 
 static void test_rounded(void) {
-    check(sizeof(glyph_label_reading) == 24, "the size of a reading");
     for (size_t k = 0; k < sizeof rounded_rows / sizeof rounded_rows[0]; k++) {
         const rounded_row *w = &rounded_rows[k];
         size_t tn = strlen(w->text), in = strlen(w->indices);
@@ -1011,7 +1014,7 @@ static glyph_label_filled model(const uint8_t *raw, size_t n, uint8_t *out) {
         uint32_t c = 0;
         used = raw[i] == '&' ? model_reference(raw + i, n - i, &c) : raw[i] != '<';
         if (used == 0)
-            return (glyph_label_filled){23, (uint32_t)i, 0};
+            return (glyph_label_filled){23, i, 0};
         if (raw[i] == '&')
             size += put_utf8(out + size, c);
         else if (raw[i] != '\n' || i == 0 || raw[i - 1] != '\r')
@@ -1023,13 +1026,13 @@ static glyph_label_filled model(const uint8_t *raw, size_t n, uint8_t *out) {
 /* ---- Resolving ---- */
 
 /* A raw value and what must come of it: 23 whatever the room, or these bytes, and 24 where there is no room for them. */
-static void test_raw(const void *raw, size_t n, uint32_t number, uint32_t place, const void *bytes, size_t size) {
+static void test_raw(const void *raw, size_t n, uint32_t number, size_t place, const void *bytes, size_t size) {
     uint8_t *in = new_input(raw, n);
     resolve_into(in, n, n + 3, number, place, bytes, size);
     resolve_into(in, n, size, number, place, bytes, size);
     if (size > 0) {
-        resolve_into(in, n, size - 1, 24, (uint32_t)size, NULL, 0);
-        resolve_into(in, n, 0, 24, (uint32_t)size, NULL, 0);
+        resolve_into(in, n, size - 1, 24, size, NULL, 0);
+        resolve_into(in, n, 0, 24, size, NULL, 0);
     }
     free(in);
 }
@@ -1089,7 +1092,6 @@ static const raw_row raw_rows[] = {
 };
 
 static void test_raw_rows(void) {
-    check(sizeof(glyph_label_filled) == 8 + sizeof(size_t), "the size of a filling");
     for (size_t k = 0; k < sizeof raw_rows / sizeof raw_rows[0]; k++) {
         const raw_row *w = &raw_rows[k];
         test_raw(w->raw, w->n, w->number, w->place, w->out, w->size);
@@ -1186,20 +1188,21 @@ static uint8_t *new_zeros(size_t n) {
     return p == MAP_FAILED ? NULL : p;
 }
 
-/* Raw values above 4 GiB: a place that 32 bits cannot hold is the largest that they can. */
+/* Raw values above 4 GiB: a place that 32 bits cannot hold is given whole. */
 static void test_large_raw(void) {
     const size_t four = (size_t)1 << 32, n = four + 16;
     uint8_t *raw = new_zeros(n);
     if (raw == NULL)
         return;
-    check(is_filled(glyph_label_resolve(raw, n, NULL, 0), 24, 4294967295u, 0), "24 of a large raw value");
-    check(is_filled(glyph_label_resolve(raw, four - 2, NULL, 0), 24, 4294967294u, 0), "24 of 2 bytes below 4 GiB");
+    check(is_filled(glyph_label_resolve(raw, n, NULL, 0), 24, n, 0), "24 of a large raw value");
+    for (size_t k = four - 2; k <= four + 2; k++)
+        check(is_filled(glyph_label_resolve(raw, k, NULL, 0), 24, k, 0), "24 of %zu bytes", k);
     raw[n - 1] = '<';
-    check(is_filled(glyph_label_resolve(raw, n, NULL, 0), 23, 4294967295u, 0), "23 at the end of a large raw value");
-    raw[four] = '&';
-    check(is_filled(glyph_label_resolve(raw, n, NULL, 0), 23, 4294967295u, 0), "23 at 4 GiB");
-    raw[four - 2] = '<';
-    check(is_filled(glyph_label_resolve(raw, n, NULL, 0), 23, 4294967294u, 0), "23 at 2 bytes below 4 GiB");
+    check(is_filled(glyph_label_resolve(raw, n, NULL, 0), 23, n - 1, 0), "23 at the end of a large raw value");
+    for (size_t k = four + 1; k >= four - 2; k--) {
+        raw[k] = k % 2 ? '<' : '&';
+        check(is_filled(glyph_label_resolve(raw, n, NULL, 0), 23, k, 0), "23 at %zu", k);
+    }
     munmap(raw, n);
 }
 
@@ -1269,9 +1272,9 @@ static void test_page(const page_row *w) {
     glyph_label_filled a = glyph_label_resolve((const uint8_t *)w->text, tn, t, tn);
     glyph_label_filled b = glyph_label_resolve((const uint8_t *)w->indices, in, i, in);
     if (a.number != 0)
-        check(w->where == 1 && is_filled(a, w->number, w->place, 0), "%s: %u %u", w->text, a.number, a.place);
+        check(w->where == 1 && is_filled(a, w->number, w->place, 0), "%s: %u %zu", w->text, a.number, a.place);
     else if (b.number != 0)
-        check(w->where == 2 && is_filled(b, w->number, w->place, 0), "%s: %u %u", w->indices, b.number, b.place);
+        check(w->where == 2 && is_filled(b, w->number, w->place, 0), "%s: %u %zu", w->indices, b.number, b.place);
     else
         test_resolved(w, t, a.filled, i, b.filled);
     free(t);
@@ -1398,12 +1401,12 @@ static const sheet_row sheet_rows[] = {
 };
 
 /* A file in every kind of room: 25 and 26 hold in all of them, 27 where there is no room for all answers. */
-static void test_file(const char *what, const void *bytes, size_t n, uint32_t number, uint32_t place, const void *answers, size_t labels) {
+static void test_file(const char *what, const void *bytes, size_t n, uint32_t number, size_t place, const void *answers, size_t labels) {
     uint8_t *file = new_input(bytes, n);
     size_t needed = 8 * labels;
     for (size_t room = 0; room < needed + 18; room += room + 18 < needed ? 5 : 1)
         if (number == 0 && room < needed)
-            sheet_into(what, file, n, room, 27, (uint32_t)labels, NULL, 0);
+            sheet_into(what, file, n, room, 27, labels, NULL, 0);
         else
             sheet_into(what, file, n, room, number, place, answers, labels);
     check(same_bytes(file, bytes, n), "%s: the file has changed", what);
@@ -1437,7 +1440,7 @@ static void test_marks(int step) {
 
 /* What comes of a file: 25, 26, or the answers that its labels get one by one, 8 bytes for each 6 of the file at most. */
 static glyph_label_filled model_sheet(const uint8_t *file, size_t n, uint8_t *answers) {
-    uint32_t labels = 0;
+    size_t labels = 0;
     if (n < 5 || memcmp(file, HEAD, 5) != 0)
         return (glyph_label_filled){25, 0, 0};
     for (size_t at = 5; at < n; labels++) {
@@ -1451,7 +1454,7 @@ static glyph_label_filled model_sheet(const uint8_t *file, size_t n, uint8_t *an
         put_answer(answers + 8 * labels, r.number, r.place);
         at += 6 + text_len + indices_len;
     }
-    return (glyph_label_filled){0, 0, 2 * (size_t)labels};
+    return (glyph_label_filled){0, 0, 2 * labels};
 }
 
 static glyph_label_filled test_modelled(const char *what, const uint8_t *file, size_t n) {
@@ -1715,15 +1718,15 @@ static void test_largest_record(void) {
     munmap(file, end + 8);
 }
 
-/* More records than 32 bits can count, all empty: the place is the largest number that they hold. */
+/* More records than 32 bits can count, all empty. */
 static void test_most_records(void) {
-    const size_t n = 5 + 6 * ((size_t)1 << 32);
+    const size_t most = (size_t)1 << 32, n = 5 + 6 * most;
     uint8_t *file = new_zeros(n + 1);
     if (file == NULL)
         return;
     memcpy(file, HEAD, 5);
-    sheet_into("most records", file, n, 8, 27, 4294967295u, NULL, 0);
-    sheet_into("most records, cut", file, n + 1, 8, 26, 4294967295u, NULL, 0);
+    sheet_into("most records", file, n, 8, 27, most, NULL, 0);
+    sheet_into("most records, cut", file, n + 1, 8, 26, most, NULL, 0);
     munmap(file, n + 1);
 }
 
@@ -2265,6 +2268,246 @@ static void test_utf8(uint32_t step) {
         free_output(&text_outputs[k]);
 }
 
+/* ---- The header's own functions and structs ---- */
+
+/* The bytes of a number below 2 to the power 32, low byte first, by division. */
+static void model_bytes(uint8_t *p, size_t count, int64_t number) {
+    for (size_t k = 0; k < count; k++, number /= 256)
+        p[k] = (uint8_t)(number % 256);
+}
+
+enum { AREA = 40 };
+
+static void clear_areas(uint8_t *area, uint8_t *want) {
+    memset(area, 0x5C, AREA);
+    memset(want, 0x5C, AREA);
+}
+
+/* Stored as unit i from an address on: the two bytes are there, no other has changed, and the unit is fetched again. */
+static void test_put_unit(size_t address, size_t i, uint16_t unit) {
+    uint8_t area[AREA], want[AREA];
+    clear_areas(area, want);
+    model_bytes(want + address + 2 * i, 2, unit);
+    glyph_label_put_unit(area + address, i, unit);
+    check(memcmp(area, want, AREA) == 0, "unit %zu at %zu is stored as %04X", i, address, unit);
+    check(glyph_label_unit_at(want + address, i) == unit, "unit %zu at %zu is fetched as %04X", i, address, unit);
+}
+
+static void test_put_number(size_t address, size_t i, int32_t number) {
+    uint8_t area[AREA], want[AREA];
+    clear_areas(area, want);
+    model_bytes(want + address + 4 * i, 4, number < 0 ? number + 4294967296 : number);
+    glyph_label_put_number(area + address, i, number);
+    check(memcmp(area, want, AREA) == 0, "number %zu at %zu is stored as %ld", i, address, (long)number);
+    check(glyph_label_number_at(want + address, i) == number, "number %zu at %zu is fetched as %ld", i, address, (long)number);
+}
+
+/* At odd addresses too: every unit, and the numbers next to each power of two, then random ones. */
+static void test_leaves(uint32_t step) {
+    for (size_t address = 0; address < 8; address++)
+        for (size_t i = 0; i < 3; i++) {
+            for (uint32_t unit = 0; unit < 65536; unit += step)
+                test_put_unit(address, i, (uint16_t)unit);
+            for (int k = 0; k < 32; k++)
+                for (int64_t more = -2; more <= 2; more++) {
+                    int64_t number = ((int64_t)1 << k) + more;
+                    if (number <= INT32_MAX)
+                        test_put_number(address, i, (int32_t)number);
+                    if (-number >= INT32_MIN)
+                        test_put_number(address, i, (int32_t)-number);
+                }
+            for (uint32_t k = 0; k < 10000; k += step)
+                test_put_number(address, i, (int32_t)((int64_t)random_below(0xffffffffu) + INT32_MIN));
+        }
+}
+
+/* Each number up to the last has its own cause. */
+static void test_causes(void) {
+    const uint32_t last = GLYPH_LABEL_NO_ROOM_FOR_ANSWERS;
+    const char *none = glyph_label_cause(last + 1);
+    check(last == 27 && strcmp(glyph_label_cause(UINT32_MAX), none) == 0, "numbers without a cause");
+    for (uint32_t k = 0; k <= last; k++) {
+        const char *cause = glyph_label_cause(k);
+        check(cause && *cause && strcmp(cause, none) != 0, "%u has a cause", k);
+        for (uint32_t j = 0; j < k; j++)
+            check(strcmp(cause, glyph_label_cause(j)) != 0, "%u and %u have the same cause", k, j);
+    }
+}
+
+static void print_causes(void) {
+    for (uint32_t k = 1; k <= 27; k++)
+        printf("%u %s\n", k, glyph_label_cause(k));
+}
+
+#define AT(type, field, offset) (offsetof(type, field) == (offset))
+
+static void test_layouts(void) {
+    check(sizeof(glyph_label_reading) == 24 && AT(glyph_label_reading, place, 4) && AT(glyph_label_reading, rounded, 20), "a reading");
+    check(sizeof(glyph_label_writing) == 16 && AT(glyph_label_writing, text, 8) && AT(glyph_label_writing, indices, 12), "a writing");
+    check(sizeof(glyph_label_stretch) == 16 && AT(glyph_label_stretch, first, 8) && AT(glyph_label_stretch, end, 12), "a stretch");
+    check(sizeof(glyph_label_part) == 24 && AT(glyph_label_part, start, 8) && AT(glyph_label_part, length, 16), "a part");
+    check(sizeof(glyph_label_filled) == 24 && AT(glyph_label_filled, place, 8) && AT(glyph_label_filled, filled, 16), "a filling");
+    check(sizeof(glyph_label_cluster) == 8 && AT(glyph_label_cluster, units, 0) && AT(glyph_label_cluster, glyphs, 4), "a cluster");
+    check(sizeof(glyph_label_glyph) == 16 && AT(glyph_label_glyph, index, 0) && AT(glyph_label_glyph, advance, 4) && AT(glyph_label_glyph, u, 8)
+              && AT(glyph_label_glyph, v, 12),
+          "a glyph");
+    check(GLYPH_LABEL_UNITS_MAX == 2 * 4096 && GLYPH_LABEL_CLUSTERS_MAX == 8 * 4096 && GLYPH_LABEL_GLYPHS_MAX == 16 * 4096, "the largest run");
+    check(GLYPH_LABEL_TEXT_MAX == 16384 && GLYPH_LABEL_ESCAPED_TEXT_MAX == 6 * 4096 && GLYPH_LABEL_INDICES_MAX == 262144, "the largest label");
+    check(GLYPH_LABEL_VERSION == 1 && glyph_label_version() == GLYPH_LABEL_VERSION, "the archive has version %u", glyph_label_version());
+}
+
+/* A label read into arrays of structs has in their fields what the run's bytes say, and is written and picked from them alike. */
+static void test_structs(const char *text, const char *indices) {
+    uint16_t units[16];
+    glyph_label_cluster clusters[16];
+    glyph_label_glyph glyphs[16];
+    size_t n = strlen(text), m = strlen(indices);
+    run r = read_run(text, indices);
+    glyph_label_reading a = glyph_label_read((const uint8_t *)text, n, (const uint8_t *)indices, m, (uint8_t *)units, sizeof units, (uint8_t *)clusters,
+                                             sizeof clusters, (uint8_t *)glyphs, sizeof glyphs);
+    run s = {(uint8_t *)units, (uint8_t *)clusters, (uint8_t *)glyphs, 2 * (size_t)a.units, 8 * (size_t)a.clusters, 16 * (size_t)a.glyphs};
+    check(a.number == 0 && same_run(&r, &s), "%s %s is read into structs", text, indices);
+    for (size_t k = 0; k < a.units; k++)
+        check(units[k] == glyph_label_unit_at(r.units, k) && units[k] == unit_at(&r, k), "unit %zu of %s", k, text);
+    for (size_t k = 0; k < a.clusters; k++)
+        check(clusters[k].units == glyph_label_number_at(r.clusters, 2 * k) && clusters[k].glyphs == glyph_label_number_at(r.clusters, 2 * k + 1),
+              "cluster %zu of %s", k, indices);
+    for (size_t k = 0; k < a.glyphs; k++)
+        check(glyphs[k].index == get_number(r.glyphs + 16 * k) && glyphs[k].advance == get_number(r.glyphs + 16 * k + 4)
+                  && glyphs[k].u == get_number(r.glyphs + 16 * k + 8) && glyphs[k].v == get_number(r.glyphs + 16 * k + 12),
+              "glyph %zu of %s", k, indices);
+    check(try_run("structs", &s), "%s %s in structs is sound", text, indices);
+    for (size_t k = 0; k < a.glyphs; k++)
+        test_pick(&s, k, k + 1);
+    free_run(&r);
+}
+
+static void test_header(uint32_t step) {
+    test_layouts();
+    test_causes();
+    test_leaves(step);
+    test_structs("12.4", "20,55.6;21,55.6;(2)416,33.4,,-14");
+    test_structs("A" GRIN "B", "65535,1000000,-1000000,1000000;(2:3)1;2,0;3,,-.001");
+    test_structs("", "5;6,,.001");
+}
+
+/* ---- The stack ---- */
+
+/* Inputs, and what the calls make of them. */
+typedef struct {
+    const uint8_t *text, *indices, *file;
+    size_t text_len, indices_len, file_len, last_entry, last_place;
+    glyph_label_reading reading;
+    glyph_label_writing writing, escaped;
+    glyph_label_stretch to_units, to_glyphs;
+    glyph_label_filled resolved, answered;
+    glyph_label_part part;
+    uint8_t units[GLYPH_LABEL_UNITS_MAX], clusters[GLYPH_LABEL_CLUSTERS_MAX], glyphs[GLYPH_LABEL_GLYPHS_MAX];
+    uint8_t out_text[GLYPH_LABEL_TEXT_MAX], out_indices[GLYPH_LABEL_INDICES_MAX], out_escaped[GLYPH_LABEL_ESCAPED_TEXT_MAX];
+    uint8_t out_resolved[GLYPH_LABEL_ESCAPED_TEXT_MAX], answers[64];
+} calls;
+
+/* Every call once. */
+static void all_calls(calls *c) {
+    c->reading = glyph_label_read(c->text, c->text_len, c->indices, c->indices_len, c->units, sizeof c->units, c->clusters, sizeof c->clusters, c->glyphs,
+                                  sizeof c->glyphs);
+    size_t u = 2 * (size_t)c->reading.units, k = 8 * (size_t)c->reading.clusters, g = 16 * (size_t)c->reading.glyphs;
+    c->writing = glyph_label_write(c->units, u, c->clusters, k, c->glyphs, g, c->out_text, sizeof c->out_text, c->out_indices, sizeof c->out_indices);
+    c->escaped = glyph_label_write_escaped(c->units, u, c->clusters, k, c->glyphs, g, c->out_escaped, sizeof c->out_escaped, c->out_indices,
+                                           sizeof c->out_indices);
+    c->to_units = glyph_label_units_of(c->units, u, c->clusters, k, c->glyphs, g, 1, c->reading.glyphs);
+    c->to_glyphs = glyph_label_glyphs_of(c->units, u, c->clusters, k, c->glyphs, g, 1, c->reading.units);
+    c->resolved = glyph_label_resolve(c->out_escaped, c->escaped.text, c->out_resolved, sizeof c->out_resolved);
+    c->answered = glyph_label_sheet(c->file, c->file_len, c->answers, sizeof c->answers);
+    c->part = glyph_label_fault(c->text, c->text_len, c->indices, c->indices_len, 12, c->last_entry);
+}
+
+/* What they must make of a label of 4,096 units and glyphs, in normal writing, and of a sheet of it and of one that is refused with 12 at 4,096. */
+static void check_calls(const char *what, const calls *c) {
+    run r = {(uint8_t *)c->units, (uint8_t *)c->clusters, (uint8_t *)c->glyphs, GLYPH_LABEL_UNITS_MAX, 8 * (size_t)c->reading.clusters, GLYPH_LABEL_GLYPHS_MAX};
+    uint8_t *escaped = new_bytes(6 * c->text_len);
+    size_t size = escape(c->text, c->text_len, escaped);
+    glyph_label_stretch to_units = expected_stretch(&r, 1, 1, 4096), to_glyphs = expected_stretch(&r, 0, 1, 4096);
+    check(is_reading(c->reading, 0, 0, 4096, c->reading.clusters, 4096) && model_sound(&r), "%s: a reading: %u %u", what, c->reading.number, c->reading.place);
+    check(is_writing(c->writing, 0, 0, (uint32_t)c->text_len, (uint32_t)c->indices_len) && same_bytes(c->out_text, c->text, c->text_len), "%s: a writing", what);
+    check(is_writing(c->escaped, 0, 0, (uint32_t)size, (uint32_t)c->indices_len) && same_bytes(c->out_escaped, escaped, size)
+              && same_bytes(c->out_indices, c->indices, c->indices_len),
+          "%s: an escaped writing", what);
+    check(is_stretch(c->to_units, 0, to_units.first, to_units.end) && is_stretch(c->to_glyphs, 0, to_glyphs.first, to_glyphs.end), "%s: picks", what);
+    check(is_filled(c->resolved, 0, 0, c->text_len) && same_bytes(c->out_resolved, c->text, c->text_len), "%s: a resolving", what);
+    check(is_filled(c->answered, 0, 0, 4) && memcmp(c->answers, "\0\0\0\0\0\0\0\0" "\14\0\0\0\0\20\0\0", 16) == 0, "%s: a sheet", what);
+    check(is_part(c->part, 1, c->last_place, c->indices_len - c->last_place), "%s: a fault", what);
+    free(escaped);
+}
+
+enum { STACK = 16384, PAGE = 4096, PAINT = 0xA5 };
+
+static uint8_t *stack;
+static size_t stack_used; /* at most, where it is measured */
+
+static void *call_there(void *c) {
+    all_calls(c);
+    return NULL;
+}
+
+/* The same, and then the bytes from here down to the last that has changed. */
+static void *measure_there(void *c) {
+    volatile uint8_t here = 0;
+    size_t k = 0, used;
+    all_calls(c);
+    while (k < STACK && stack[k] == PAINT)
+        k++;
+    used = (size_t)((uintptr_t)&here - (uintptr_t)(stack + k));
+    stack_used = used > stack_used ? used : stack_used;
+    return NULL;
+}
+
+/* On a thread of 16 KiB of stack, with a page below it that nobody may touch. */
+static void on_small_stack(void *(*what)(void *), calls *c) {
+    pthread_attr_t attributes;
+    pthread_t thread;
+    uint8_t *all = mmap(NULL, PAGE + STACK, PROT_READ | PROT_WRITE, MAP_PRIVATE | MAP_ANONYMOUS, -1, 0);
+    if (all == MAP_FAILED || mprotect(all, PAGE, PROT_NONE) != 0)
+        abort();
+    stack = all + PAGE;
+    memset(stack, PAINT, STACK);
+    check(pthread_attr_init(&attributes) == 0 && pthread_attr_setstack(&attributes, stack, STACK) == 0, "a stack of 16 KiB");
+    check(pthread_create(&thread, &attributes, what, c) == 0 && pthread_join(thread, NULL) == 0, "a thread with 16 KiB of stack");
+    pthread_attr_destroy(&attributes);
+    munmap(all, PAGE + STACK);
+}
+
+/* On the stack of the program first, so that functions of the C library are already bound; then on the small one. valgrind does not let a thread
+ * look below its stack pointer, so that the size is not measured there. */
+static void test_stack_of(const char *what, const char *text, size_t texts, const char *indices, size_t entries, const char *last, int measured) {
+    static calls c, before;
+    sheet s = new_sheet();
+    memset(&before, 0, sizeof before);
+    uint8_t *t = repeated(text, texts, "", &before.text_len), *i = repeated(indices, entries, last, &before.indices_len);
+    add_label(&s, t, before.text_len, i, before.indices_len, 0, 0);
+    add_long(&s, "A", 4096, "", ";", 4096, "", 12, 4096);
+    before.text = t, before.indices = i, before.file = s.bytes, before.file_len = s.size;
+    for (size_t k = 0; k < before.indices_len; k++)
+        if (i[k] == ';')
+            before.last_entry++, before.last_place = k + 1;
+    c = before;
+    all_calls(&c);
+    check_calls(what, &c);
+    c = before;
+    on_small_stack(measured ? measure_there : call_there, &c);
+    check_calls(what, &c);
+    check(stack_used <= GLYPH_LABEL_STACK_MAX, "%s: %zu bytes of stack", what, stack_used);
+    free(t);
+    free(i);
+    free_sheet(&s);
+}
+
+/* Letters and bytes to escape, with every field; and pairs, with maps and in the tail. */
+static void test_stack(int measured) {
+    test_stack_of("stack, fields", "A&\"\xE0\xB8\xB3", 1024, "65535,999999.999,-999999.999,-.125;", 4095, "65535,999999.999,-999999.999,-.125", measured);
+    test_stack_of("stack, pairs", GRIN, 2048, "(2:3)9,.5;8,,-1;7;", 1023, "(2:3)9,.5;8,,-1;7", measured);
+}
+
 /* ---- Random cases ---- */
 
 /* A run of a few characters with a cluster each, the last ones left to the font; half of them with a bit changed somewhere. */
@@ -2414,6 +2657,8 @@ static void test_known(int full) {
     test_sheets(full);
     test_tail_pairs(full);
     test_utf8(full ? 1 : 997);
+    test_header(full ? 1 : 97);
+    test_stack(full);
 }
 
 static void test_random(unsigned long rounds) {
@@ -2432,15 +2677,22 @@ static void test_random(unsigned long rounds) {
           "random labels, runs, raw values and files, good and bad");
     test_gathered();
     printf("%lu checks, %lu failed; of %lu random runs %lu were sound, of as many from random bytes %lu, of as many labels %lu were accepted, "
-           "of as many raw values %lu were resolved, of %lu files %lu were sheets\n",
+           "of as many raw values %lu were resolved, of %lu files %lu were sheets",
            checks, failures, rounds, written, wild, accepted, resolved, files, whole);
+    if (stack_used > 0)
+        printf("; the calls take %zu bytes of stack", stack_used);
+    printf("\n");
 }
 
 int main(int argc, char **argv) {
     if (argc == 2 && strcmp(argv[1], "large") == 0)
         return test_large();
+    if (argc == 2 && strcmp(argv[1], "causes") == 0) {
+        print_causes();
+        return 0;
+    }
     if (argc != 3 && argc != 4) {
-        fprintf(stderr, "usage: test_calls SHEET ANSWERS [ROUNDS], or test_calls large\n");
+        fprintf(stderr, "usage: test_calls SHEET ANSWERS [ROUNDS], test_calls large, or test_calls causes\n");
         return 2;
     }
     unsigned long rounds = argc == 3 ? 200000 : strtoul(argv[3], NULL, 10);

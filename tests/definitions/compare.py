@@ -4,9 +4,11 @@ answers, become rows of theorems, which the prover computes.
 
   compare.py [--seed N] [--count N]
 
-The theorem is written into a copy of crates/label outside the repository and checked there.
+The folder specs/Rows of a copy of crates/label outside the repository is replaced: its rows' types stay, whole files of rows and theorems are written beside
+them, and the copy is checked. Of the files that are replaced only code is read: which module a name is imported from, and which definitions the proof of a
+theorem unfolds.
 """
-import argparse, json, os, shutil, subprocess, sys, tempfile
+import argparse, json, os, re, shutil, subprocess, sys, tempfile
 
 ROOT = os.path.dirname(os.path.dirname(os.path.dirname(os.path.abspath(__file__))))
 
@@ -41,7 +43,7 @@ def row(label):
         clusters = numbers([f'cluster {a} {b}' for a, b in pairs(answer['clusters'], 2)])
         glyphs = numbers([glyph(g) for g in pairs(answer['glyphs'], 4)])
         said = f"reads {numbers(answer['units'])} {clusters} {glyphs} {bytes_of(answer['text'])} {bytes_of(answer['indices'])}"
-    return f"    row {bytes_of(label['text'])} {bytes_of(label['indices'])} ({said}) ∷"
+    return f"    labelRow {bytes_of(label['text'])} {bytes_of(label['indices'])} ({said}) ∷"
 
 
 def counted(label):
@@ -65,32 +67,69 @@ def answered(sheet):
 
 
 def rows_of(name, kind, rows):
-    return f'unfoldable pub {name} : List {kind}\n{name} =\n' + '\n'.join(rows + ['    []']) + '\n\n'
+    return f'unfoldable pub {name} : List {kind}\n{name} =\n' + '\n'.join(rows + ['    []']) + '\n'
 
 
-def theorem(labels, values, sheets, specs):
-    """specs/Labels.antt with these labels, the counts of their rounded fields, these raw values and bytes and these sheets in place of its own rows."""
-    text = open(os.path.join(specs, 'Labels.antt'), encoding='utf-8').read()
+class Rows:
+    """The folder specs/Rows of a copy."""
 
-    def part(start, end):
-        return text[text.index(start):text.index(end)]
+    def __init__(self, specs):
+        self.specs = specs
+        self.folder = os.path.join(specs, 'Rows')
+        self.files = {name: open(os.path.join(self.folder, name), encoding='utf-8').read() for name in sorted(os.listdir(self.folder))}
+        self.modules = {}
+        for text in self.files.values():
+            for module, names in re.findall(r'^use ([^{\n]+)\.\{(.+)\}$', text, re.M):
+                self.modules.update((name, module) for name in names.split(', '))
+        types = re.findall(r'^(?:abbrev pub|pub record|pub data) (\S+)', self.files['Types.antt'], re.M)
+        constructors = re.findall(r'^  (\w+) : ', self.files['Types.antt'], re.M)
+        self.modules.update((name, 'Rattle.label.specs.Rows.Types') for name in types + constructors)
 
-    return ''.join([
-        text[:text.index('-- ── document 01, labels 1 to 11 ──')],
-        rows_of('documentRows', 'LabelRow', [row(l) for l in labels]),
-        rows_of('standardRows', 'LabelRow', []),
-        rows_of('tailRows', 'LabelRow', []),
-        rows_of('halfRows', 'LabelRow', []),
-        part('-- a label and the count that is returned for it', '-- a row for each way to count'),
-        rows_of('roundedRows', 'RoundedRow', [counted(l) for l in labels]),
-        part('-- a raw value and what it resolves to', '-- a row for each way to resolve'),
-        rows_of('rawRows', 'RawRow', [resolved(v) for v in values if 'raw' in v]),
-        part('-- bytes, and what escaping makes of them', '-- a row for each byte that is escaped'),
-        rows_of('escapeRows', 'EscapeRow', [escaped(v) for v in values if 'bytes' in v]),
-        part('-- a file, how many numbers the answer list has room for, and the answers', '-- a row for each way to answer a file'),
-        rows_of('sheetRows', 'SheetRow', [answered(s) for s in sheets]),
-        part('-- each row\'s label is answered as the row says', '-- "From `{}flow`'),
-    ])
+    def unfolding(self, theorem):
+        """The definitions that the proof of a theorem of this folder unfolds, without lists of rows."""
+        for text in self.files.values():
+            found = re.search(rf'^pub {theorem} :[^\n]*\n(?:    [^\n]*\n)*unfolding ([^\n]*)\n', text, re.M)
+            if found:
+                return [name for name in found.group(1).split() if not name.endswith('Rows')]
+        sys.exit(f'definitions: no theorem {theorem} in {self.folder}')
+
+    def theorem(self, name, rows, kind, computed, answer):
+        """Computed of each of some rows is the row's answer."""
+        return (f'pub {name} : map (λ (r : {kind}). {computed}) {rows} ≡ map (λ (r : {kind}). r .{answer}) {rows}\n'
+                f'unfolding {" ".join([rows] + self.unfolding(name))}\n{name} = refl\n')
+
+    def write(self, name, *parts):
+        """The file of these parts, with the imports that they need."""
+        text = '\n'.join(parts)
+        used = set(re.findall(r'(?<![.\w-])[^\W\d][\w-]*', text)) | {'_≡_', '_∷_', '[]'}
+        imports = {}
+        for word in sorted(used & set(self.modules)):
+            imports.setdefault(self.modules[word], []).append(word)
+        lines = [f'use {module}.{{{", ".join(words)}}}' for module, words in sorted(imports.items())]
+        with open(os.path.join(self.folder, name), 'w', encoding='utf-8') as out:
+            out.write('-- Rows of the independent reader.\n-- Assumes nothing.\n' + '\n'.join(lines) + '\n\n' + text)
+
+    def replace(self, labels, values, sheets):
+        """These labels, the counts of their rounded fields, these raw values, bytes and sheets in place of the rows that are there."""
+        for name in self.files:
+            if name != 'Types.antt':
+                os.remove(os.path.join(self.folder, name))
+        self.write('Document.antt',
+                   rows_of('documentRows', 'LabelRow', [row(l) for l in labels]),
+                   self.theorem('labels', 'documentRows', 'LabelRow', 'said (read (r .text) (r .indices))', 'answer'))
+        self.write('RoundedCount.antt',
+                   rows_of('roundedRows', 'RoundedRow', [counted(l) for l in labels]),
+                   self.theorem('rounded-labels', 'roundedRows', 'RoundedRow', 'beside (rounded (r .indices)) (read (r .text) (r .indices))', 'count'))
+        self.write('Attribute.antt',
+                   rows_of('rawRows', 'RawRow', [resolved(v) for v in values if 'raw' in v]),
+                   self.theorem('raw-values', 'rawRows', 'RawRow', 'resolve (r .raw)', 'answer'),
+                   rows_of('escapeRows', 'EscapeRow', [escaped(v) for v in values if 'bytes' in v]),
+                   self.theorem('escaped-values', 'escapeRows', 'EscapeRow', 'escape (r .bytes)', 'escaped'))
+        self.write('Sheet.antt',
+                   rows_of('sheetRows', 'SheetRow', [answered(s) for s in sheets]),
+                   self.theorem('sheets', 'sheetRows', 'SheetRow', 'sheetInto (r .room) (r .file)', 'answer'))
+        with open(os.path.join(self.specs, 'Rows.antt'), 'w', encoding='utf-8') as out:
+            out.write(''.join(f'pub mod {name[:-5]}\n' for name in sorted(os.listdir(self.folder))))
 
 
 def answers(*arguments):
@@ -113,9 +152,7 @@ def main():
         label = os.path.join(folder, 'crates', 'label')
         shutil.copytree(os.path.join(ROOT, 'crates', 'label'), label, ignore=shutil.ignore_patterns('must-fail'))
         open(os.path.join(folder, 'crates.txt'), 'w').write('label:\n')
-        specs = os.path.join(label, 'specs')
-        rows = theorem(labels, values, sheets, specs)
-        open(os.path.join(specs, 'Labels.antt'), 'w', encoding='utf-8').write(rows)
+        Rows(os.path.join(label, 'specs')).replace(labels, values, sheets)
         done = subprocess.run(['rt', 'check', 'label'], cwd=folder, capture_output=True, text=True)
     accepted = sum('no' not in l['answer'] for l in labels)
     numbers_seen = sorted({l['answer']['no'][0] for l in labels if 'no' in l['answer']})

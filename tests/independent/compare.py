@@ -152,7 +152,7 @@ Reading = result_type('Reading', number=U32, place=U32, units=U32, clusters=U32,
 Writing = result_type('Writing', number=U32, place=U32, text=U32, indices=U32)
 Stretch = result_type('Stretch', number=U32, place=U32, first=U32, end=U32)
 Part = result_type('Part', in_indices=U32, start=SIZE, length=SIZE)
-Filled = result_type('Filled', number=U32, place=U32, filled=SIZE)
+Filled = result_type('Filled', number=U32, place=SIZE, filled=SIZE)
 FUNCTIONS = {
     'read': (Reading, *SLICE * 5), 'write': (Writing, *SLICE * 5), 'units_of': (Stretch, *SLICE * 3, SIZE, SIZE),
     'glyphs_of': (Stretch, *SLICE * 3, SIZE, SIZE), 'fault': (Part, *SLICE * 2, U32, SIZE),

@@ -4,16 +4,21 @@
   mutate.py [--seed N] [--count N] [--crate NAME]..
 
 A change is one operator, bound or number of a line of crates/*/src/*.rt outside contracts and comments. It is made in a copy of the repository, whose crates
-below are proved already, and only its crate is checked. Printed for each: refused by a fact, refused because the proof no longer fits the code, or NOT REFUSED,
-which is looked at by hand: such a change must not change what the code does.
+below are proved already (the last crate of crates.txt is tried first), and only its crate is checked. Printed for each: refused by a fact, refused because the
+proof no longer fits the code, or NOT REFUSED, which is looked at by hand: such a change must not change what the code does.
 """
 import argparse, os, random, re, shutil, subprocess, sys, tempfile
 
 ROOT = os.path.dirname(os.path.dirname(os.path.dirname(os.path.abspath(__file__))))
-CRATES = ['words', 'utf8', 'text', 'text_bytes', 'number', 'entry', 'entry_bytes', 'attribute', 'survey', 'reader', 'faults', 'sound', 'writer', 'picks', 'records', 'sheet', 'run_bytes', 'glyph_label']
 SWAPS = [(' < ', ' <= '), (' <= ', ' < '), (' == ', ' != '), (' != ', ' == '), (' + ', ' - '), (' - ', ' + '), (' += ', ' -= '), (' -= ', ' += '),
          (' * ', ' + '), (' / ', ' % '), (' % ', ' / '), (' & ', ' | '), (' | ', ' & '), (' << ', ' >> '), (' >> ', ' << '), ('true', 'false'), ('false', 'true'),
          ('if !', 'if ')]
+
+
+def crates():
+    """The crates that have definitions to be proved against, in the order of crates.txt: each behind those that it is built on."""
+    names = [line.split(':')[0] for line in open(os.path.join(ROOT, 'crates.txt'), encoding='utf-8') if ':' in line and not line.startswith('#')]
+    return [name for name in names if os.path.isdir(os.path.join(ROOT, 'crates', name, 'specs'))]
 
 
 def code_lines(lines):
@@ -71,11 +76,12 @@ def main():
     parser = argparse.ArgumentParser()
     parser.add_argument('--seed', type=int, default=1)
     parser.add_argument('--count', type=int, default=40)
-    parser.add_argument('--crate', action='append')
+    order = crates()
+    parser.add_argument('--crate', action='append', choices=order)
     args = parser.parse_args()
     rng = random.Random(args.seed)
     found = []
-    for crate in args.crate or CRATES:
+    for crate in args.crate or order:
         src = os.path.join('crates', crate, 'src')
         for name in sorted(os.listdir(os.path.join(ROOT, src))):
             found += [(crate, os.path.join(src, name), k, line) for k, line in changes(os.path.join(ROOT, src, name))]
@@ -91,7 +97,7 @@ def main():
                 shutil.copytree(source, os.path.join(folder, name), ignore=shutil.ignore_patterns('must-fail', 'incremental'))
             else:
                 shutil.copy(source, folder)
-        for change in sorted(picked):
+        for change in sorted(picked, key=lambda c: (-order.index(c[0]), c)):
             kind = try_change(folder, *change)
             totals[kind] = totals.get(kind, 0) + 1
     print(f'mutation, seed {args.seed}: {len(picked)} of {len(found)} changes tried: ' + ', '.join(f'{n} {kind}' for kind, n in sorted(totals.items())))
