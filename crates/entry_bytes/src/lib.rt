@@ -5,7 +5,7 @@ ghost use mathlib.Core.List.{[], _∷_};
 ghost use Prim.Native.Nat.{_+_, _≤_, _<_};
 ghost use lib.Dec.{eqb};
 ghost use Rattle.label.specs.Bytes.{empty, trim, decimal};
-ghost use Rattle.label.specs.Wire.{signed};
+ghost use Rattle.label.specs.Fetched.{signed};
 ghost use Rattle.label.specs.Sound.{numberIndex, numberAdvance};
 ghost use Rattle.label.specs.Write.{fraction, valueBytes, advanceBytes, offsetBytes, mapBytes, indexBytes, entryBytes};
 ghost use Rattle.words.specs.Puts.{Put};

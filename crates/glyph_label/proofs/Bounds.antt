@@ -16,7 +16,7 @@ use Rattle.label.specs.Outcome.{Outcome, ok, no, _>>=_, _>>_, need}
 use Rattle.label.specs.Bytes.{begins}
 use Rattle.label.specs.Run.{Run}
 use Rattle.label.specs.Checks.{read}
-use Rattle.label.specs.Wire.{halves, words}
+use Rattle.label.specs.Fetched.{halves, words}
 use Rattle.label.specs.Sound.{wholeClusters, wholeGlyphs, clustersOf, glyphsOf, soundRun, runOf, noLeftOver, sound}
 use Rattle.label.specs.Write.{Label, normal}
 use Rattle.label.specs.Pick.{holding, touched, turned, inside, pickUnits, pickGlyphs}

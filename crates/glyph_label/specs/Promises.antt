@@ -1,23 +1,26 @@
 -- The demands of the calls for C: what holds of every answer and of all buffers that the contracts of the calls allow. proofs/Promises.antt has a value of
 -- the record.
 -- Assumes nothing.
-use Prim.Native.Nat.{ℕ, suc, _*_}
+use Prim.Native.Nat.{ℕ, _*_, _<_, _≤_}
 use mathlib.Core.Path.{_≡_}
 use mathlib.Core.Logic.{_↔_, _⊎_}
 use mathlib.Core.Bool.{Bool, true, false}
 use mathlib.Core.List.{List}
 use lib.ListN.{length, take}
-use Rattle.label.specs.Outcome.{ok, GivenBy}
+use Rattle.label.specs.Outcome.{ok}
+use Rattle.label.specs.Statements.Memory.{GivenBy}
 use Rattle.label.specs.Run.{Run}
 use Rattle.label.specs.Checks.{read}
 use Rattle.label.specs.Places.{Places, places, placesOf, Readable}
 use Rattle.label.specs.Write.{Label, normal}
+use Rattle.label.specs.Pick.{stretch, pickUnits, pickGlyphs}
 use Rattle.label.specs.Calls.{filled, roomOf, readChecks, readInto, counted, unitsAfter, clustersAfter, glyphsAfter, askedFor, outputs, writeChecks, writeAsked, lengths, textAfter, indicesAfter}
 use Rattle.label.specs.Requests.RoundedCount.{rounded}
-use Rattle.label.specs.Statements.Demands.{Roomy, RoomyFor, inBytes}
+use Rattle.label.specs.Statements.Demands.{Roomy, RoomyFor, inBytes, unitCounts, glyphCounts, ClustersTouched}
 use Rattle.glyph_label.specs.declared.GlyphLabelReading.{GlyphLabelReading}
 use Rattle.glyph_label.specs.declared.GlyphLabelWriting.{GlyphLabelWriting}
-use Rattle.glyph_label.specs.Answers.{readingAnswer, writingAnswer}
+use Rattle.glyph_label.specs.declared.GlyphLabelStretch.{GlyphLabelStretch}
+use Rattle.glyph_label.specs.Answers.{readingAnswer, writingAnswer, stretchAnswer}
 
 -- ── the contracts ──
 
@@ -80,14 +83,15 @@ pub record Promises : Type 0 where
   -- and number and place are those of the first cause of the table that holds
   pub read-memory : (t i us cs gs : List ℕ) (a : GlyphLabelReading) (us′ cs′ gs′ : List ℕ) → ReadCall t i us cs gs a us′ cs′ gs′
       → ((r : Run) × (read t i ≡ ok r) × Roomy r (roomOf us cs gs) × HoldsRun r us cs gs a us′ cs′ gs′)
-      ⊎ (GivenBy (readChecks (roomOf us cs gs) t i) (a .number) (a .place) × (us′ ≡ us) × (cs′ ≡ cs) × (gs′ ≡ gs))
+      ⊎ ((a .number ≡ 0 → ⊥) × GivenBy (readChecks (roomOf us cs gs) t i) (a .number) (a .place) × (us′ ≡ us) × (cs′ ≡ cs) × (gs′ ≡ gs))
   -- "A refusal is a number and a place fixed by document 01"
   pub read-fixed : (t i us cs gs : List ℕ) (a : GlyphLabelReading) (us′ cs′ gs′ : List ℕ) → ReadCall t i us cs gs a us′ cs′ gs′
       → (n p : ℕ) → GivenBy (readChecks (roomOf us cs gs) t i) n p → (a .number ≡ n) × (a .place ≡ p)
   -- "The same holds for the writer's buffers, and for any run handed to it, sound or not"; asked to escape or not
   pub write-memory : (asked : Bool) (z : Places) (tx ix : List ℕ) (a : GlyphLabelWriting) (tx′ ix′ : List ℕ) → inBytes z ≡ true
-      → WriteCall asked z tx ix a tx′ ix′ → ((v : Readable z) × HoldsLabel (askedFor asked (normal (v .run))) tx ix a tx′ ix′)
-      ⊎ (GivenBy (writeChecks asked (outputs tx ix) z) (a .number) (a .place) × (tx′ ≡ tx) × (ix′ ≡ ix))
+      → WriteCall asked z tx ix a tx′ ix′
+      → ((v : Readable z) × RoomyFor (askedFor asked (normal (v .run))) (outputs tx ix) × HoldsLabel (askedFor asked (normal (v .run))) tx ix a tx′ ix′)
+      ⊎ ((a .number ≡ 0 → ⊥) × GivenBy (writeChecks asked (outputs tx ix) z) (a .number) (a .place) × (tx′ ≡ tx) × (ix′ ≡ ix))
   pub write-fixed : (asked : Bool) (z : Places) (tx ix : List ℕ) (a : GlyphLabelWriting) (tx′ ix′ : List ℕ) → WriteCall asked z tx ix a tx′ ix′
       → (n p : ℕ) → GivenBy (writeChecks asked (outputs tx ix) z) n p → (a .number ≡ n) × (a .place ≡ p)
   -- "what conforms is accepted with that run, all else is refused": number 0 exactly when document 01 accepts the label and the buffers are large enough; so
@@ -98,6 +102,18 @@ pub record Promises : Type 0 where
   -- enough
   pub write-accepts : (asked : Bool) (z : Places) (tx ix : List ℕ) (a : GlyphLabelWriting) (tx′ ix′ : List ℕ) → inBytes z ≡ true
       → WriteCall asked z tx ix a tx′ ix′ → (a .number ≡ 0) ↔ ((v : Readable z) × RoomyFor (askedFor asked (normal (v .run))) (outputs tx ix))
+  -- document 02, CR 1: "An accepted label returns the count [...], a refusal as 0"
+  pub rounded-count : (t i us cs gs : List ℕ) (a : GlyphLabelReading) (us′ cs′ gs′ : List ℕ) → ReadCall t i us cs gs a us′ cs′ gs′
+      → (a .number ≡ 0 → a .rounded ≡ rounded i) × ((a .number ≡ 0 → ⊥) → a .rounded ≡ 0)
+  -- "a pick from glyphs to code units, or back, gives whole clusters": number 0 exactly of a stretch inside a run that some label reads as
+  pub units-of : (z : Places) (first end : ℕ) (a : GlyphLabelStretch) → inBytes z ≡ true → a ≡ stretchAnswer (pickUnits z first end)
+      → (a .number ≡ 0) ↔ ((v : Readable z) × (first < end) × (end ≤ length (v .run .glyphs)))
+  pub units-whole : (z : Places) (first end : ℕ) (a : GlyphLabelStretch) (v : Readable z) → a ≡ stretchAnswer (pickUnits z first end) → a .number ≡ 0
+      → ClustersTouched (glyphCounts (v .run .clusters)) (unitCounts (v .run .clusters)) first end (stretch (a .first) (a .end))
+  pub glyphs-of : (z : Places) (first end : ℕ) (a : GlyphLabelStretch) → inBytes z ≡ true → a ≡ stretchAnswer (pickGlyphs z first end)
+      → (a .number ≡ 0) ↔ ((v : Readable z) × (first < end) × (end ≤ length (v .run .units)))
+  pub glyphs-whole : (z : Places) (first end : ℕ) (a : GlyphLabelStretch) (v : Readable z) → a ≡ stretchAnswer (pickGlyphs z first end) → a .number ≡ 0
+      → ClustersTouched (unitCounts (v .run .clusters)) (glyphCounts (v .run .clusters)) first end (stretch (a .first) (a .end))
   -- "For every two labels that document 01 accepts, whatever the lent buffers, all large enough, held before, the reader accepts both"; "these bytes are the
   -- normal writing of document 01"
   pub passed : (t i us cs gs tx ix : List ℕ) (r : Run) (a : GlyphLabelReading) (us′ cs′ gs′ : List ℕ) (w : GlyphLabelWriting) (tx′ ix′ : List ℕ)

@@ -5,7 +5,8 @@ use mathlib.Core.Path.{_≡_, refl, sym, _∙_, ap}
 use mathlib.Core.Logic.{_↔_, inl, inr}
 use mathlib.Core.Bool.{Bool, true, false, cond, false≢true}
 use mathlib.Core.List.{List, [], _∷_, _++_}
-use Rattle.label.specs.Outcome.{Outcome, ok, no, _>>_, Check, verdict, refuses, GivenBy}
+use Rattle.label.specs.Outcome.{Outcome, ok, no, _>>_, Check, verdict}
+use Rattle.label.specs.Statements.Memory.{refuses, GivenBy}
 use Rattle.label.specs.Statements.Memory.{filledAll, Kept}
 use Rattle.label.proofs.Basics.{no-ok, or-l, or-r, cases}
 

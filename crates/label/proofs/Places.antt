@@ -8,7 +8,8 @@ use mathlib.Core.List.{List}
 use lib.ListN.{length}
 use Rattle.label.specs.Bytes.{empty}
 use Rattle.label.specs.Run.{Run}
-use Rattle.label.specs.Wire.{fromHalves, fromWords, halves, words, evenBytes, wordBytes}
+use Rattle.label.specs.Wire.{fromHalves, fromWords}
+use Rattle.label.specs.Fetched.{halves, words, evenBytes, wordBytes}
 use Rattle.label.specs.Places.{flatClusters, flatGlyphs, Places, places, placesOf, Readable}
 use Rattle.label.specs.Sound.{wholeClusters, wholeGlyphs, clustersOf, glyphsOf, soundRun, runOf, noLeftOver, sound}
 use Rattle.label.specs.Write.{normal}

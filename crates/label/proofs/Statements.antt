@@ -1,5 +1,6 @@
 pub mod Demands
 pub mod Records
+pub mod Relabel
 pub mod RoundedCount
 pub mod Attribute
 pub mod Sheet

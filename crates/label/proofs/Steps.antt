@@ -10,7 +10,8 @@ use lib.Dec.{leb, eqb, eqb·suc-zero}
 use lib.IntN.{ℤ}
 use lib.ListN.{length, drop}
 use Rattle.label.specs.Limits.{maxTextBytes, maxIndicesBytes, maxUnits, maxGlyphs, maxIndex, maxLineBytes}
-use Rattle.label.specs.Outcome.{Outcome, ok, no, _>>=_, _>>_, need, Check, check, above, verdict, refuses, GivenBy}
+use Rattle.label.specs.Outcome.{Outcome, ok, no, _>>=_, _>>_, need, Check, check, above, verdict}
+use Rattle.label.specs.Statements.Memory.{refuses, GivenBy}
 use Rattle.label.specs.Bytes.{begins, empty, value, each, Piece, pieces, eachNumbered}
 use Rattle.label.specs.Text.{startsChar, following, codePoint, xmlChar, unitsOf, braced, marked, unmarked, characters, charUnits, lentUnits, saidUnits}
 use Rattle.label.specs.Entry.{part, indexDigits, wellFormed, fieldFits, Entry, entryOf, entries}
@@ -18,7 +19,8 @@ use Rattle.label.specs.Run.{Run, Parts, cluster, addGlyph, whole, tail, 
 use Rattle.label.specs.Checks.{charChecks, textChecks, entryChecks, placeChecks, walkChecks, runChecks, labelChecks, read}
 use Rattle.label.specs.Steps.{decode, textUnits, entry, placed, step, walk, runFrom}
 use Rattle.label.specs.Places.{Places}
-use Rattle.label.specs.Sound.{runOf, sound, soundChecks}
+use Rattle.label.specs.Sound.{runOf, sound}
+use Rattle.label.specs.Pick.{soundChecks}
 use Rattle.label.specs.Write.{Label}
 use Rattle.label.specs.Pick.{touched, turned, inside, pickChecks, pickUnits, pickGlyphs}
 use Rattle.label.specs.Relabel.{relabelRead}

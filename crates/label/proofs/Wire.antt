@@ -11,7 +11,8 @@ use lib.Dec.{ltb, leb}
 use lib.IntN.{ℤ, pos, negsuc}
 use lib.ListN.{length, drop}
 use lib.Signed.{mag}
-use Rattle.label.specs.Wire.{fromHalves, bitsOf, fromWords, halves, signed, words, evenBytes, wordBytes}
+use Rattle.label.specs.Wire.{fromHalves, bitsOf, fromWords}
+use Rattle.label.specs.Fetched.{halves, signed, words, evenBytes, wordBytes}
 use Rattle.label.specs.Places.{indexNumber, advanceNumber, flatClusters, flatGlyphs}
 use Rattle.label.specs.Sound.{size, indexFits, advanceFits, glyphFits, fits}
 use Rattle.label.specs.Statements.Demands.{unitCounts, glyphCounts, allBytes}

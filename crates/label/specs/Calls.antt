@@ -1,4 +1,4 @@
--- The calls with their lent buffers: 16 to 18, 19 to 21, the list of records; what each buffer holds afterwards; and for every answer enum the papers'
+-- The calls with their lent buffers: 16 to 18, 20 and 21, the list of records; what each buffer holds afterwards; and for every answer enum the papers'
 -- number, place and values of each of its cases.
 -- Assumes nothing.
 use Prim.Native.Nat.{ℕ, _/_}
@@ -11,7 +11,8 @@ use Rattle.label.specs.Run.{Run, saidRun}
 use Rattle.label.specs.Checks.{labelChecks}
 use Rattle.label.specs.Wire.{fromWords}
 use Rattle.label.specs.Places.{Places, placesOf}
-use Rattle.label.specs.Sound.{runOf, soundChecks}
+use Rattle.label.specs.Sound.{runOf}
+use Rattle.label.specs.Pick.{soundChecks}
 use Rattle.label.specs.Write.{Label, normal}
 use Rattle.label.specs.Requests.Attribute.{asAsked}
 use Rattle.label.specs.declared.Counts.{Counts}

@@ -16,21 +16,23 @@ pub mod Checks
 pub mod Steps
 -- Document 01, picks and faults: numbers as bytes; believe
 pub mod Wire
+-- Document 01, picks and faults: the numbers that bytes hold; proved equal
+pub mod Fetched
 -- Document 01, the normal writing: the places of a run, and which a label reads as; believe
 pub mod Places
 -- Document 01, the normal writing: the soundness test, computed; proved equal
 pub mod Sound
 -- Document 01, the normal writing: text and indices of a run; believe
 pub mod Write
--- Document 01, picks and faults: picks; believe
+-- Document 01, picks and faults: 19, picks; believe
 pub mod Pick
 -- Document 01, picks and faults: the part that a fault shows; believe
 pub mod Fault
--- Document 01, checks: 16 to 21, the buffers after a call, the answers; believe
+-- Document 01, checks: 16 to 18, 20, 21, the buffers after a call, the answers; believe
 pub mod Calls
 -- Document 01, labels to prove and to run: the program `relabel`; believe
 pub mod Relabel
--- Document 02: a file a request; believe
+-- Document 02: what CR 1 to CR 3 add; believe
 pub mod Requests
 -- Documents 01 and 02: the promises, over the definitions; statement
 pub mod Statements

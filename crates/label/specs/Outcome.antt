@@ -1,10 +1,9 @@
--- What a call comes to: a value, or a refusal with its number and its place; and checks, the first of which whose cause holds decides. `need` and `_>>=_` serve
--- the laws that say how a call goes by steps.
+-- What a call comes to: a value, or a refusal with its number and its place; and checks, the first of which whose cause holds decides. `need` and `_>>=_`
+-- serve what is said by steps: the laws, Steps.antt and Statements/.
 -- Assumes nothing.
 use Prim.Native.Nat.{ℕ}
-use mathlib.Core.Path.{_≡_}
-use mathlib.Core.Bool.{Bool, true, false, cond, not, _||_}
-use mathlib.Core.List.{List, [], _∷_, _++_}
+use mathlib.Core.Bool.{Bool, true, false, cond, not}
+use mathlib.Core.List.{List, [], _∷_}
 use lib.Dec.{leb}
 
 infixl 10 _>>=_ _>>_
@@ -36,7 +35,7 @@ pub record Check : Type 0 where
   pub number : ℕ
   pub place : ℕ
 
--- the row of a cause, a number and a place
+-- the row of a cause, a number and a place; "Where a number has no place named, the place is 0"
 abbrev pub check : Bool → ℕ → ℕ → Check
 check h n p = record { holds = h; number = n; place = p }
 
@@ -48,19 +47,3 @@ above n limit = not (leb n limit)
 unfoldable pub verdict : List Check → Outcome (Unit {0})
 verdict [] = ok tt
 verdict (c ∷ cs) = cond (c .holds) (no (c .number) (c .place)) (verdict cs)
-
--- some cause holds
-unfoldable pub refuses : List Check → Bool
-refuses [] = false
-refuses (c ∷ cs) = c .holds || refuses cs
-
--- number n with place p is given by these checks: its cause holds, and no earlier one does
-pub record GivenBy (cs : List Check) (n p : ℕ) : Type 0 where
-  pub earlier : List Check
-  pub it : Check
-  pub later : List Check
-  pub in-order : cs ≡ earlier ++ (it ∷ later)
-  pub none-earlier : refuses earlier ≡ false
-  pub holds : it .holds ≡ true
-  pub number : it .number ≡ n
-  pub place : it .place ≡ p

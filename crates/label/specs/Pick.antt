@@ -1,4 +1,4 @@
--- "Picks": between a stretch of glyphs and the stretch of units of all clusters touched.
+-- 19, and "Picks": between a stretch of glyphs and the stretch of units of all clusters touched.
 -- Assumes nothing.
 use Prim.Native.Nat.{ℕ, _+_, _-_}
 use mathlib.Core.Bool.{Bool, cond, not, _&&_}
@@ -8,9 +8,13 @@ use lib.ListN.{length}
 use Rattle.label.specs.Outcome.{Outcome, ok, _>>_, Check, check, verdict}
 use Rattle.label.specs.Run.{cluster}
 use Rattle.label.specs.Places.{Places}
-use Rattle.label.specs.Sound.{runOf, soundChecks}
+use Rattle.label.specs.Sound.{runOf, sound}
 use Rattle.label.specs.declared.Cluster.{Cluster}
 use Rattle.label.specs.declared.Stretch.{Stretch}
+
+-- "run handed in is not sound" (19)
+abbrev pub soundChecks : Places → List Check
+soundChecks p = check (not (sound p)) 19 0 ∷ []
 
 -- "from first to one past the last"
 abbrev pub stretch : ℕ → ℕ → Stretch

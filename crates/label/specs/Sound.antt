@@ -1,5 +1,5 @@
--- The soundness test, computed: it holds exactly of the places that are `Readable` (`Demand2.sound-is`), so nothing here has to be believed. The byte
--- limits of 1 never bite: the normal writing of such a run is within them.
+-- The soundness test, computed: it holds exactly of the places that are `Readable` (`Demand2.sound-is`), and `runOf` is then the run that was read
+-- (`Demand2.run-is`). The byte limits of 1 never bite: the normal writing of such a run is within them.
 -- Assumes nothing.
 use Prim.Native.Nat.{suc, zero, ℕ, _-_}
 use mathlib.Core.Bool.{Bool, false, not, true, _&&_, _||_}
@@ -8,11 +8,10 @@ use lib.Dec.{eqb, leb}
 use lib.IntN.{negsuc, pos, ℤ}
 use lib.ListN.{drop, length}
 use Rattle.label.specs.Limits.{maxUnits, maxGlyphs, maxIndex, maxThousandths}
-use Rattle.label.specs.Outcome.{Check, check}
 use Rattle.label.specs.Bytes.{empty}
 use Rattle.label.specs.Text.{xmlChar, isHigh, isLow, isPair}
 use Rattle.label.specs.Run.{Run, named, given, cluster, whole}
-use Rattle.label.specs.Wire.{halves, words, evenBytes, wordBytes}
+use Rattle.label.specs.Fetched.{halves, words, evenBytes, wordBytes}
 use Rattle.label.specs.Places.{Places}
 use Rattle.label.specs.declared.Advance.{Advance}
 use Rattle.label.specs.declared.Advance.the-variants.{Given, Own}
@@ -139,7 +138,3 @@ noLeftOver p = evenBytes (p .units) && wordBytes (p .clusters) && wordBytes (p .
 -- "It is sound when it obeys every rule above"
 unfoldable pub sound : Places → Bool
 sound p = noLeftOver p && (wholeClusters (words (p .clusters)) && wholeGlyphs (words (p .glyphs)) && soundRun (runOf p))
-
--- "run handed in is not sound" (19)
-abbrev pub soundChecks : Places → List Check
-soundChecks p = check (not (sound p)) 19 0 ∷ []

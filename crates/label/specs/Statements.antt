@@ -4,6 +4,8 @@ pub mod Memory
 pub mod Demands
 -- Document 01, picks and faults: the list of glyph records; statement
 pub mod Records
+-- Document 01, labels to prove and to run: what `relabel` prints; statement
+pub mod Relabel
 -- CR 1: how many values were rounded; statement
 pub mod RoundedCount
 -- CR 2: raw attribute values, resolving and escaping; statement

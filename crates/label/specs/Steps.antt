@@ -1,5 +1,5 @@
--- Stretches of the reading, which inner functions promise: each is the checks of its stretch and what they say. Nothing is defined here. How each goes by
--- steps, check by check, is proved (proofs/Steps.antt).
+-- Stretches of the reading, named for inner functions: each is the checks of its stretch and what they say. That `read` is made of them, and how each goes
+-- by steps, is proved: `read-steps`, `text-steps`, `run-steps`, `walk-first`, `entry-steps`, `placed-steps` (proofs/Steps.antt).
 -- Assumes nothing.
 use Prim.Native.Nat.{ℕ}
 use mathlib.Core.Bool.{Bool}

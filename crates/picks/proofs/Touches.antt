@@ -13,7 +13,7 @@ use lib.IntN.{ℤ}
 use lib.ListN.{length, drop}
 use Rattle.label.specs.Outcome.{Outcome, ok, no, _>>_, need}
 use Rattle.label.specs.Run.{cluster}
-use Rattle.label.specs.Wire.{halves, words}
+use Rattle.label.specs.Fetched.{halves, words}
 use Rattle.label.specs.Sound.{nat, clustersOf, glyphsOf, noLeftOver, sound}
 use Rattle.label.specs.Pick.{stretch, holding, touched, turned, inside, pickUnits, pickGlyphs}
 use Rattle.label.specs.declared.Cluster.{Cluster}

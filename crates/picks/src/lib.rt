@@ -5,7 +5,7 @@ ghost use mathlib.Core.Bool.{cond};
 ghost use Prim.Native.Nat.{_+_, _<_};
 ghost use lib.Dec.{leb};
 ghost use lib.ListN.{length};
-ghost use Rattle.label.specs.Wire.{halves, words as wordsOf};
+ghost use Rattle.label.specs.Fetched.{halves, words as wordsOf};
 ghost use Rattle.label.specs.Sound.{nat, clustersOf, glyphsOf};
 ghost use Rattle.label.specs.Pick.{touched, pickGlyphs, pickUnits};
 ghost use Rattle.label.specs.Calls.{refusal, pickOutcome};

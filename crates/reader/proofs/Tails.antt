@@ -9,7 +9,8 @@ use lib.ListN.{length, take, drop, length-drop, drop-of-length-le}
 use lib.Seq.{sets, drop-drop, length-sets, drop-append-le, take-at}
 use Rattle.label.specs.Text.{isHigh, isPair}
 use Rattle.label.specs.Run.{Parts, fontGlyph, cluster, addGlyph, tail}
-use Rattle.label.specs.Wire.{fromHalves, halves}
+use Rattle.label.specs.Wire.{fromHalves}
+use Rattle.label.specs.Fetched.{halves}
 use Rattle.label.specs.Calls.{filled}
 use Rattle.label.proofs.Wire.{length-halves, halves-back}
 use Rattle.wire.proofs.Fetched.{halves-drop}

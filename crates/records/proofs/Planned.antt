@@ -13,7 +13,7 @@ use Rattle.label.specs.Outcome.{Outcome, ok, no}
 use Rattle.label.specs.Sound.{sound, glyphsOf}
 use Rattle.label.specs.Places.{places}
 use Rattle.label.specs.Calls.{listInto, refusal, fillingOutcome, filledCount, filledAfter}
-use Rattle.label.specs.Wire.{words}
+use Rattle.label.specs.Fetched.{words}
 use Rattle.label.specs.declared.Glyph.{Glyph}
 use Rattle.label.specs.declared.Filling.the-variants.{Filled, Refused}
 use Rattle.label.proofs.Basics.{cases}

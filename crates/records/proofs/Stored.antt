@@ -1,6 +1,6 @@
 -- A list of which the first k are the records of the first k glyphs, and the others as they were; and the records of a sound run. Assumes nothing.
 use Rattle.label.proofs.Places.{sound-places}
-use Rattle.label.specs.Wire.{words, halves}
+use Rattle.label.specs.Fetched.{words, halves}
 use Rattle.label.specs.Places.{places}
 use mathlib.Core.Path.{_≡_, refl, sym, ap, _∙_}
 use Prim.Native.Nat.{ℕ, zero, suc, _+_, _*_, _-_, _<_, _≤_}

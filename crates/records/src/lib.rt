@@ -11,7 +11,7 @@ ghost use Prim.Native.Nat.{_≤_, _<_, _/_};
 ghost use lib.ListN.{length, drop};
 ghost use Rattle.label.specs.Sound.{numberAdvance};
 ghost use Rattle.label.specs.Calls.{refusal, fillingOutcome, filledCount, filledAfter, listInto};
-ghost use Rattle.label.specs.Wire.{words as wordsOf, signed};
+ghost use Rattle.label.specs.Fetched.{words as wordsOf, signed};
 ghost use Rattle.records.specs.Records.{recordIndex, recordOf, records, planOf};
 
 // ── a record, by the bits of its numbers ──

@@ -3,7 +3,7 @@ ghost use mathlib.Core.Path.{_≡_};
 ghost use mathlib.Core.Bool.{_||_};
 ghost use Prim.Native.Nat.{_/_, _<_, _≤_};
 ghost use lib.ListN.{length};
-ghost use Rattle.label.specs.Wire.{halves, signed};
+ghost use Rattle.label.specs.Fetched.{halves, signed};
 ghost use Rattle.label.specs.Sound.{glyphFits};
 ghost use Rattle.wire.specs.Numbers.{glyphOf};
 ghost use Rattle.rules.specs.Rules.{wholeBytes, limited, glyphOk, opensAt, owes};

@@ -1,7 +1,7 @@
 -- What soundness says of a run's three lists: the limits, and that the clusters' counts add up.
 -- Assumes nothing.
 use Rattle.label.specs.Limits.{maxUnits, maxGlyphs}
-use Rattle.label.specs.Wire.{halves, words}
+use Rattle.label.specs.Fetched.{halves, words}
 use Rattle.label.specs.Places.{places}
 use Rattle.label.specs.Sound.{wholeClusters, wholeGlyphs, clustersOf, glyphsOf, soundRun, runOf, sound}
 use Rattle.label.specs.Pick.{turned}

@@ -15,7 +15,7 @@ use Rattle.label.specs.Limits.{maxUnits, maxGlyphs}
 use Rattle.label.specs.Bytes.{empty}
 use Rattle.label.specs.Text.{isHigh, isLow, isPair}
 use Rattle.label.specs.Run.{named, cluster}
-use Rattle.label.specs.Wire.{halves, signed, words, evenBytes, wordBytes}
+use Rattle.label.specs.Fetched.{halves, signed, words, evenBytes, wordBytes}
 use Rattle.label.specs.Places.{places}
 use Rattle.label.specs.Sound.{natural, choice, wholeClusters, wholeGlyphs, nat, numberIndex, numberAdvance, clustersOf, glyphsOf, properUnits, size, indexFits, advanceFits, glyphFits, isFont, allFont, mayOpen, fits, soundRun, noLeftOver, sound}
 use Rattle.label.specs.declared.Glyph.{Glyph}

@@ -1,5 +1,5 @@
 // Whether the bytes of three buffers are a sound run: one that some accepted label reads as.
-ghost use Rattle.label.specs.Wire.{halves, words as wordsOf};
+ghost use Rattle.label.specs.Fetched.{halves, words as wordsOf};
 ghost use Rattle.label.specs.Places.{places};
 ghost use Rattle.label.specs.Sound.{sound};
 ghost use mathlib.Core.Path.{_≡_};

@@ -3,7 +3,7 @@ ghost use Rattle.label.specs.Text.{braced};
 ghost use mathlib.Core.Path.{_≡_};
 ghost use Prim.Native.Nat.{_+_, _-_, _%_, _≤_, _<_};
 ghost use lib.ListN.{length};
-ghost use Rattle.label.specs.Wire.{halves};
+ghost use Rattle.label.specs.Fetched.{halves};
 ghost use Rattle.label.specs.Write.{utf8, paired, unitBytes, unitsBytes, textOf};
 ghost use Rattle.label.specs.Requests.Attribute.{escapeByte, asAsked};
 ghost use Rattle.words.specs.Puts.{Put};

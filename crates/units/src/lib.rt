@@ -4,7 +4,7 @@ ghost use mathlib.Core.Bool.{false};
 ghost use Prim.Native.Nat.{_/_, _≤_};
 ghost use lib.ListN.{length, drop};
 ghost use Rattle.label.specs.Text.{isHigh, isLow, isPair};
-ghost use Rattle.label.specs.Wire.{halves};
+ghost use Rattle.label.specs.Fetched.{halves};
 ghost use Rattle.label.specs.Sound.{properUnits};
 ghost use Rattle.units.specs.Units.{unitOk, nextHalf};
 

@@ -5,7 +5,7 @@ use Prim.Native.Nat.{ℕ, zero, suc, _+_, _*_, _/_, _<_}
 use native.Mathlib.Omega.{arith}
 use lib.IntN.{pos}
 use lib.ListN.{length, getD, drop}
-use Rattle.label.specs.Wire.{halves, signed, words}
+use Rattle.label.specs.Fetched.{halves, signed, words}
 use Rattle.words.specs.Words.{halfAt, wordAt}
 
 pub halves-length : (s : List ℕ) → length (halves s) ≡ length s / 2

@@ -11,7 +11,8 @@ use lib.Bits.{bitAnd, and-mask}
 use mir.Syntax.{w32}
 use mir.Val.{SFits, ofZ, toZ}
 use mir.Facts.{toZ-ofZ, toZ-pos}
-use Rattle.label.specs.Wire.{bitsOf, signed}
+use Rattle.label.specs.Wire.{bitsOf}
+use Rattle.label.specs.Fetched.{signed}
 use Rattle.label.proofs.Basics.{cases}
 
 -- a mask of the low 31 bits is not negative

@@ -7,7 +7,7 @@ use borrow.Author.Tests.{lt-ltb, le-ltb, eq-eqb, ne-eqb, eqb-true, eqb-false, lt
 use lib.Dec.{ltb, eqb}
 use lib.IntN.{ℤ, pos, negsuc}
 use Rattle.label.specs.Run.{named, given}
-use Rattle.label.specs.Wire.{signed}
+use Rattle.label.specs.Fetched.{signed}
 use Rattle.label.specs.Sound.{natural, choice, nat, numberIndex, numberAdvance, size, isFont}
 use Rattle.label.proofs.Basics.{cases}
 use Rattle.wire.specs.Numbers.{glyphOf}

@@ -9,7 +9,7 @@ use native.Mathlib.Omega.{arith}
 use borrow.Author.Tests.{le-leb, lt-leb, not-true, not-false}
 use lib.ListN.{length}
 use Rattle.label.specs.Outcome.{Outcome, ok, no}
-use Rattle.label.specs.Wire.{halves, words}
+use Rattle.label.specs.Fetched.{halves, words}
 use Rattle.label.specs.Places.{places}
 use Rattle.label.specs.Sound.{clustersOf, glyphsOf, sound}
 use Rattle.label.specs.Write.{textOf, indicesOf, Label}

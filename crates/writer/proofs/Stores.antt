@@ -10,7 +10,7 @@ use lib.Dec.{ltb}
 use lib.IntN.{ℤ}
 use lib.ListN.{length, drop, length-append}
 use Rattle.label.specs.Bytes.{empty, joinRest, join, trim}
-use Rattle.label.specs.Wire.{signed}
+use Rattle.label.specs.Fetched.{signed}
 use Rattle.label.specs.Sound.{nat, clustersOf, glyphsOf}
 use Rattle.label.specs.Write.{entryBytes, entryList, indicesOf}
 use Rattle.label.proofs.Basics.{cases}

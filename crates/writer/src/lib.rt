@@ -4,7 +4,7 @@ ghost use mathlib.Core.Path.{_≡_};
 ghost use mathlib.Core.Bool.{cond};
 ghost use Prim.Native.Nat.{_+_, _<_, _≤_};
 ghost use lib.ListN.{length};
-ghost use Rattle.label.specs.Wire.{words as wordsOf};
+ghost use Rattle.label.specs.Fetched.{words as wordsOf};
 ghost use Rattle.label.specs.Sound.{clustersOf, glyphsOf};
 ghost use Rattle.label.specs.Write.{entryBytes, indicesOf};
 ghost use Rattle.label.specs.Calls.{refusal, writingOutcome, lengths, textAfter, indicesAfter, writeAsked, outputs};

@@ -1,6 +1,6 @@
 -- `entry_bytes::blank_auv` meets its contract. Assumes nothing.
 use Rattle.entry_bytes.proofs.WriteLaws.{blank-auv-is}
-use Rattle.label.specs.Wire.{signed}
+use Rattle.label.specs.Fetched.{signed}
 use borrow.Author.Needs.{needs}
 use Rattle.entry_bytes.proofs.blank_auv.Statement.{statement}
 use Rattle.entry_bytes.proofs.blank_auv.Tie as tie

@@ -1,6 +1,6 @@
 -- `entry_bytes::blank_uv` meets its contract. Assumes nothing.
 use Rattle.entry_bytes.proofs.WriteLaws.{blank-uv-is}
-use Rattle.label.specs.Wire.{signed}
+use Rattle.label.specs.Fetched.{signed}
 use borrow.Author.Needs.{needs}
 use Rattle.entry_bytes.proofs.blank_uv.Statement.{statement}
 use Rattle.entry_bytes.proofs.blank_uv.Tie as tie

@@ -1,6 +1,6 @@
 -- `entry_bytes::blank_v` meets its contract. Assumes nothing.
 use Rattle.entry_bytes.proofs.WriteLaws.{blank-v-is}
-use Rattle.label.specs.Wire.{signed}
+use Rattle.label.specs.Fetched.{signed}
 use borrow.Author.Needs.{needs}
 use Rattle.entry_bytes.proofs.blank_v.Statement.{statement}
 use Rattle.entry_bytes.proofs.blank_v.Tie as tie

@@ -15,7 +15,8 @@ use Rattle.label.specs.Run.{Run}
 use Rattle.label.specs.Checks.{read}
 use Rattle.label.specs.Wire.{fromHalves}
 use Rattle.label.specs.Write.{Label}
-use Rattle.label.specs.Requests.Sheet.{header, recordBytes, recordsBytes, sheetFile, fitsFile, textLength, indicesLength, recordLength, isRecord, recordLabel, labelsOf, labelsFrom, answerOf, answer, answers}
+use Rattle.label.specs.Requests.Sheet.{header, textLength, indicesLength, recordLength, isRecord, recordLabel, labelsOf, labelsFrom, answerOf, answer, answers}
+use Rattle.label.specs.Statements.Sheet.{recordBytes, recordsBytes, sheetFile, fitsFile}
 use Rattle.label.specs.Statements.Demands.{allBytes}
 use Rattle.label.proofs.Basics.{and-l, and-r, bind-ok, need-ok}
 use Rattle.label.proofs.Steps.{labels-end, labels-inside, labels-record, file-steps}

@@ -9,12 +9,13 @@ use mathlib.Core.List.{List, [], _∷_}
 use borrow.Author.Tests.{leb-true, le-leb}
 use lib.Dec.{leb, eqb}
 use lib.ListN.{length}
-use Rattle.label.specs.Outcome.{Outcome, ok, no, GivenBy}
+use Rattle.label.specs.Outcome.{Outcome, ok, no}
+use Rattle.label.specs.Statements.Memory.{GivenBy}
 use Rattle.label.specs.Bytes.{ascii, Cut}
 use Rattle.label.specs.Run.{Run, saidRun}
 use Rattle.label.specs.Places.{placesOf}
 use Rattle.label.specs.Write.{Label, normal}
-use Rattle.label.specs.Calls.{filledAfter, roomOf, readInto, askedFor, writeAsked, outputs}
+use Rattle.label.specs.Calls.{filledCount, filledAfter, roomOf, readInto, askedFor, writeAsked, outputs}
 use Rattle.label.specs.Requests.Attribute.{rawGives, resolve, escapeByte, escape, resolveChecks, resolveInto, rawLabelChecks, readRaw}
 use Rattle.label.specs.Statements.Memory.{filledAll, Kept}
 use Rattle.label.specs.Statements.Demands.{RoomyFor}
@@ -113,8 +114,10 @@ restoring =
       );
       written-as = written-as;
       fixed = fixed;
+      raw-is = raw-steps;
       raw-fixed = λ room text indices n p. unfold readRaw in (given-is (rawLabelChecks room text indices) n p (saidRun (rawGives text) (rawGives indices)));
       writer-fixed = writer-fixed;
+      count = λ room raw s h. ap filledCount h;
       memory = memory;
       writer-memory = writer-memory;
       short = λ raw s h. omega (arith, resolved-within raw 0 0 s h);

@@ -10,7 +10,8 @@ use borrow.Author.Tests.{leb-true, le-leb, lt-ltb}
 use lib.Dec.{ltb, leb}
 use lib.ListN.{length, take, drop}
 use lib.Seq.{take-at}
-use Rattle.label.specs.Outcome.{Outcome, ok, no, _>>_, Check, verdict, refuses, GivenBy}
+use Rattle.label.specs.Outcome.{Outcome, ok, no, _>>_, Check, verdict}
+use Rattle.label.specs.Statements.Memory.{refuses, GivenBy}
 use Rattle.label.specs.Bytes.{empty}
 use Rattle.label.specs.Run.{Run, saidRun}
 use Rattle.label.specs.Checks.{labelChecks, read}
@@ -204,6 +205,7 @@ demand-2 =
       refused = λ room t i h. decided-no (readChecks room t i) (saidRun t i) (readInto room t i) (unfold readInto in refl) h;
       normally = λ z room w m. written-from false z room w m;
       sound-is = λ z b. (sound-readable z b, readable-sound z);
+      run-is = readable-run;
       to-units = to-units;
       to-glyphs = to-glyphs;
       units-fixed = λ z first end n p. unfold pickUnits in

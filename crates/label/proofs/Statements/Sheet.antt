@@ -11,14 +11,17 @@ use lib.Dec.{ltb, leb}
 use lib.IntN.{ℤ, pos}
 use lib.ListN.{length, take, drop, length-append, length-drop}
 use lib.Seq.{take-append-le, drop-append-le, drop-append-add, take-at, drop-at}
-use Rattle.label.specs.Outcome.{Outcome, ok, no, GivenBy}
+use Rattle.label.specs.Outcome.{Outcome, ok, no}
+use Rattle.label.specs.Statements.Memory.{GivenBy}
 use Rattle.label.specs.Bytes.{ascii}
 use Rattle.label.specs.Run.{Run}
 use Rattle.label.specs.Checks.{read}
-use Rattle.label.specs.Wire.{fromHalves, fourBytes, fromWords, words}
+use Rattle.label.specs.Wire.{fromHalves, fourBytes, fromWords}
+use Rattle.label.specs.Fetched.{words}
 use Rattle.label.specs.Write.{Label}
-use Rattle.label.specs.Calls.{bufferAfter, numbersAfter, readInto}
-use Rattle.label.specs.Requests.Sheet.{header, recordBytes, recordsBytes, sheetFile, fitsFile, saidLabels, labelsOf, answerOf, answer, answers, sheetChecks, sheetInto}
+use Rattle.label.specs.Calls.{filledCount, bufferAfter, numbersAfter, readInto}
+use Rattle.label.specs.Requests.Sheet.{header, saidLabels, labelsOf, answerOf, answer, answers, sheetChecks, sheetInto}
+use Rattle.label.specs.Statements.Sheet.{recordBytes, recordsBytes, sheetFile, fitsFile}
 use Rattle.label.specs.Statements.Memory.{filledAll, Kept}
 use Rattle.label.specs.Statements.Demands.{allBytes}
 use Rattle.label.specs.Statements.Sheet.{ofBytes, OneList, answered, answerAt, Large, Answering}
@@ -252,5 +255,7 @@ answering =
       refused = λ l n p e. let (a, b) = refused-number (subst (Placed 15 262145) e (read-placed (l .text) (l .indices))) in (ap answerOf e, a, b);
       accepted = λ l. (accepted-only l (read (l .text) (l .indices)) (read-placed (l .text) (l .indices)) refl, λ r. ap answerOf (r .1));
       fixed = fixed;
+      count = λ room file list h. let (ls, a, m, e) = into-labels room file list h in
+          (ls, a, ap filledCount (h ∙ ap ok e) ∙ ap ok (length-answers ls));
       memory = memory;
     }

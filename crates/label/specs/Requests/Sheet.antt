@@ -1,44 +1,25 @@
 -- Document 02, CR 3: a sheet's labels in one file, and the answers to them. The numbers and the places of the labels themselves are those of `read`.
 -- Assumes nothing.
 use Prim.Native.Nat.{ℕ, _*_, _+_, _-_}
-use mathlib.Core.Bool.{Bool, not, true, _&&_}
+use mathlib.Core.Bool.{Bool, not}
 use mathlib.Core.List.{List, [], _++_, _∷_}
-use lib.Dec.{leb, ltb}
+use lib.Dec.{leb}
 use lib.IntN.{pos, ℤ}
 use lib.ListN.{drop, getD, length, take}
 use Rattle.label.specs.Outcome.{Outcome, ok, no, _>>_, Check, check, above, verdict}
 use Rattle.label.specs.Bytes.{ascii, begins, each, Piece, pieces, eachNumbered, fromPiece}
 use Rattle.label.specs.Checks.{read}
-use Rattle.label.specs.Wire.{fromHalves, fourBytes}
+use Rattle.label.specs.Wire.{fromHalves}
 use Rattle.label.specs.Write.{Label}
 
--- ── a list of labels to bytes ──
+-- ── the file ──
 
 -- "the mark `SLB`, a 16-bit version, 1"; "low byte first"
 unfoldable pub header : List ℕ
 header = ascii "SLB" ++ fromHalves (1 ∷ [])
 
--- a record: "a 16-bit text length, a 32-bit indices length, the text, the indices"; "low byte first"
-unfoldable pub recordBytes : Label → List ℕ
-recordBytes l = fromHalves (length (l .text) ∷ []) ++ (fourBytes (length (l .indices)) ++ (l .text ++ l .indices))
-
--- "then records", one a label
-unfoldable pub recordsBytes : List Label → List ℕ
-recordsBytes [] = []
-recordsBytes (l ∷ ls) = recordBytes l ++ recordsBytes ls
-
--- the file of these labels
-unfoldable pub sheetFile : List Label → List ℕ
-sheetFile ls = header ++ recordsBytes ls
-
--- a file can hold these labels: a text length has 16 bits, an indices length 32
-unfoldable pub fitsFile : List Label → Bool
-fitsFile [] = true
-fitsFile (l ∷ ls) = ltb (length (l .text)) 65536 && ltb (length (l .indices)) 4294967296 && fitsFile ls
-
--- ── bytes to labels ──
-
--- the two lengths of the record that starts here; a byte that is not there counts as 0, and then the record does not end in the file
+-- "a 16-bit text length, a 32-bit indices length, the text, the indices"; "low byte first": the two lengths of the record that starts here; a byte that is
+-- not there counts as 0, and then the record does not end in the file
 unfoldable pub textLength : List ℕ → ℕ
 textLength s = getD s 0 0 + 256 * getD s 1 0
 

@@ -13,7 +13,8 @@ use Rattle.label.specs.Run.{tail, walkParts, saidRun}
 use Rattle.label.specs.Checks.{textChecks, entryChecks, placeChecks, walkChecks, runChecks, labelChecks, read}
 use Rattle.label.specs.Wire.{fromHalves, fromWords}
 use Rattle.label.specs.Calls.{filledCount, numbersAfter}
-use Rattle.label.specs.Requests.Sheet.{header, recordBytes, recordsBytes, sheetFile, textLength, indicesLength, recordLength, isRecord, recordLabel, labelsOf, answer, answers, sheetChecks, sheetInto}
+use Rattle.label.specs.Requests.Sheet.{header, textLength, indicesLength, recordLength, isRecord, recordLabel, labelsOf, answer, answers, sheetChecks, sheetInto}
+use Rattle.label.specs.Statements.Sheet.{recordBytes, recordsBytes, sheetFile}
 use Rattle.label.specs.Rows.Types.{SheetRow, sheetRow}
 
 -- `SLB` and the version 1 before these records

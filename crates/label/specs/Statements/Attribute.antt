@@ -4,20 +4,21 @@
 -- Assumes nothing.
 use Prim.Native.Nat.{ℕ, _*_, _≤_}
 use mathlib.Core.Path.{_≡_}
-use mathlib.Core.Logic.{_↔_, _⊎_}
+use mathlib.Core.Logic.{_↔_}
 use mathlib.Core.Bool.{Bool, cond, false, true, _||_}
 use mathlib.Core.List.{List, [], _∷_}
 use lib.Dec.{eqb}
 use lib.ListN.{length, take}
 use Rattle.label.specs.Limits.{maxIndicesBytes, maxUnits}
-use Rattle.label.specs.Outcome.{Outcome, ok, no, GivenBy}
+use Rattle.label.specs.Outcome.{Outcome, ok, no, _>>=_}
+use Rattle.label.specs.Statements.Memory.{GivenBy}
 use Rattle.label.specs.Bytes.{cut, digits, value}
 use Rattle.label.specs.Run.{Run}
 use Rattle.label.specs.Checks.{read}
 use Rattle.label.specs.Places.{Places, placesOf, Readable}
 use Rattle.label.specs.Write.{indicesOf, Label, normal}
 use Rattle.label.specs.Statements.Memory.{Kept}
-use Rattle.label.specs.Calls.{saidLabel, filled, filledCount, filledAfter, roomOf, readInto, askedFor, writeChecks, writeAsked, outputs, textAfter, indicesAfter}
+use Rattle.label.specs.Calls.{saidLabel, filledCount, filledAfter, roomOf, readInto, askedFor, writeChecks, writeAsked, outputs, textAfter, indicesAfter}
 use Rattle.label.specs.Requests.Attribute.{rawGives, numbered, resolve, escape, resolveChecks, resolveInto, rawLabelChecks, readRaw}
 use Rattle.label.specs.Statements.Demands.{storedLabel, outputsAfter, Roomy, RoomyFor, inBytes, Wrote}
 use Rattle.label.specs.declared.Cluster.{Cluster}
@@ -68,9 +69,14 @@ pub record Restoring : Type 0 where
   -- "23: bad reference or raw `<`, place the first byte of the first; 24: lent buffer too short, place the bytes needed": given exactly when its cause holds
   -- and no earlier one does; so are 19, 20 and 21 of the writer, asked or not
   pub fixed : (room : ℕ) (raw : List ℕ) (n p : ℕ) → (resolveInto room raw ≡ no n p) ↔ GivenBy (resolveChecks room raw) n p
+  -- "text before indices [...], and the reading is of what comes out"
+  pub raw-is : (room : Lengths) (text indices : List ℕ)
+      → readRaw room text indices ≡ (resolveInto (room .text) text >>= (λ t. resolveInto (room .indices) indices >>= (λ i. read t i)))
   pub raw-fixed : (room : Lengths) (text indices : List ℕ) (n p : ℕ) → (readRaw room text indices ≡ no n p) ↔ GivenBy (rawLabelChecks room text indices) n p
   pub writer-fixed : (asked : Bool) (room : Lengths) (z : Places) (n p : ℕ) → (writeAsked asked room z ≡ no n p) ↔ GivenBy (writeChecks asked room z) n p
-  -- "a call that fills a lent list or buffer returns how many places it filled, and places behind them stay"; every refusal changes no lent place
+  -- "a call that fills a lent list or buffer returns how many places it filled"
+  pub count : (room : ℕ) (raw s : List ℕ) → resolveInto room raw ≡ ok s → filledCount (resolveInto room raw) ≡ ok (length s)
+  -- "and places behind them stay"; every refusal changes no lent place
   pub memory : (raw old : List ℕ)
       → Kept (resolveChecks (length old) raw) (rawGives raw) (λ s. s ∷ [])
       (resolveInto (length old) raw) (old ∷ []) (filledAfter (resolveInto (length old) raw) old ∷ [])

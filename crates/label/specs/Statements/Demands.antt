@@ -3,12 +3,13 @@
 -- Assumes nothing.
 use Prim.Native.Nat.{suc, zero, ℕ, _*_, _+_, _<_, _≤_}
 use mathlib.Core.Path.{_≡_}
-use mathlib.Core.Logic.{_↔_, _⊎_}
+use mathlib.Core.Logic.{_↔_}
 use mathlib.Core.Bool.{Bool, false, true, _&&_}
 use mathlib.Core.List.{List, [], _++_, _∷_}
 use lib.Dec.{ltb}
 use lib.ListN.{getD, length, replicate, take}
-use Rattle.label.specs.Outcome.{Outcome, ok, no, refuses, GivenBy}
+use Rattle.label.specs.Outcome.{Outcome, ok, no}
+use Rattle.label.specs.Statements.Memory.{refuses, GivenBy}
 use Rattle.label.specs.Run.{Run, saidRun}
 use Rattle.label.specs.Checks.{labelChecks, read}
 use Rattle.label.specs.Places.{Places, places, placesOf, Readable}
@@ -92,7 +93,7 @@ unfoldable pub allBytes : List ℕ → Bool
 allBytes [] = true
 allBytes (b ∷ bs) = ltb b 256 && allBytes bs
 
--- a run handed in is bytes
+-- a run handed in is bytes: true of every slice of u8, so that it takes no case away from a call
 abbrev pub inBytes : Places → Bool
 inBytes p = allBytes (p .units) && allBytes (p .clusters) && allBytes (p .glyphs)
 
@@ -155,6 +156,8 @@ pub record Demand2 : Type 0 where
   pub normally : (z : Places) (room : Lengths) (w : Readable z) → RoomyFor (normal (w .run)) room → writeInto room z ≡ ok (normal (w .run))
   -- the computed test says "some label that this paper accepts reads as it"
   pub sound-is : (z : Places) → inBytes z ≡ true → (sound z ≡ true) ↔ Readable z
+  -- and the run that is then written, listed and picked from is the one that the label reads as
+  pub run-is : (z : Places) (w : Readable z) → runOf z ≡ w .run
   -- "a pick from glyphs to code units, or back, gives whole clusters": of every run that some label reads as, for every stretch inside it
   pub to-units : (z : Places) (first end : ℕ) (w : Readable z) → first < end → end ≤ length (w .run .glyphs)
       → PicksWhole (glyphCounts (w .run .clusters)) (unitCounts (w .run .clusters)) first end (pickUnits z first end)

@@ -1,12 +1,28 @@
--- What every call promises of the memory that is lent to it, once for all calls: the buffers are filled, or exactly what they held.
+-- What a refusal is, and what every call promises of the memory that is lent to it, once for all calls: the buffers are filled, or exactly what they held.
 -- Assumes nothing.
 use Prim.Native.Nat.{ℕ}
 use mathlib.Core.Path.{_≡_}
 use mathlib.Core.Logic.{_⊎_}
-use mathlib.Core.Bool.{false}
-use mathlib.Core.List.{List, [], _∷_}
-use Rattle.label.specs.Outcome.{Outcome, ok, no, Check, refuses, GivenBy}
+use mathlib.Core.Bool.{Bool, true, false, _||_}
+use mathlib.Core.List.{List, [], _∷_, _++_}
+use Rattle.label.specs.Outcome.{Outcome, ok, no, Check}
 use Rattle.label.specs.Calls.{filled}
+
+-- some cause holds
+unfoldable pub refuses : List Check → Bool
+refuses [] = false
+refuses (c ∷ cs) = c .holds || refuses cs
+
+-- number n with place p is given by these checks: its cause holds, and no earlier one does
+pub record GivenBy (cs : List Check) (n p : ℕ) : Type 0 where
+  pub earlier : List Check
+  pub it : Check
+  pub later : List Check
+  pub in-order : cs ≡ earlier ++ (it ∷ later)
+  pub none-earlier : refuses earlier ≡ false
+  pub holds : it .holds ≡ true
+  pub number : it .number ≡ n
+  pub place : it .place ≡ p
 
 -- buffers filled with these, each from its start: "Places behind the run stay"
 unfoldable pub filledAll : {B : Type 0} → List (List B) → List (List B) → List (List B)

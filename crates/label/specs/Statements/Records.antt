@@ -6,7 +6,8 @@ use mathlib.Core.Path.{_≡_}
 use mathlib.Core.Logic.{_↔_}
 use mathlib.Core.List.{List, [], _∷_}
 use lib.ListN.{length}
-use Rattle.label.specs.Outcome.{ok, no, GivenBy}
+use Rattle.label.specs.Outcome.{ok, no}
+use Rattle.label.specs.Statements.Memory.{GivenBy}
 use Rattle.label.specs.Places.{Places, Readable}
 use Rattle.label.specs.Sound.{runOf}
 use Rattle.label.specs.Calls.{filledAfter, listChecks, listInto}

@@ -6,7 +6,7 @@ use mathlib.Core.Logic.{_↔_}
 use mathlib.Core.Bool.{Bool, true, cond}
 use mathlib.Core.List.{List}
 use Rattle.label.specs.Limits.{maxGlyphs}
-use Rattle.label.specs.Outcome.{Outcome, ok, no}
+use Rattle.label.specs.Outcome.{ok, no}
 use Rattle.label.specs.Entry.{scaled}
 use Rattle.label.specs.Run.{Run}
 use Rattle.label.specs.Checks.{read}

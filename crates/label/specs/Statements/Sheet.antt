@@ -3,22 +3,46 @@
 -- Assumes nothing.
 use Prim.Native.Nat.{suc, ℕ, _*_, _+_, _/_, _≤_}
 use mathlib.Core.Path.{_≡_}
-use mathlib.Core.Logic.{_↔_, _⊎_}
+use mathlib.Core.Logic.{_↔_}
 use mathlib.Core.Bool.{Bool, true, _&&_}
 use mathlib.Core.List.{List, [], _++_, _∷_}
+use lib.Dec.{ltb}
 use lib.IntN.{pos, ℤ}
 use lib.ListN.{drop, length, take}
 use Rattle.label.specs.Limits.{maxUnits, maxGlyphs}
-use Rattle.label.specs.Outcome.{Outcome, ok, no, GivenBy}
+use Rattle.label.specs.Outcome.{ok, no}
 use Rattle.label.specs.Run.{Run}
 use Rattle.label.specs.Checks.{read}
-use Rattle.label.specs.Wire.{fromWords, words}
+use Rattle.label.specs.Wire.{fromHalves, fourBytes, fromWords}
+use Rattle.label.specs.Fetched.{words}
 use Rattle.label.specs.Write.{Label}
-use Rattle.label.specs.Statements.Memory.{Kept}
-use Rattle.label.specs.Calls.{filled, filledCount, numbersAfter, readInto}
-use Rattle.label.specs.Requests.Sheet.{saidLabels, sheetFile, fitsFile, labelsOf, answerOf, answer, answers, sheetChecks, sheetInto}
+use Rattle.label.specs.Statements.Memory.{GivenBy, Kept}
+use Rattle.label.specs.Calls.{filledCount, numbersAfter, readInto}
+use Rattle.label.specs.Requests.Sheet.{header, saidLabels, labelsOf, answerOf, answer, answers, sheetChecks, sheetInto}
 use Rattle.label.specs.Statements.Demands.{Roomy, allBytes}
 use Rattle.label.specs.declared.Counts.{Counts}
+
+-- ── a list of labels to bytes ──
+
+-- a record: "a 16-bit text length, a 32-bit indices length, the text, the indices"; "low byte first"
+unfoldable pub recordBytes : Label → List ℕ
+recordBytes l = fromHalves (length (l .text) ∷ []) ++ (fourBytes (length (l .indices)) ++ (l .text ++ l .indices))
+
+-- "then records", one a label
+unfoldable pub recordsBytes : List Label → List ℕ
+recordsBytes [] = []
+recordsBytes (l ∷ ls) = recordBytes l ++ recordsBytes ls
+
+-- the file of these labels
+unfoldable pub sheetFile : List Label → List ℕ
+sheetFile ls = header ++ recordsBytes ls
+
+-- a file can hold these labels: a text length has 16 bits, an indices length 32
+unfoldable pub fitsFile : List Label → Bool
+fitsFile [] = true
+fitsFile (l ∷ ls) = ltb (length (l .text)) 65536 && ltb (length (l .indices)) 4294967296 && fitsFile ls
+
+-- ── the answers ──
 
 -- texts and indices are bytes, as those of C are
 unfoldable pub ofBytes : List Label → Bool
@@ -73,7 +97,10 @@ pub record Answering : Type 0 where
   -- "25: mark or version wrong or cut off; 26: file ends inside a record, place the record; 27: answer list too short, place the labels in the file; in this
   -- order": given exactly when its cause holds and no earlier one does
   pub fixed : (room : ℕ) (file : List ℕ) (n p : ℕ) → (sheetInto room file ≡ no n p) ↔ GivenBy (sheetChecks room file) n p
-  -- "a call that fills a lent list or buffer returns how many places it filled, and places behind them stay"; every refusal changes no lent place
+  -- "a call that fills a lent list or buffer returns how many places it filled": two for each label
+  pub count : (room : ℕ) (file : List ℕ) (list : List ℤ) → sheetInto room file ≡ ok list
+      → (ls : List Label) × (labelsOf file ≡ ok ls) × (filledCount (sheetInto room file) ≡ ok (2 * length ls))
+  -- "and places behind them stay"; every refusal changes no lent place
   pub memory : (file old : List ℕ)
       → Kept (sheetChecks (length old / 4) file) (answers (saidLabels file)) (λ zs. fromWords zs ∷ []) (sheetInto (length old / 4) file) (old ∷ [])
       (numbersAfter (sheetInto (length old / 4) file) old ∷ [])

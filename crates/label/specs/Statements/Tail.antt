@@ -1,17 +1,16 @@
 -- Document 02, CR 4: what pairs in the unwritten tail promise. The three demands speak of these labels as of all others; what is of the tail alone stands here.
 -- proofs/Statements/Tail.antt has a value of the record.
 -- Assumes nothing.
-use Prim.Native.Nat.{ℕ, suc}
+use Prim.Native.Nat.{ℕ}
 use mathlib.Core.Path.{_≡_}
-use mathlib.Core.Bool.{Bool, true, false}
+use mathlib.Core.Bool.{true, false}
 use mathlib.Core.List.{List, [], _∷_}
-use lib.ListN.{length}
-use Rattle.label.specs.Outcome.{ok, no}
+use Rattle.label.specs.Outcome.{no}
 use Rattle.label.specs.Text.{isPair}
-use Rattle.label.specs.Run.{Run, fontGlyph, cluster, addGlyph, tail}
+use Rattle.label.specs.Run.{fontGlyph, cluster, addGlyph, tail}
 use Rattle.label.specs.Checks.{read}
 use Rattle.label.specs.Sound.{allFont, fits}
-use Rattle.label.specs.Write.{indicesOf, normal}
+use Rattle.label.specs.Write.{indicesOf}
 use Rattle.label.specs.declared.Glyph.{Glyph}
 use Rattle.label.specs.declared.Cluster.{Cluster}
 

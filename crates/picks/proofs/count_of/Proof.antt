@@ -1,6 +1,6 @@
 -- `picks::count_of` meets its contract. Assumes nothing.
 use Rattle.sound.proofs.Parts.{glyph-count}
-use Rattle.label.specs.Wire.{words}
+use Rattle.label.specs.Fetched.{words}
 use Prim.Native.Nat.{ℕ, _/_}
 use mathlib.Core.Path.{sym, ap, _∙_}
 use borrow.Author.Needs.{needs}

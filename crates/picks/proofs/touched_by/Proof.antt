@@ -2,7 +2,7 @@
 use Rattle.picks.proofs.Touches.{touchedAt, walk-start, walk-end, walk-stop, walk-on, sum-at}
 use Rattle.picks.specs.Ways.{way}
 use Rattle.sound.specs.Sounds.{unitSum}
-use Rattle.label.specs.Wire.{words}
+use Rattle.label.specs.Fetched.{words}
 use Rattle.label.specs.Sound.{clustersOf}
 use Rattle.label.specs.Pick.{touched}
 use lib.ListN.{drop}

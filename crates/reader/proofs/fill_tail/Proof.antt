@@ -6,7 +6,7 @@ use lib.ListN.{length}
 use mathlib.Core.Path.{refl, _∙_, ap}
 use native.Mathlib.Omega.{arith}
 use Prim.Native.Nat.{_-_, _*_, _<_}
-use Rattle.label.specs.Wire.{halves}
+use Rattle.label.specs.Fetched.{halves}
 use borrow.Author.Needs.{needs}
 use Rattle.reader.proofs.fill_tail.Statement.{statement}
 use Rattle.reader.proofs.fill_tail.Tie as tie

@@ -1,7 +1,7 @@
 -- `reader::tail_units` meets its contract. Assumes nothing.
 use Rattle.reader.proofs.Tails.{wide-pair, wide-plain}
 use lib.ListN.{drop}
-use Rattle.label.specs.Wire.{halves}
+use Rattle.label.specs.Fetched.{halves}
 use borrow.Author.Needs.{needs}
 use Rattle.reader.proofs.tail_units.Statement.{statement}
 use Rattle.reader.proofs.tail_units.Tie as tie

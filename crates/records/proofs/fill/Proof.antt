@@ -58,7 +58,7 @@ use denote.Triple.Walked.{says, needs, Stays, stay-slice, stay-none, stay-none-s
 use denote.Triple.Walked.{ends-at, walked, walk-meets}
 use denote.Exit.{yes}
 use borrow.Author.Tests.{lt-ltb, le-ltb}
-use Rattle.label.specs.Wire.{words}
+use Rattle.label.specs.Fetched.{words}
 use Rattle.label.specs.declared.Glyph.{Glyph}
 use Rattle.records.specs.Records.{recordOf}
 use Rattle.records.proofs.Stored.{stored, next, length-stored, none}

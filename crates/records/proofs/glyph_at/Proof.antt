@@ -1,7 +1,7 @@
 -- `records::glyph_at` meets its contract: the four numbers are fetched, and the record is made of them. Assumes nothing.
 use Rattle.wire.proofs.Fetched.{words-length}
 use native.Mathlib.Omega.{arith}
-use Rattle.label.specs.Wire.{words}
+use Rattle.label.specs.Fetched.{words}
 use Rattle.records.proofs.Parts.{made}
 use borrow.Author.Needs.{needs}
 use Rattle.records.proofs.glyph_at.Statement.{statement}

@@ -49,7 +49,7 @@ use denote.Exit.{yes}
 use Rattle.label.specs.declared.Glyph.{Glyph}
 use Rattle.records.specs.declared.Plan.{Plan}
 use Rattle.label.specs.Calls.{fillingOutcome}
-use Rattle.label.specs.Wire.{words}
+use Rattle.label.specs.Fetched.{words}
 use Rattle.records.specs.Records.{planOf}
 use Rattle.records.proofs.Facts.{says-both}
 use Rattle.records.proofs.Stored.{stored}

@@ -1,6 +1,6 @@
 -- `rules::keeps_limits` meets its contract. Assumes nothing.
 use Rattle.rules.proofs.Limits.{limits-are}
-use Rattle.label.specs.Wire.{signed}
+use Rattle.label.specs.Fetched.{signed}
 use borrow.Author.Needs.{needs}
 use Rattle.rules.proofs.keeps_limits.Statement.{statement}
 use Rattle.rules.proofs.keeps_limits.Tie as tie

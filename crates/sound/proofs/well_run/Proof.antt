@@ -1,7 +1,7 @@
 -- `sound::well_run` meets its contract. Assumes nothing.
 use Rattle.sound.proofs.Sounds.{wellAt, empty-is, Turn, Numbers, turn-not-ok, turn-no-cluster, turn-not-named, turn-named, turn-not-opened, turn-opened, turn-within, turn-end}
 use Rattle.sound.specs.Sounds.{wellRun}
-use Rattle.label.specs.Wire.{halves, words}
+use Rattle.label.specs.Fetched.{halves, words}
 use lib.Dec.{eqb}
 use native.Mathlib.Omega.{arith}
 use Prim.Native.Nat.{_-_, _≤_}

@@ -1,5 +1,5 @@
 -- `text_bytes::mark_length` meets its contract. Assumes nothing.
-use Rattle.label.specs.Wire.{halves}
+use Rattle.label.specs.Fetched.{halves}
 use native.Mathlib.Omega.{arith}
 use Rattle.text_bytes.proofs.Utf8.{mark-two, mark-none}
 use borrow.Author.Needs.{needs}

@@ -1,5 +1,5 @@
 -- `text_bytes::put_text` meets its contract. Assumes nothing.
-use Rattle.label.specs.Wire.{halves}
+use Rattle.label.specs.Fetched.{halves}
 use Rattle.words.proofs.Puts.{then, put-as}
 use Rattle.text_bytes.proofs.Utf8.{text-braced, text-plain}
 use borrow.Author.Needs.{needs}

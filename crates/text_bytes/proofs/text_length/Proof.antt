@@ -1,6 +1,6 @@
 -- `text_bytes::text_length` meets its contract. Assumes nothing.
 use Rattle.text_bytes.proofs.Utf8.{length-start, length-next, length-end}
-use Rattle.label.specs.Wire.{halves}
+use Rattle.label.specs.Fetched.{halves}
 use Rattle.label.specs.Write.{unitsBytes, textOf}
 use Rattle.label.specs.Requests.Attribute.{asAsked}
 use lib.ListN.{length, drop}

@@ -1,6 +1,6 @@
 -- `units::is_pair_at` meets its contract. Assumes nothing.
 use Rattle.units.proofs.Units.{pair-none, pair-here}
-use Rattle.label.specs.Wire.{halves}
+use Rattle.label.specs.Fetched.{halves}
 use borrow.Author.Needs.{needs}
 use Rattle.units.proofs.is_pair_at.Statement.{statement}
 use Rattle.units.proofs.is_pair_at.Tie as tie

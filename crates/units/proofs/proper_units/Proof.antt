@@ -1,7 +1,7 @@
 -- `units::proper_units` meets its contract. Assumes nothing.
 use Rattle.words.proofs.Loops.{stops, goes}
 use Rattle.units.proofs.Units.{proper-here, proper-end}
-use Rattle.label.specs.Wire.{halves}
+use Rattle.label.specs.Fetched.{halves}
 use Rattle.label.specs.Sound.{properUnits}
 use lib.ListN.{drop}
 use native.Mathlib.Omega.{arith}

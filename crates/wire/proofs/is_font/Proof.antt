@@ -1,6 +1,6 @@
 -- `wire::is_font` meets its contract. Assumes nothing.
 use Rattle.wire.proofs.Tests.{font-is}
-use Rattle.label.specs.Wire.{signed}
+use Rattle.label.specs.Fetched.{signed}
 use borrow.Author.Needs.{needs}
 use Rattle.wire.proofs.is_font.Statement.{statement}
 use Rattle.wire.proofs.is_font.Tie as tie

@@ -1,6 +1,6 @@
 -- `wire::number_at` meets its contract. Assumes nothing.
 use Rattle.wire.proofs.Fetched.{number-is}
-use Rattle.label.specs.Wire.{signed}
+use Rattle.label.specs.Fetched.{signed}
 use Rattle.wire.proofs.Fetched.{words-length}
 use native.Mathlib.Omega.{arith}
 use mathlib.Core.Path.{ap, _∙_}

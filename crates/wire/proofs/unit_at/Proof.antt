@@ -1,6 +1,6 @@
 -- `wire::unit_at` meets its contract. Assumes nothing.
 use Rattle.wire.proofs.Fetched.{unit-is}
-use Rattle.label.specs.Wire.{halves}
+use Rattle.label.specs.Fetched.{halves}
 use Rattle.wire.proofs.Fetched.{halves-length}
 use lib.ListN.{List·getD-eq-default}
 use native.Mathlib.Omega.{arith}

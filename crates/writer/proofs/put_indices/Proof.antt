@@ -2,7 +2,7 @@
 use native.Mathlib.Omega.{arith}
 use mathlib.Core.Path.{ap, _∙_}
 use Prim.Native.Nat.{ℕ, _+_, _-_, _*_, _≤_}
-use Rattle.label.specs.Wire.{words}
+use Rattle.label.specs.Fetched.{words}
 use Rattle.label.specs.Sound.{nat as natOf, clustersOf, glyphsOf}
 use Rattle.label.specs.Write.{indicesOf}
 use Rattle.words.proofs.Puts.{Left, left-start, left-as, left-end}

@@ -4,7 +4,7 @@ use Rattle.words.proofs.Puts.{none, then, put-as}
 use Rattle.writer.proofs.Stores.{glyph-is, led-none, led-some}
 use Rattle.wire.specs.Numbers.{glyphAt}
 use Rattle.label.proofs.Outputs.{empty-is-font}
-use Rattle.label.specs.Wire.{words}
+use Rattle.label.specs.Fetched.{words}
 use Rattle.label.specs.Sound.{isFont}
 use Rattle.label.specs.Write.{entryBytes}
 use mathlib.Core.Path.{sym, ap, _∙_}
