@@ -23,8 +23,8 @@ static const char usage[] =
     "Reads a label, prints its run, picks the glyphs from FIRST up to and without END, or\n"
     "all, and writes the label back. With --raw both values are as they stand in a page.\n"
     "With --sheet judges all labels of a file.\n"
-    "Exit status: 0 accepted; 1 the label, the file or a label of it refused; 2 wrong\n"
-    "arguments, or a file that cannot be read.\n";
+    "Exit status: 0 accepted; 1 the label, the pick, the file or a label of it refused;\n"
+    "2 wrong arguments, or a file that cannot be read.\n";
 
 static uint8_t units[GLYPH_LABEL_UNITS_MAX], clusters[GLYPH_LABEL_CLUSTERS_MAX], glyphs[GLYPH_LABEL_GLYPHS_MAX];
 static uint8_t text_out[GLYPH_LABEL_ESCAPED_TEXT_MAX], indices_out[GLYPH_LABEL_INDICES_MAX];

@@ -11,10 +11,11 @@
  *
  * A sheet is a file of labels. One call says of each of them whether it is accepted, as reading it would.
  *
- * Link target/staticlib/libglyph_label.a (made by `rt staticlib glyph_label`), which is for Linux on x86-64. Nothing is
- * allocated, nothing is kept between calls, and there is no state: any number of threads may call at once. A call takes
- * at most GLYPH_LABEL_STACK_MAX bytes of stack, whatever the size of the run. The archive is not instrumented, so that
- * sanitizers do not see what a call reads and writes: check your calls with valgrind.
+ * This header is C99 or C++. Link target/staticlib/libglyph_label.a (made by `rt staticlib glyph_label`), which is for
+ * Linux on x86-64 and needs no other library. Nothing is allocated, nothing is kept between calls, and there is no
+ * state: any number of threads may call at once. A call takes at most GLYPH_LABEL_STACK_MAX bytes of stack, whatever
+ * the size of the run. The archive is not instrumented, so that sanitizers do not see what a call reads and writes:
+ * check your calls with valgrind.
  *
  * BUFFERS. A buffer is a pointer and its size in bytes. A size of 0 is an empty buffer, and the pointer may then be
  * NULL. Inputs are const and only read. A buffer that a call fills may share no byte with any other buffer of that
@@ -32,15 +33,15 @@
  *
  * Each number of clusters and glyphs is 4 bytes in two's complement. glyph_label_unit_at, glyph_label_number_at,
  * glyph_label_put_unit and glyph_label_put_number fetch and store them, on every machine. On x86-64 the buffers may as
- * well be arrays of uint16_t, of glyph_label_cluster and of glyph_label_glyph, passed as bytes.
+ * well be arrays of uint16_t and int32_t, or of glyph_label_cluster and glyph_label_glyph, passed as bytes.
  *
  * Advances and offsets are in thousandths of the standard's unit, which is a hundredth of an em, rounded to the nearest
  * whole number, a half to the even one: .0015 and .0025 are 2, -.0025 is -2. Each cluster holds the units and the
  * glyphs next after those of the clusters before it. The code units behind the last entry, the tail, are left to the
  * font: a pair of surrogates is one cluster of 2 units and 1 glyph, every other unit one of 1 and 1.
  *
- * ANSWERS. `number` is 0 where the call did what it was asked. Else it is the number of a refusal, `place` is its
- * place, the other fields are 0, and no byte of any buffer has changed. A call that succeeds changes exactly the
+ * ANSWERS. `number` and `place` are 0 where the call did what it was asked. Else they are the number of a refusal and
+ * its place, the other fields are 0, and no byte of any buffer has changed. A call that succeeds changes exactly the
  * bytes it reports; those behind them stay, left-over bytes that hold no whole number included.
  *
  *     number  cause                                                   place
@@ -75,10 +76,10 @@
  *         27  answers has too little room                             labels in the file
  *
  * Bytes, entries, code units, clusters, glyphs and records are numbered from 0. The bytes of 2 and 3 are those of the
- * text that is read, the resolved one, and not of a raw value. The checks are made in this order; entries are checked
- * one by one, each from 7 to 13. The first that fails gives the answer. 23 and 24, in this order, come before 1:
- * resolving is a call of its own, made before a reading, for the text and then for the indices. 25 to 27 are of a
- * sheet's file and are checked before any of its labels. */
+ * text that is read, the resolved one, and not of a raw value. The checks are made in this order; 2 and 3 are checked
+ * character by character, from the left, and entries one by one, each from 7 to 13. The first that fails gives the
+ * answer. 23 and 24, in this order, come before 1: resolving is a call of its own, made before a reading, for the text
+ * and then for the indices. 25 to 27 are of a sheet's file and are checked before any of its labels. */
 #ifndef GLYPH_LABEL_H
 #define GLYPH_LABEL_H
 
@@ -275,9 +276,18 @@ glyph_label_reading glyph_label_read(const uint8_t *text, size_t text_len, const
 glyph_label_filled glyph_label_sheet(const uint8_t *file, size_t file_len, uint8_t *answers, size_t answers_len);
 
 /* Writes a run's normal writing into text and indices. The three sizes of the run are exactly those of its numbers,
- * so a left-over byte makes it unsound. A cluster of 2 units and 1 glyph may leave its index to the font only where the
- * units are one pair, and this glyph and all behind it are wholly the font's: -1, -1, 0, 0. Refusals 19 to 21. Buffers
- * of GLYPH_LABEL_TEXT_MAX and GLYPH_LABEL_INDICES_MAX bytes are large enough for every run. */
+ * so a left-over byte makes it unsound. A run is sound where some label reads as it:
+ *
+ *  - it has a glyph at least, at most 4,096 units and at most 4,096 glyphs; the counts of its clusters add up to both;
+ *  - its units are UTF-16 of characters that XML 1.0 allows, and no cluster ends inside a pair;
+ *  - an index is -1 to 65,535, an advance -1 to 1,000,000,000, an offset within 1,000,000,000 of 0;
+ *  - a cluster has a unit and a glyph at least; in a run without units each has 0 units and 1 glyph;
+ *  - every index is named, but that of a cluster of 1 unit and 1 glyph may be left to the font, -1; and that of a
+ *    cluster of 2 units and 1 glyph where the units are one pair, and this glyph and all behind it are wholly the
+ *    font's: -1, -1, 0, 0.
+ *
+ * Refusals 19 to 21. Buffers of GLYPH_LABEL_TEXT_MAX and GLYPH_LABEL_INDICES_MAX bytes are large enough for every
+ * run. */
 glyph_label_writing glyph_label_write(const uint8_t *units, size_t units_len, const uint8_t *clusters,
                                       size_t clusters_len, const uint8_t *glyphs, size_t glyphs_len, uint8_t *text,
                                       size_t text_len, uint8_t *indices, size_t indices_len);

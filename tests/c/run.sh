@@ -91,16 +91,18 @@ trouble --sheet "$out"
 python3 examples/make_sheet.py "$out/soundings.slb"
 cmp examples/soundings.slb "$out/soundings.slb"
 plotter 1 --sheet examples/soundings.slb
-# four labels: accepted, refused, empty, accepted; the same file with its last byte cut off; its first label alone; no label; a text that is no sheet
+# four labels: accepted, refused, empty, accepted; the same file with its last byte cut off; its first label alone; no label; no byte; a text that is no sheet
 sheet='SLB\001\000\001\000\001\000\000\000A5\001\000\005\000\000\000A5,1e7\000\000\000\000\000\000\000\000\003\000\000\0005;6'
 printf "$sheet" > "$out/four.slb"
 printf "${sheet%?}" > "$out/cut.slb"
 printf 'SLB\001\000\001\000\001\000\000\000A5' > "$out/one.slb"
 printf 'SLB\001\000' > "$out/none.slb"
+: > "$out/empty.slb"
 plotter 1 --sheet "$out/four.slb"
 plotter 1 --sheet "$out/cut.slb"
 plotter 0 --sheet "$out/one.slb"
 plotter 0 --sheet "$out/none.slb"
+plotter 1 --sheet "$out/empty.slb"
 plotter 1 --sheet tests/c/plotter.expected
 diff tests/c/plotter.expected "$out/plotter.out"
 
