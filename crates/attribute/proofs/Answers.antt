@@ -9,15 +9,16 @@ use borrow.Author.Tests.{le-leb, lt-leb}
 use lib.ListN.{length}
 use Rattle.label.specs.Outcome.{Outcome, ok, no}
 use Rattle.label.specs.Calls.{refusal, fillingOutcome, filledCount, filledAfter}
-use Rattle.label.specs.Requests.Attribute.{resolve, resolveInto}
+use Rattle.label.specs.Requests.Attribute.{resolveInto}
 use Rattle.label.specs.declared.Filling.{Filling}
 use Rattle.label.specs.declared.Filling.the-variants.{Filled, Refused}
 use Rattle.label.proofs.Basics.{no-ok}
 use Rattle.label.proofs.Run.{ok-path}
-use Rattle.words.proofs.Puts.{put-room}
+use Rattle.octets.proofs.Puts.{put-room}
 use Rattle.attribute.specs.declared.Stored.{Stored}
 use Rattle.attribute.specs.declared.Stored.the-variants.{Bytes, Bad}
 use Rattle.attribute.specs.Stores.{Stores}
+use Rattle.label.specs.Steps.{resolve}
 
 -- the two clauses of the call, where resolving comes to w
 abbrev Answer : Outcome (List ℕ) → Filling → List ℕ → List ℕ → Type 0

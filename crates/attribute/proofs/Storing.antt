@@ -14,18 +14,19 @@ use lib.Seq.{getD-drop}
 use Rattle.label.specs.Outcome.{ok}
 use Rattle.label.specs.Text.{xmlChar}
 use Rattle.label.specs.Write.{utf8}
-use Rattle.label.specs.Requests.Attribute.{referred, body, isClosed, isReference, isGood, spaced, gives, further, resolveFrom, resolve}
+use Rattle.label.specs.Requests.Attribute.{referred, body, isClosed, isReference, isGood, spaced, gives, further}
 use Rattle.label.proofs.Basics.{and-r, clash, cases}
 use Rattle.label.proofs.Cursors.{onto, onto-nil, onto-onto}
 use Rattle.label.proofs.Text.{xml-range}
 use Rattle.label.proofs.Requests.Attribute.{resolve-good, resolve-bad, resolve-end, gives-within}
-use Rattle.words.specs.Puts.{Put}
-use Rattle.words.proofs.Puts.{none, then, put-as, puts-length}
+use Rattle.octets.specs.Puts.{Put}
+use Rattle.octets.proofs.Puts.{none, then, put-as, puts-length}
 use Rattle.attribute.specs.declared.Reference.{Reference}
 use Rattle.attribute.specs.declared.Reference.the-variants.{To, Bad}
 use Rattle.attribute.specs.declared.Stored.the-variants as S
 use Rattle.attribute.specs.References.{referenceBy}
 use Rattle.attribute.specs.Stores.{widthAt, Stores}
+use Rattle.label.specs.Steps.{resolveFrom, resolve}
 
 -- ── what the answer about a reference tells ──
 

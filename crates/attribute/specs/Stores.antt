@@ -7,10 +7,10 @@ use mathlib.Core.List.{List}
 use lib.Dec.{eqb}
 use lib.ListN.{getD}
 use Rattle.label.specs.Outcome.{ok, no}
-use Rattle.label.specs.Requests.Attribute.{resolve}
-use Rattle.words.specs.Puts.{Put}
+use Rattle.octets.specs.Puts.{Put}
 use Rattle.attribute.specs.declared.Stored.{Stored}
 use Rattle.attribute.specs.declared.Stored.the-variants.{Bytes, Bad}
+use Rattle.label.specs.Steps.{resolve}
 
 -- how many bytes become one at a place: a carriage return with its line feed are two
 unfoldable pub widthAt : List ℕ → ℕ → ℕ

@@ -21,14 +21,14 @@ fn digit_value(b: u8) -> u32
     ensures { λ r. ⌜ r ≡ digitValue b ⌝ }
     ensures bounds { λ r. ⌜ r ≤ 16 ⌝ }
 {
-    if words::is_within(b'0', b'9', b) {
-        return words::wide(b) - 48;
+    if octets::is_within(b'0', b'9', b) {
+        return octets::wide(b) - 48;
     }
-    if words::is_within(b'a', b'f', b) {
-        return words::wide(b) - 87;
+    if octets::is_within(b'a', b'f', b) {
+        return octets::wide(b) - 87;
     }
-    if words::is_within(b'A', b'F', b) {
-        return words::wide(b) - 55;
+    if octets::is_within(b'A', b'F', b) {
+        return octets::wide(b) - 55;
     }
     16
 }
@@ -76,7 +76,7 @@ fn numbered_at(s: &[u8], at: usize, base: u32) -> Reference
 {
     let n = number_at(s, at, base);
     let end = n.end;
-    if words::byte_or_zero(s, end) != b';' {
+    if octets::byte_or_zero(s, end) != b';' {
         return Reference::Bad;
     }
     if !utf8::is_xml(n.value) {
@@ -93,31 +93,31 @@ fn named_at(s: &[u8], at: usize) -> Reference
     requires { ⌜ at ≤ length (now s) ⌝ }
     ensures { λ r. ⌜ r ≡ referenceBy predefined (now (s .entry)) at ⌝ }
 {
-    if words::stands_at(s, at, b"amp;") {
+    if octets::stands_at(s, at, b"amp;") {
         return Reference::To {
             code: 38,
             next: at + 4,
         };
     }
-    if words::stands_at(s, at, b"lt;") {
+    if octets::stands_at(s, at, b"lt;") {
         return Reference::To {
             code: 60,
             next: at + 3,
         };
     }
-    if words::stands_at(s, at, b"gt;") {
+    if octets::stands_at(s, at, b"gt;") {
         return Reference::To {
             code: 62,
             next: at + 3,
         };
     }
-    if words::stands_at(s, at, b"quot;") {
+    if octets::stands_at(s, at, b"quot;") {
         return Reference::To {
             code: 34,
             next: at + 5,
         };
     }
-    if words::stands_at(s, at, b"apos;") {
+    if octets::stands_at(s, at, b"apos;") {
         return Reference::To {
             code: 39,
             next: at + 5,
@@ -131,10 +131,10 @@ fn reference_at(s: &[u8], at: usize) -> Reference
     requires { ⌜ at ≤ length (now s) ⌝ }
     ensures { λ r. ⌜ r ≡ referenceBy referred (now (s .entry)) at ⌝ }
 {
-    if words::byte_or_zero(s, at) != b'#' {
+    if octets::byte_or_zero(s, at) != b'#' {
         return named_at(s, at);
     }
-    if words::byte_or_zero(s, at + 1) != b'x' {
+    if octets::byte_or_zero(s, at + 1) != b'x' {
         return numbered_at(s, at + 1, 10);
     }
     numbered_at(s, at + 2, 16)
@@ -146,7 +146,7 @@ fn reference_at(s: &[u8], at: usize) -> Reference
 fn spaced_byte(b: u8) -> u8
     ensures { λ r. ⌜ r ≡ spaced b ⌝ }
 {
-    if words::either(words::either(b == b'\t', b == b'\n'), b == b'\r') {
+    if plain::either(plain::either(b == b'\t', b == b'\n'), b == b'\r') {
         return b' ';
     }
     b
@@ -161,7 +161,7 @@ fn width_at(s: &[u8], at: usize) -> usize
     if s[at] != b'\r' {
         return 1;
     }
-    if words::byte_or_zero(s, at + 1) != b'\n' {
+    if octets::byte_or_zero(s, at + 1) != b'\n' {
         return 1;
     }
     2
@@ -185,7 +185,7 @@ fn put_resolved(out: &mut [u8], raw: &[u8]) -> Stored
             return Stored::Bad(i);
         }
         if b != b'&' {
-            n = words::put_byte(out, n, spaced_byte(b));
+            n = octets::put_byte(out, n, spaced_byte(b));
             i += width_at(raw, i);
             continue;
         }

@@ -13,7 +13,7 @@ use borrow.Author.Tests.{eqb-true, leb-true, leb-false, le-leb, lt-leb, lt-ltb}
 use Rattle.label.specs.Limits.{maxIndex}
 use Rattle.label.specs.Outcome.{Outcome, ok, _>>_, need}
 use Rattle.label.specs.Bytes.{empty, split, Cut, value}
-use Rattle.label.specs.Entry.{minus, unsigned, numberFits, part, hasMap, isIndexPart, indexDigits, mapUnits, mapGlyphs, isAdvance, isOffset, wellFormed, fieldFits, indexOf, advanceOf, offsetOf, Entry, entryOf}
+use Rattle.label.specs.Entry.{minus, unsigned, numberFits, entryPart, hasMap, isIndexPart, indexDigits, mapUnits, mapGlyphs, isAdvance, isOffset, wellFormed, fieldFits, indexOf, advanceOf, offsetOf, Entry, entryOf}
 use Rattle.label.specs.Steps.{entry}
 use Rattle.label.specs.Requests.RoundedCount.{roundedField, roundedEntry}
 use Rattle.label.specs.declared.Index.the-variants.{Named, Font}
@@ -202,16 +202,16 @@ module _ (t en r0 : List ℕ) (te : t ≡ en ++ r0) (k0 : ends isSemi r0 ≡ tru
       subst (λ (s : List ℕ). Headed (c .p) (c .r ++ r0) s) (sym (te ∙ ap (λ (v : List ℕ). v ++ r0) (c .is) ∙ append-assoc (c .p) (c .r) r0))
       (head-is (c .p) (c .r ++ r0) (c .free) (ends-both (c .r) r0 (c .end) k0))
 
-  part-0 : part 0 en ≡ c .p
+  part-0 : entryPart 0 en ≡ c .p
   part-0 = rw (c .parts)
 
-  part-1 : part 1 en ≡ x .p
+  part-1 : entryPart 1 en ≡ x .p
   part-1 = rw (c .parts) (x .first)
 
-  part-2 : part 2 en ≡ y .p
+  part-2 : entryPart 2 en ≡ y .p
   part-2 = rw (c .parts) (x .others 0 ∙ y .first)
 
-  part-3 : part 3 en ≡ z .p
+  part-3 : entryPart 3 en ≡ z .p
   part-3 = rw (c .parts) (x .others 1 ∙ y .others 0 ∙ z .first)
 
   no-more : leb (length (split 44 en)) 4 ≡ empty (z .r')

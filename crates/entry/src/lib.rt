@@ -55,7 +55,7 @@ fn breaks_at(s: &[u8], at: usize) -> bool
     ensures { λ r. ⌜ r ≡ ends isBreak (drop at (now (s .entry))) ⌝ }
 {
     if at < s.len() {
-        words::either(s[at] == 44, s[at] == 59)
+        plain::either(s[at] == 44, s[at] == 59)
     } else {
         true
     }
@@ -126,7 +126,7 @@ fn map_of(s: &[u8]) -> MapPart
         return bad_map();
     }
     MapPart {
-        ok: words::both(0 < n, 0 < k),
+        ok: plain::both(0 < n, 0 < k),
         used: 1 + (n + 1) + k + 1,
         mapped: true,
         units: x.value as usize,
@@ -167,7 +167,7 @@ fn front_of(s: &[u8], first: Digits) -> Front
     let d = index_digits(s, m, first);
     let named = 0 < d.count;
     Front {
-        ok: words::both(m.ok, words::either(named, !m.mapped)),
+        ok: plain::both(m.ok, plain::either(named, !m.mapped)),
         used: m.used + d.count,
         mapped: m.mapped,
         units: m.units,
@@ -298,8 +298,8 @@ fn read_advance(s: &[u8], k: usize, f: Front, x: Field) -> EntryRead
     ensures { λ r. ⌜ r ≡ entryHere k (now (s .entry)) ⌝ }
 {
     let end = f.used + x.used;
-    let field = words::both(x.ok, !x.negative);
-    let ok = words::both(words::both(f.ok, field), ends_at(s, end));
+    let field = plain::both(x.ok, !x.negative);
+    let ok = plain::both(plain::both(f.ok, field), ends_at(s, end));
     if !ok {
         return refuse(7, k);
     }
@@ -340,8 +340,8 @@ fn read_fields(s: &[u8], k: usize, f: Front) -> EntryRead
     let j = i + y.used;
     let z = field_at(s, j);
     let end = j + z.used;
-    let fields = words::both(words::both(x.ok, !x.negative), words::both(y.ok, z.ok));
-    let ok = words::both(words::both(f.ok, fields), ends_at(s, end));
+    let fields = plain::both(plain::both(x.ok, !x.negative), plain::both(y.ok, z.ok));
+    let ok = plain::both(plain::both(f.ok, fields), ends_at(s, end));
     if !ok {
         return refuse(7, k);
     }
@@ -351,7 +351,7 @@ fn read_fields(s: &[u8], k: usize, f: Front) -> EntryRead
     let advance = x.size;
     let u = y.size;
     let v = z.size;
-    if !words::both(words::both(is_within(advance), is_within(u)), is_within(v)) {
+    if !plain::both(plain::both(is_within(advance), is_within(u)), is_within(v)) {
         return refuse(9, k);
     }
     let glyph = Glyph {
@@ -387,8 +387,8 @@ pub fn is_index(s: &[u8], at: usize, d: Digits) -> bool
     ensures { λ r. ⌜ r ≡ ((ltb 0 (d .count) && leb (d .value) maxIndex) && ends isSemi (drop (at + d .count) (now (s .entry)))) ⌝ }
     ensures alone { λ r. ⌜ (r ≡ true → IsIndex (drop at (now (s .entry))) d) ⌝ }
 {
-    let index = words::both(0 < d.count, d.value <= Limits::INDEX);
-    words::both(index, ends_at(s, at + d.count))
+    let index = plain::both(0 < d.count, d.value <= Limits::INDEX);
+    plain::both(index, ends_at(s, at + d.count))
 }
 
 // What it says.

@@ -8,7 +8,7 @@ ghost use Rattle.label.specs.Bytes.{empty, trim, decimal};
 ghost use Rattle.label.specs.Fetched.{signed};
 ghost use Rattle.label.specs.Sound.{numberIndex, numberAdvance};
 ghost use Rattle.label.specs.Write.{fraction, valueBytes, advanceBytes, offsetBytes, mapBytes, indexBytes, entryBytes};
-ghost use Rattle.words.specs.Puts.{Put};
+ghost use Rattle.octets.specs.Puts.{Put};
 ghost use Rattle.wire.specs.Numbers.{glyphOf};
 ghost use Rattle.entry_bytes.specs.Fields.{partsV, partsUV, partsAUV, fields};
 
@@ -29,10 +29,10 @@ fn put_decimal(out: &mut [u8], at: usize, n: u32) -> usize
     ensures bounds { λ r. ⌜ r ≤ at + 10 ⌝ }
 {
     if n < 10 {
-        return words::put_byte(out, at, digit(n));
+        return octets::put_byte(out, at, digit(n));
     }
     let p = put_decimal(out, at, n / 10);
-    words::put_byte(out, p, digit(n % 10))
+    octets::put_byte(out, p, digit(n % 10))
 }
 
 // The digits behind the point, without trailing zeros.
@@ -41,15 +41,15 @@ fn put_fraction(out: &mut [u8], at: usize, f: u32) -> usize
     ensures { λ r. ⌜ Put (now (out .entry)) at (fraction f) r (now (out .exit)) ⌝ }
     ensures bounds { λ r. ⌜ r ≤ at + 3 ⌝ }
 {
-    let p = words::put_byte(out, at, digit(f / 100));
+    let p = octets::put_byte(out, at, digit(f / 100));
     if f % 100 == 0 {
         return p;
     }
-    let q = words::put_byte(out, p, digit(f / 10 % 10));
+    let q = octets::put_byte(out, p, digit(f / 10 % 10));
     if f % 10 == 0 {
         return q;
     }
-    words::put_byte(out, q, digit(f % 10))
+    octets::put_byte(out, q, digit(f % 10))
 }
 
 // The whole part of a value that has a fraction: no lone zero.
@@ -74,7 +74,7 @@ fn put_value(out: &mut [u8], at: usize, n: u32) -> usize
         return put_decimal(out, at, n / 1000);
     }
     let p = put_whole(out, at, n / 1000);
-    let q = words::put_byte(out, p, 46);
+    let q = octets::put_byte(out, p, 46);
     put_fraction(out, q, n % 1000)
 }
 
@@ -91,7 +91,7 @@ fn put_offset(out: &mut [u8], at: usize, n: u32) -> usize
     if wire::is_natural(n) {
         return put_value(out, at, size);
     }
-    let p = words::put_byte(out, at, 45);
+    let p = octets::put_byte(out, at, 45);
     put_value(out, p, size)
 }
 
@@ -116,7 +116,7 @@ fn put_colon(out: &mut [u8], at: usize, b: u32) -> usize
     if b == 1 {
         return at;
     }
-    let p = words::put_byte(out, at, 58);
+    let p = octets::put_byte(out, at, 58);
     put_decimal(out, p, b)
 }
 
@@ -126,13 +126,13 @@ fn put_map(out: &mut [u8], at: usize, a: u32, b: u32) -> usize
     ensures { λ r. ⌜ Put (now (out .entry)) at (mapBytes a b) r (now (out .exit)) ⌝ }
     ensures bounds { λ r. ⌜ r ≤ at + 23 ⌝ }
 {
-    if words::both(a <= 1, b == 1) {
+    if plain::both(a <= 1, b == 1) {
         return at;
     }
-    let p = words::put_byte(out, at, 40);
+    let p = octets::put_byte(out, at, 40);
     let q = put_decimal(out, p, a);
     let t = put_colon(out, q, b);
-    words::put_byte(out, t, 41)
+    octets::put_byte(out, t, 41)
 }
 
 // An index with its map a:b; nothing for one that the font chooses.
@@ -159,14 +159,14 @@ fn blank_uv(u: u32, v: u32) -> bool
     ensures { λ r. ⌜ r ≡ empty (trim (partsUV (signed u) (signed v))) ⌝ }
 {
     let n = wire::size(u);
-    words::both(n == 0, blank_v(v))
+    plain::both(n == 0, blank_v(v))
 }
 
 fn blank_auv(a: u32, u: u32, v: u32) -> bool
     ensures { λ r. ⌜ r ≡ empty (trim (partsAUV (signed a) (signed u) (signed v))) ⌝ }
 {
     let n = wire::is_natural(a);
-    words::both(!n, blank_uv(u, v))
+    plain::both(!n, blank_uv(u, v))
 }
 
 fn put_v(out: &mut [u8], at: usize, v: u32) -> usize
@@ -177,7 +177,7 @@ fn put_v(out: &mut [u8], at: usize, v: u32) -> usize
     if blank_v(v) {
         return at;
     }
-    let p = words::put_byte(out, at, 44);
+    let p = octets::put_byte(out, at, 44);
     put_offset(out, p, v)
 }
 
@@ -189,7 +189,7 @@ fn put_uv(out: &mut [u8], at: usize, u: u32, v: u32) -> usize
     if blank_uv(u, v) {
         return at;
     }
-    let p = words::put_byte(out, at, 44);
+    let p = octets::put_byte(out, at, 44);
     let q = put_offset(out, p, u);
     put_v(out, q, v)
 }
@@ -202,7 +202,7 @@ fn put_auv(out: &mut [u8], at: usize, a: u32, u: u32, v: u32) -> usize
     if blank_auv(a, u, v) {
         return at;
     }
-    let p = words::put_byte(out, at, 44);
+    let p = octets::put_byte(out, at, 44);
     let q = put_advance(out, p, a);
     put_uv(out, q, u, v)
 }

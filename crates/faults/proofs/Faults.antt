@@ -15,7 +15,7 @@ use Rattle.label.specs.declared.Part.{Part}
 use Rattle.label.proofs.Basics.{cases, and-r}
 use Rattle.entry.specs.Items.{here}
 use Rattle.survey.specs.Steps.{firstPlace}
-use Rattle.faults.specs.Faults.{entryPart}
+use Rattle.faults.specs.Faults.{entryShown}
 use Rattle.survey.proofs.Entries.{leftFrom, left-is, left-none, left-all, here-inside}
 
 -- ── entry k, by a walk over the entries ──
@@ -27,8 +27,8 @@ partIn es i k = cond (ltb k (length es)) (portion true (i + entryStart es k) (le
 unfoldable pub partFrom : List ℕ → ℕ → ℕ → Part
 partFrom s i r = partIn (leftFrom s i) i r
 
-pub from-start : (s : List ℕ) (k i : ℕ) → i ≡ firstPlace s → entryPart s k ≡ partFrom s i k
-unfolding entryPart partFrom
+pub from-start : (s : List ℕ) (k i : ℕ) → i ≡ firstPlace s → entryShown s k ≡ partFrom s i k
+unfolding entryShown partFrom
 from-start [] k i h =
     let n : entries [] ≡ [] = left-all [] ∙ left-none [] 1 (omega arith) in
     rw (h, left-none [] 1 (omega arith), n, le-ltb k 0 (omega arith))
@@ -68,8 +68,8 @@ module _ (t s : List ℕ) (n p : ℕ) where
   unfolding faultPart
   part-text b e h = rw (sym e ∙ h)
 
-  pub part-entry : (b : Bool) → b ≡ (ofText n && ltb p (length t)) → b ≡ false → ofEntry n ≡ true → entryPart s p ≡ faultPart t s n p
-  unfolding faultPart entryPart
+  pub part-entry : (b : Bool) → b ≡ (ofText n && ltb p (length t)) → b ≡ false → ofEntry n ≡ true → entryShown s p ≡ faultPart t s n p
+  unfolding faultPart entryShown
   part-entry b e h o = rw (sym e ∙ h, o)
 
   pub part-none : (b : Bool) → b ≡ (ofText n && ltb p (length t)) → b ≡ false → ofEntry n ≡ false → portion false 0 0 ≡ faultPart t s n p

@@ -4,7 +4,7 @@ ghost use mathlib.Core.Path.{_≡_};
 ghost use lib.ListN.{length, drop};
 ghost use Rattle.label.specs.Fault.{ofText, ofEntry, portion, faultPart, partBytes, partPtr};
 ghost use Rattle.entry.specs.Items.{here};
-ghost use Rattle.faults.specs.Faults.{entryPart};
+ghost use Rattle.faults.specs.Faults.{entryShown};
 
 // Where the entry that starts at `place` ends: at a `;` or at the end.
 fn entry_end(s: &[u8], place: usize) -> usize
@@ -12,7 +12,7 @@ fn entry_end(s: &[u8], place: usize) -> usize
     ensures { λ r. ⌜ r ≡ place + length (here (drop place (now (s .entry)))) ⌝ }
     ensures bounds { λ r. ⌜ (place ≤ r) × (r ≤ length (now (s .entry))) ⌝ }
 {
-    words::find_byte(s, place, 0x3b)
+    octets::find_byte(s, place, 0x3b)
 }
 
 // A part that starts at `start` and ends at `end`.
@@ -29,7 +29,7 @@ fn part_of(in_indices: bool, start: usize, end: usize) -> label::Part
 
 // Entry k of the indices, or the empty start of the text where there is none.
 fn find_entry(s: &[u8], k: usize) -> label::Part
-    ensures { λ r. ⌜ r ≡ entryPart (now (s .entry)) k ⌝ }
+    ensures { λ r. ⌜ r ≡ entryShown (now (s .entry)) k ⌝ }
 {
     let mut place = survey::first_place(s);
     let mut rest = k;
@@ -48,21 +48,21 @@ fn find_entry(s: &[u8], k: usize) -> label::Part
 fn is_of_text(number: u32) -> bool
     ensures { λ r. ⌜ r ≡ ofText number ⌝ }
 {
-    words::both(2 <= number, number <= 4)
+    plain::both(2 <= number, number <= 4)
 }
 
 // It is an entry.
 fn is_of_entry(number: u32) -> bool
     ensures { λ r. ⌜ r ≡ ofEntry number ⌝ }
 {
-    words::either(words::both(7 <= number, number <= 12), number == 14)
+    plain::either(plain::both(7 <= number, number <= 12), number == 14)
 }
 
 // The part of the label that a refusal speaks of.
 pub fn find_part(text: &[u8], indices: &[u8], number: u32, place: usize) -> label::Part
     ensures { λ r. ⌜ r ≡ faultPart (now (text .entry)) (now (indices .entry)) number place ⌝ }
 {
-    if words::both(is_of_text(number), place < text.len()) {
+    if plain::both(is_of_text(number), place < text.len()) {
         return part_of(false, place, text.len());
     }
     if is_of_entry(number) {

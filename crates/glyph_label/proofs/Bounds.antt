@@ -22,8 +22,8 @@ use Rattle.label.specs.Write.{Label, normal}
 use Rattle.label.specs.Pick.{holding, touched, turned, inside, pickUnits, pickGlyphs}
 use Rattle.label.specs.Calls.{readingOutcome, readingRounded, filledCount, readInto, counted, askedFor, writeAsked, lengths}
 use Rattle.label.specs.Requests.RoundedCount.{rounded, beside}
-use Rattle.label.specs.Requests.Attribute.{isGood, further, resolveFrom, resolve, resolveInto}
-use Rattle.label.specs.Requests.Sheet.{header, recordLength, isRecord, labelsOf, labelsFrom, sheetInto}
+use Rattle.label.specs.Requests.Attribute.{isGood, further, resolveInto}
+use Rattle.label.specs.Requests.Sheet.{header, recordLength, isRecord, labelsOf, sheetInto}
 use Rattle.label.specs.Statements.Demands.{RoomyFor}
 use Rattle.label.specs.declared.Cluster.{Cluster}
 use Rattle.label.specs.declared.Reading.{Reading}
@@ -41,6 +41,7 @@ use Rattle.sound.proofs.Facts.{few-units, few-glyphs, units-add-up, glyphs-add-
 use Rattle.picks.specs.Ways.{pickAlong}
 use Rattle.glyph_label.specs.Answers.{readingAnswer}
 use Rattle.glyph_label.specs.Fits.{Small32, ReadingFits, WritingFits, StretchFits, FilledFits}
+use Rattle.label.specs.Steps.{resolveFrom, resolve, labelsFrom}
 
 -- ── a reading ──
 

@@ -11,7 +11,7 @@ use lib.IntN.{ℤ, pos, negsuc}
 use lib.ListN.{length, getD, length-append}
 use Rattle.label.specs.Outcome.{ok}
 use Rattle.label.specs.Bytes.{empty, split, Cut, cut, isDigit, allDigits, digits, valueFrom, value, join, trim, decimal}
-use Rattle.label.specs.Entry.{unsigned, part, hasMap, isIndexPart, indexDigits, mapUnits, mapGlyphs, isAdvance, isOffset, wellFormed, fieldFits, indexOf, advanceOf, offsetOf, Entry, entryOf}
+use Rattle.label.specs.Entry.{unsigned, entryPart, hasMap, isIndexPart, indexDigits, mapUnits, mapGlyphs, isAdvance, isOffset, wellFormed, fieldFits, indexOf, advanceOf, offsetOf, Entry, entryOf}
 use Rattle.label.specs.Run.{named}
 use Rattle.label.specs.Steps.{entry}
 use Rattle.label.specs.Sound.{size, indexFits, advanceFits, glyphFits}
@@ -249,7 +249,7 @@ module _ (a b : ℕ) (g : Glyph) (m : glyphFits g ≡ true) where
   parts-semi : allFree 59 (entryParts a b g) ≡ true
   parts-semi = rw (ri .semi, ra .semi, ru .semi, rv .semi)
 
-  the-part : (k : ℕ) → part k (entryBytes a b g) ≡ getD (entryParts a b g) k []
+  the-part : (k : ℕ) → entryPart k (entryBytes a b g) ≡ getD (entryParts a b g) k []
   unfolding entryBytes
   the-part k = parts-joined 44 (entryParts a b g) k parts-comma
 
@@ -268,10 +268,10 @@ module _ (a b : ℕ) (g : Glyph) (m : glyphFits g ≡ true) where
         le-leb (length (split 44 (entryBytes a b g))) 4 (unfold entryBytes in (length-joined 44 (entryParts a b g) parts-comma (omega arith))),
       )
 
-  entry-index : leb (value (indexDigits (part 0 (entryBytes a b g)))) 65535 ≡ true
+  entry-index : leb (value (indexDigits (entryPart 0 (entryBytes a b g)))) 65535 ≡ true
   entry-index = rw (the-part 0) (index-small (g .index) (indexBytes a b (g .index)) fits-i (ri .figs))
 
-  entry-numbers : (fieldFits (part 1 (entryBytes a b g)) && fieldFits (part 2 (entryBytes a b g)) && fieldFits (part 3 (entryBytes a b g))) ≡ true
+  entry-numbers : (fieldFits (entryPart 1 (entryBytes a b g)) && fieldFits (entryPart 2 (entryBytes a b g)) && fieldFits (entryPart 3 (entryBytes a b g))) ≡ true
   entry-numbers = rw (the-part 1, the-part 2, the-part 3, ra .small, ru .small, rv .small)
 
   entry-is : entryOf (entryBytes a b g) ≡ back a b g

@@ -34,20 +34,20 @@ pub find : (ns : List ℕ) (i : ℕ) → i < sum ns → (j : ℕ) × In ns j i
 find [] i h = absurd (not-suc-le-zero h)
 find (n ∷ ns) i h =
     cases (ltb i n)
-    (λ t. (0, record { part = omega arith; from = omega arith; below = omega (arith, ltb-true i n t) }))
+    (λ t. (0, record { exists = omega arith; from = omega arith; below = omega (arith, ltb-true i n t) }))
     (λ t. let g : n ≤ i = ltb-false i n t in
     let (j, x) = find ns (i - n) (omega arith) in
-    (suc j, record { part = omega (arith, x .part); from = omega (arith, x .from); below = omega (arith, x .below) }))
+    (suc j, record { exists = omega (arith, x .exists); from = omega (arith, x .from); below = omega (arith, x .below) }))
 
 pub order : (ns : List ℕ) (i i′ j k : ℕ) → i ≤ i′ → In ns j i → In ns k i′ → j ≤ k
-order [] i i′ j k h x y = absurd (not-suc-le-zero (x .part))
+order [] i i′ j k h x y = absurd (not-suc-le-zero (x .exists))
 order (n ∷ ns) i i′ zero k h x y = omega arith
 order (n ∷ ns) i i′ (suc j) zero h x y = omega (arith, x .from, y .below)
 order (n ∷ ns) i i′ (suc j) (suc k) h x y =
     let r : j ≤ k =
     order ns (i - n) (i′ - n) j k (omega arith)
-    (record { part = omega (arith, x .part); from = omega (arith, x .from); below = omega (arith, x .below, x .from) })
-    (record { part = omega (arith, y .part); from = omega (arith, y .from); below = omega (arith, y .below, y .from) }) in
+    (record { exists = omega (arith, x .exists); from = omega (arith, x .from); below = omega (arith, x .below, x .from) })
+    (record { exists = omega (arith, y .exists); from = omega (arith, y .from); below = omega (arith, y .below, y .from) }) in
     omega arith
 
 starts-sum : (ns : List ℕ) (j : ℕ) → partStart ns j ≤ sum ns
@@ -227,11 +227,11 @@ behind-it (suc n) g (suc k) r h = let e : suc k - suc n ≡ k - n = omega arith 
 
 pub map-at : (cs : List Cluster) (g j k : ℕ) → In (unitCounts cs) j k → getD (clusterMap g cs) k 0 ≡ g + partStart (glyphCounts cs) j
 unfolding clusterMap
-map-at [] g j k x = absurd (not-suc-le-zero (x .part))
+map-at [] g j k x = absurd (not-suc-le-zero (x .exists))
 map-at (c ∷ cs) g zero k x =
     let l : k < c .units = omega (arith, x .below) in
     in-front (c .units) g k (clusterMap (g + c .glyphs) cs) l ∙ omega arith
 map-at (c ∷ cs) g (suc j) k x =
     let l : c .units ≤ k = omega (arith, x .from) in
-    let y : In (unitCounts cs) j (k - c .units) = record { part = omega (arith, x .part); from = omega (arith, x .from); below = omega (arith, x .below, x .from) } in
+    let y : In (unitCounts cs) j (k - c .units) = record { exists = omega (arith, x .exists); from = omega (arith, x .from); below = omega (arith, x .below, x .from) } in
     behind-it (c .units) g k (clusterMap (g + c .glyphs) cs) l ∙ map-at cs (g + c .glyphs) j (k - c .units) y ∙ omega arith

@@ -13,7 +13,7 @@ use Rattle.label.specs.declared.Cluster.{Cluster}
 pub holding-is : (cs : List Cluster) (n u j : ℕ) → In (glyphCounts cs) j n
     → holding n u cs ≡ stretch (u + partStart (unitCounts cs) j) (u + partStart (unitCounts cs) (suc j))
 unfolding holding
-holding-is [] n u j x = absurd (not-suc-le-zero (x .part))
+holding-is [] n u j x = absurd (not-suc-le-zero (x .exists))
 holding-is (c ∷ cs) n u zero x =
     let l : n < c .glyphs = omega (arith, x .below) in
     let a : u + 0 ≡ u = omega arith in
@@ -21,7 +21,7 @@ holding-is (c ∷ cs) n u zero x =
     rw (lt-ltb n (c .glyphs) l, a, b)
 holding-is (c ∷ cs) n u (suc j) x =
     let l : c .glyphs ≤ n = omega (arith, x .from) in
-    let y : In (glyphCounts cs) j (n - c .glyphs) = record { part = omega (arith, x .part); from = omega (arith, x .from); below = omega (arith, x .below, x .from) } in
+    let y : In (glyphCounts cs) j (n - c .glyphs) = record { exists = omega (arith, x .exists); from = omega (arith, x .from); below = omega (arith, x .below, x .from) } in
     let a : u + c .units + partStart (unitCounts cs) j ≡ u + (c .units + partStart (unitCounts cs) j) = omega arith in
     let b : u + c .units + partStart (unitCounts cs) (suc j) ≡ u + (c .units + partStart (unitCounts cs) (suc j)) = omega arith in
     rw (le-ltb n (c .glyphs) l) (holding-is cs (n - c .glyphs) (u + c .units) j y ∙ rw (a, b))

@@ -12,8 +12,8 @@ use Rattle.label.specs.Limits.{maxTextBytes, maxIndicesBytes, maxUnits, 
 use Rattle.label.specs.Outcome.{Outcome, ok, no, _>>=_, _>>_, need}
 use Rattle.label.specs.Bytes.{empty, value}
 use Rattle.label.specs.Text.{startsChar, following, codePoint, xmlChar, braced, marked, unmarked}
-use Rattle.label.specs.Entry.{part, indexDigits, wellFormed, fieldFits, Entry, entries}
-use Rattle.label.specs.Run.{whole, State, startState, opens, opensUnits, takes, allowed, next}
+use Rattle.label.specs.Entry.{entryPart, indexDigits, wellFormed, fieldFits, Entry, entries}
+use Rattle.label.specs.Run.{keepsPair, State, startState, opens, opensUnits, takes, allowed, next}
 use Rattle.label.specs.Checks.{read}
 use Rattle.label.specs.Steps.{decode, textUnits, entry, placed, step, walk, runFrom}
 use Rattle.label.proofs.Basics.{and-l, and-r, cases}
@@ -59,8 +59,8 @@ module _ (k : ℕ) where
   entry-placed j s h =
       rw (entry-steps j s)
       (need-placed 15 k (wellFormed s) 7 j _ (omega arith, omega arith) h
-      (λ _. need-placed 15 k (leb (value (indexDigits (part 0 s))) maxIndex) 8 j _ (omega arith, omega arith) h
-      (λ _. need-placed 15 k (fieldFits (part 1 s) && fieldFits (part 2 s) && fieldFits (part 3 s)) 9 j _ (omega arith, omega arith) h (λ _. fine))))
+      (λ _. need-placed 15 k (leb (value (indexDigits (entryPart 0 s))) maxIndex) 8 j _ (omega arith, omega arith) h
+      (λ _. need-placed 15 k (fieldFits (entryPart 1 s) && fieldFits (entryPart 2 s) && fieldFits (entryPart 3 s)) 9 j _ (omega arith, omega arith) h (λ _. fine))))
 
   checks-placed : (bare : Bool) (st : State) (e : Entry) → st .k ≤ k → st .at + length (st .rest) ≤ k → Placed 15 k (placed bare st e)
   checks-placed bare st e h r =
@@ -71,7 +71,7 @@ module _ (k : ℕ) where
       (λ t. cases (opensUnits bare st)
       (λ x.
       let l = leb-true (e .units) (length (st .rest)) (rw x at t) in
-      need-placed 15 k (not (opensUnits bare st) || whole (e .units) (st .rest)) 13 (st .at + e .units) _ (omega arith, omega arith) (omega arith) (λ _. fine))
+      need-placed 15 k (not (opensUnits bare st) || keepsPair (e .units) (st .rest)) 13 (st .at + e .units) _ (omega arith, omega arith) (omega arith) (λ _. fine))
       (λ x. rw x fine)))))
 
   step-placed : (bare : Bool) (st : State) (s : List ℕ) → st .k ≤ k → st .at + length (st .rest) ≤ k → Placed 15 k (step bare st s)

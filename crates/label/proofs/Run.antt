@@ -15,7 +15,7 @@ use Rattle.label.specs.Outcome.{ok, verdict}
 use Rattle.label.specs.Bytes.{empty, join, trim}
 use Rattle.label.specs.Text.{isPair}
 use Rattle.label.specs.Entry.{Entry, entries}
-use Rattle.label.specs.Run.{Parts, named, cluster, addGlyph, whole, tail, State, startState, opens, opensUnits, takes, allowed, next}
+use Rattle.label.specs.Run.{Parts, named, cluster, addGlyph, keepsPair, tail, State, startState, opens, opensUnits, takes, allowed, next}
 use Rattle.label.specs.Checks.{placeChecks}
 use Rattle.label.specs.Steps.{entry, placed, step, walk}
 use Rattle.label.specs.Sound.{glyphFits, isFont, allFont, tailPair, mayOpen, fits}
@@ -72,7 +72,7 @@ back-open : (a b : ℕ) (g : Glyph) → 1 ≤ a → (maps a b ≡ true → named
 back-open a b g h f = cases (maps a b) (λ t. rw (t, f t)) (λ t. let (u, v) = unmapped-one a b h t in rw (u, v))
 
 step-open : (k at : ℕ) (rest : List ℕ) (opener a b : ℕ) (g : Glyph) → glyphFits g ≡ true → (maps a b ≡ true → named (g .index) ≡ true) → 1 ≤ a → 1 ≤ b
-    → a ≤ length rest → whole a rest ≡ true → step false (state k at rest 0 opener) (entryBytes a b g) ≡ ok (opened a b g)
+    → a ≤ length rest → keepsPair a rest ≡ true → step false (state k at rest 0 opener) (entryBytes a b g) ≡ ok (opened a b g)
 unfolding step
 step-open k at rest opener a b g m f ha hb hl w =
     rw (entry-read a b g m k ∙ ap ok (back-open a b g ha f), placed-steps false (state k at rest 0 opener) (opened a b g), le-leb 1 a ha, le-leb 1 b hb, le-leb a (length rest) hl, w)
@@ -160,7 +160,7 @@ pub record Opens (us : List ℕ) (c : Cluster) (g : Glyph) (gs : List Glyph) : T
   pub some-units : 1 ≤ c .units
   pub some-glyphs : 1 ≤ c .glyphs
   pub inside : c .units ≤ length us
-  pub whole-pairs : whole (c .units) us ≡ true
+  pub whole-pairs : keepsPair (c .units) us ≡ true
   -- its index is named where it has a map, or it is a pair of the tail
   kind : (maps (c .units) (c .glyphs) ≡ true → named (g .index) ≡ true) ⊎ TailPair us c (g ∷ gs)
 
@@ -169,7 +169,7 @@ may-opens us c g gs h =
     let a = leb 1 (c .units) in
     let b = leb 1 (c .glyphs) in
     let l = leb (c .units) (length us) in
-    let w = whole (c .units) us in
+    let w = keepsPair (c .units) us in
     let i = named (g .index) || (eqb (c .units) 1 && eqb (c .glyphs) 1) in
     let n = i || tailPair us c (g ∷ gs) in
     let h1 : (a && b && l && w) ≡ true = and-l (a && b && l && w) n h in
@@ -192,7 +192,7 @@ may-opens us c g gs h =
         let v : b ≡ 1 = eqb-true b 1 (and-r (eqb a 1) (eqb b 1) h) in
         clash (maps a b) k (rw (u, v))
 
-pub whole-drop : (a : ℕ) (us : List ℕ) → whole a us ≡ true → whole 0 (drop a us) ≡ true
+pub whole-drop : (a : ℕ) (us : List ℕ) → keepsPair a us ≡ true → keepsPair 0 (drop a us) ≡ true
 whole-drop a us h = rw (getD-drop a us 0 0, add-zero a) h
 
 -- ── the tail, forward ──
@@ -251,7 +251,7 @@ trim-named : (a b : ℕ) (g : Glyph) (ss : List (List ℕ)) → named (g .index)
 trim-named a b g ss h = trim-kept (entryBytes a b g) ss (rw (entry-full a b g h))
 
 -- the walk over the entries that are left gives the clusters and the glyphs
-walk-back : (gs : List Glyph) (bare : Bool) (cs : List Cluster) (k at : ℕ) (us : List ℕ) (lack opener : ℕ) → whole 0 us ≡ true → fits bare lack us cs gs ≡ true
+walk-back : (gs : List Glyph) (bare : Bool) (cs : List Cluster) (k at : ℕ) (us : List ℕ) (lack opener : ℕ) → keepsPair 0 us ≡ true → fits bare lack us cs gs ≡ true
     → walk bare (state k at us lack opener) (trim (entryList lack cs gs)) ≡ ok (parts cs gs)
 unfolding entryList
 walk-back [] bare cs k at us lack opener w h =
@@ -290,7 +290,7 @@ pub record Stepped (bare : Bool) (st : State) (s : List ℕ) (e : Entry) : Type 
   pub ten : (leb 1 (e .units) && leb 1 (e .glyphs)) ≡ true
   pub eleven : allowed bare st e ≡ true
   pub twelve : leb (takes bare st e) (length (st .rest)) ≡ true
-  pub thirteen : (not (opensUnits bare st) || whole (e .units) (st .rest)) ≡ true
+  pub thirteen : (not (opensUnits bare st) || keepsPair (e .units) (st .rest)) ≡ true
 
 -- what is taken is there
 within-rest : (x : Bool) (a n : ℕ) → (not x || leb a n) ≡ true → leb (cond x a 0) n ≡ true
@@ -304,7 +304,7 @@ step-ok bare st s e h =
     let (t10, b10) = need-ok (leb 1 (x .units) && leb 1 (x .glyphs)) 10 (st .k) _ e (sym (placed-steps bare st x) ∙ b) in
     let (t11, b11) = need-ok (allowed bare st x) 11 (st .k) _ e b10 in
     let (t12, b12) = need-ok (not (opensUnits bare st) || leb (x .units) (length (st .rest))) 12 (st .k) _ e b11 in
-    let (t13, b13) = need-ok (not (opensUnits bare st) || whole (x .units) (st .rest)) 13 (st .at + x .units) _ e b12 in
+    let (t13, b13) = need-ok (not (opensUnits bare st) || keepsPair (x .units) (st .rest)) 13 (st .at + x .units) _ e b12 in
     let q : x ≡ e = ok-path x e b13 in
     subst (λ (y : Entry). Stepped bare st s y) q (record { is = a; ten = t10; eleven = t11; twelve = within-rest (opensUnits bare st) (x .units) (length (st .rest)) t12; thirteen = t13 })
 
@@ -398,7 +398,7 @@ pub record Indices (bare : Bool) (us : List ℕ) (cs : List Cluster) (gs : List 
   pub back-again : walk bare (startState us) (entries (indicesOf cs gs)) ≡ ok (parts cs gs)
   pub short : length (indicesOf cs gs) ≤ 262144
 
-pub indices-back : (bare : Bool) (us : List ℕ) (cs : List Cluster) (gs : List Glyph) → whole 0 us ≡ true → length us ≤ 4096 → length gs ≤ 4096 → fits bare 0 us cs gs ≡ true
+pub indices-back : (bare : Bool) (us : List ℕ) (cs : List Cluster) (gs : List Glyph) → keepsPair 0 us ≡ true → length us ≤ 4096 → length gs ≤ 4096 → fits bare 0 us cs gs ≡ true
     → Indices bare us cs gs
 unfolding indicesOf
 indices-back bare us cs gs w hu hg h =

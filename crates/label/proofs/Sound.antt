@@ -13,8 +13,8 @@ use Rattle.label.specs.Limits.{maxTextBytes, maxIndicesBytes, maxUnits, 
 use Rattle.label.specs.Outcome.{ok}
 use Rattle.label.specs.Bytes.{empty, onFirst, split, allDigits, digits, value}
 use Rattle.label.specs.Text.{startsChar, following, codePoint, xmlChar, isHigh, isLow, isPair, unitsOf, braced, marked, unmarked}
-use Rattle.label.specs.Entry.{minus, unsigned, mantissaDigits, exponentDigits, thousandths, numberFits, part, hasMap, atParenthesis, atColon, isIndexPart, indexDigits, mapUnits, mapGlyphs, isAdvance, isOffset, wellFormed, fieldFits, indexOf, advanceOf, offsetOf, Entry, entryOf, entries}
-use Rattle.label.specs.Run.{Run, Parts, named, fontGlyph, cluster, addGlyph, whole, tail, State, startState, opens, takes, allowed, next}
+use Rattle.label.specs.Entry.{minus, unsigned, mantissaDigits, exponentDigits, thousandths, numberFits, entryPart, hasMap, atParenthesis, atColon, isIndexPart, indexDigits, mapUnits, mapGlyphs, isAdvance, isOffset, wellFormed, fieldFits, indexOf, advanceOf, offsetOf, Entry, entryOf, entries}
+use Rattle.label.specs.Run.{Run, Parts, named, fontGlyph, cluster, addGlyph, keepsPair, tail, State, startState, opens, takes, allowed, next}
 use Rattle.label.specs.Checks.{read}
 use Rattle.label.specs.Steps.{decode, textUnits, entry, walk, runFrom}
 use Rattle.label.specs.Sound.{properUnits, size, indexFits, advanceFits, glyphFits, allFont, mayOpen, fits, soundRun}
@@ -74,36 +74,36 @@ map-names p h m =
     let n : empty (atParenthesis p .after) ≡ false = not-true (empty (atParenthesis p .after)) (and-l (not (empty (atParenthesis p .after))) (allDigits (atParenthesis p .after)) q3) in
     rw (m, n)
 
-formed-index : (s : List ℕ) → wellFormed s ≡ true → isIndexPart (part 0 s) ≡ true
+formed-index : (s : List ℕ) → wellFormed s ≡ true → isIndexPart (entryPart 0 s) ≡ true
 unfolding wellFormed
 formed-index s h =
     let l = leb (length (split 44 s)) 4 in
-    let i = isIndexPart (part 0 s) in
-    let a = isAdvance (part 1 s) in
-    let u = isOffset (part 2 s) in
-    let v = isOffset (part 3 s) in
+    let i = isIndexPart (entryPart 0 s) in
+    let a = isAdvance (entryPart 1 s) in
+    let u = isOffset (entryPart 2 s) in
+    let v = isOffset (entryPart 3 s) in
     and-r l i (and-l (l && i) a (and-l (l && i && a) u (and-l (l && i && a && u) v h)))
 
-facts-of : (s : List ℕ) → wellFormed s ≡ true → leb (value (indexDigits (part 0 s))) 65535 ≡ true
-    → (fieldFits (part 1 s) && fieldFits (part 2 s) && fieldFits (part 3 s)) ≡ true → EntryFacts (entryOf s)
+facts-of : (s : List ℕ) → wellFormed s ≡ true → leb (value (indexDigits (entryPart 0 s))) 65535 ≡ true
+    → (fieldFits (entryPart 1 s) && fieldFits (entryPart 2 s) && fieldFits (entryPart 3 s)) ≡ true → EntryFacts (entryOf s)
 unfolding entryOf mapUnits mapGlyphs
 facts-of s t7 t8 t9 =
-    let m1 = fieldFits (part 1 s) in
-    let m2 = fieldFits (part 2 s) in
-    let m3 = fieldFits (part 3 s) in
+    let m1 = fieldFits (entryPart 1 s) in
+    let m2 = fieldFits (entryPart 2 s) in
+    let m3 = fieldFits (entryPart 3 s) in
     let m12 : (m1 && m2) ≡ true = and-l (m1 && m2) m3 t9 in
     record {
       small =
-          rw (index-fits (part 0 s) t8, advance-fits (part 1 s) (and-l m1 m2 m12), offset-fits (part 2 s) (and-r m1 m2 m12), offset-fits (part 3 s) (and-r (m1 && m2) m3 t9));
-      map-named = λ m. map-names (part 0 s) (formed-index s t7) m;
+          rw (index-fits (entryPart 0 s) t8, advance-fits (entryPart 1 s) (and-l m1 m2 m12), offset-fits (entryPart 2 s) (and-r m1 m2 m12), offset-fits (entryPart 3 s) (and-r (m1 && m2) m3 t9));
+      map-named = λ m. map-names (entryPart 0 s) (formed-index s t7) m;
       no-map = λ m. (rw m, rw m);
     }
 
 pub entry-facts : (k : ℕ) (s : List ℕ) (e : Entry) → entry k s ≡ ok e → EntryFacts e
 entry-facts k s e h =
     let (t7, b7) = need-ok (wellFormed s) 7 k _ e (sym (entry-steps k s) ∙ h) in
-    let (t8, b8) = need-ok (leb (value (indexDigits (part 0 s))) 65535) 8 k _ e b7 in
-    let (t9, b9) = need-ok (fieldFits (part 1 s) && fieldFits (part 2 s) && fieldFits (part 3 s)) 9 k _ e b8 in
+    let (t8, b8) = need-ok (leb (value (indexDigits (entryPart 0 s))) 65535) 8 k _ e b7 in
+    let (t9, b9) = need-ok (fieldFits (entryPart 1 s) && fieldFits (entryPart 2 s) && fieldFits (entryPart 3 s)) 9 k _ e b8 in
     subst EntryFacts (ok-path (entryOf s) e b9) (facts-of s t7 t8 t9)
 
 -- ── the tail ──
@@ -128,10 +128,10 @@ tail-fits [] h = fits-end false
 tail-fits (u ∷ []) h = fits-open-is false (u ∷ []) (cluster 1 1) [] fontGlyph [] refl refl (fits-end false)
 tail-fits (u ∷ v ∷ us) h =
     cases (isPair (u ∷ v ∷ us))
-    (λ p. let w : whole 2 (u ∷ v ∷ us) ≡ true = pair-whole (u ∷ v ∷ us) h p in
+    (λ p. let w : keepsPair 2 (u ∷ v ∷ us) ≡ true = pair-whole (u ∷ v ∷ us) h p in
     let o : mayOpen false (u ∷ v ∷ us) (cluster 2 1) fontGlyph (tail us .glyphs) ≡ true = rw (le-leb 2 (suc (suc (length us))) (omega arith), w, p, tail-font us) in
     rw p (fits-open-is false (u ∷ v ∷ us) (cluster 2 1) (tail us .clusters) fontGlyph (tail us .glyphs) refl o (tail-fits us (proper-behind (u ∷ v ∷ us) 2 h w))))
-    (λ p. let w : whole 1 (u ∷ v ∷ us) ≡ true = plain-whole (u ∷ v ∷ us) h p in
+    (λ p. let w : keepsPair 1 (u ∷ v ∷ us) ≡ true = plain-whole (u ∷ v ∷ us) h p in
     let o : mayOpen false (u ∷ v ∷ us) (cluster 1 1) fontGlyph (tail (v ∷ us) .glyphs) ≡ true = rw (le-leb 1 (suc (suc (length us))) (omega arith), w) in
     rw p (fits-open-is false (u ∷ v ∷ us) (cluster 1 1) (tail (v ∷ us) .clusters) fontGlyph (tail (v ∷ us) .glyphs) refl o (tail-fits (v ∷ us) (proper-behind (u ∷ v ∷ us) 1 h w))))
 
@@ -157,7 +157,7 @@ may-bare-is us e gs f h =
     rw (eq-eqb (e .glyphs) 1 (f .no-map m .1), n)
 
 may-open-is : (us : List ℕ) (e : Entry) (gs : List Glyph) → EntryFacts e → (leb 1 (e .units) && leb 1 (e .glyphs)) ≡ true → leb (e .units) (length us) ≡ true
-    → whole (e .units) us ≡ true → mayOpen false us (cluster (e .units) (e .glyphs)) (e .glyph) gs ≡ true
+    → keepsPair (e .units) us ≡ true → mayOpen false us (cluster (e .units) (e .glyphs)) (e .glyph) gs ≡ true
 may-open-is us e gs f h10 h12 h13 =
     let n : (named (e .glyph .index) || (eqb (e .units) 1 && eqb (e .glyphs) 1)) ≡ true =
     cases (e .mapped)

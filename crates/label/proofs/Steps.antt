@@ -14,10 +14,10 @@ use Rattle.label.specs.Outcome.{Outcome, ok, no, _>>=_, _>>_, need, Chec
 use Rattle.label.specs.Statements.Memory.{refuses, GivenBy}
 use Rattle.label.specs.Bytes.{begins, empty, value, each, Piece, pieces, eachNumbered}
 use Rattle.label.specs.Text.{startsChar, following, codePoint, xmlChar, unitsOf, braced, marked, unmarked, characters, charUnits, lentUnits, saidUnits}
-use Rattle.label.specs.Entry.{part, indexDigits, wellFormed, fieldFits, Entry, entryOf, entries}
-use Rattle.label.specs.Run.{Run, Parts, cluster, addGlyph, whole, tail, State, startState, opens, opensUnits, takes, allowed, next, walkParts, saidParts, runWith, saidRun}
+use Rattle.label.specs.Entry.{entryPart, indexDigits, wellFormed, fieldFits, Entry, entryOf, entries}
+use Rattle.label.specs.Run.{Run, Parts, cluster, addGlyph, keepsPair, tail, State, startState, opens, opensUnits, takes, allowed, next, walkParts, saidParts, runWith, saidRun}
 use Rattle.label.specs.Checks.{charChecks, textChecks, entryChecks, placeChecks, walkChecks, runChecks, labelChecks, read}
-use Rattle.label.specs.Steps.{decode, textUnits, entry, placed, step, walk, runFrom}
+use Rattle.label.specs.Steps.{decode, textUnits, entry, placed, step, walk, runFrom, resolveFrom, resolve, labelsFrom}
 use Rattle.label.specs.Places.{Places}
 use Rattle.label.specs.Sound.{runOf, sound}
 use Rattle.label.specs.Pick.{soundChecks}
@@ -25,8 +25,9 @@ use Rattle.label.specs.Write.{Label}
 use Rattle.label.specs.Pick.{touched, turned, inside, pickChecks, pickUnits, pickGlyphs}
 use Rattle.label.specs.Relabel.{relabelRead}
 use Rattle.label.specs.Calls.{readChecks, readInto, saidLabel, writeChecks, writeAsked, listChecks, listInto}
-use Rattle.label.specs.Requests.Attribute.{isGood, gives, further, rawCheck, rawBytes, rawChecks, rawGives, resolveFrom, resolve, resolveChecks, resolveInto, rawLabelChecks, readRaw}
-use Rattle.label.specs.Requests.Sheet.{header, recordLength, isRecord, recordLabel, recordMore, recordCheck, recordLabels, records, saidLabels, fileChecks, labelsOf, labelsFrom, answers, sheetChecks, sheetInto}
+use Rattle.label.specs.Requests.Attribute.{isGood, gives, further, rawCheck, rawBytes, rawChecks, rawGives, resolveChecks, resolveInto}
+use Rattle.label.specs.Statements.Attribute.{rawLabelChecks, readRaw}
+use Rattle.label.specs.Requests.Sheet.{header, recordLength, isRecord, recordLabel, recordMore, recordCheck, recordLabels, sheetRecords, saidLabels, fileChecks, labelsOf, answers, sheetChecks, sheetInto}
 use Rattle.label.specs.declared.Counts.{Counts}
 use Rattle.label.specs.declared.Lengths.{Lengths}
 
@@ -148,11 +149,11 @@ text-steps text =
 -- ── the entries ──
 
 pub entry-steps : (k : ℕ) (s : List ℕ)
-    → entry k s ≡ (need (wellFormed s) 7 k >> (need (leb (value (indexDigits (part 0 s))) maxIndex) 8 k
-    >> (need (fieldFits (part 1 s) && fieldFits (part 2 s) && fieldFits (part 3 s)) 9 k >> ok (entryOf s))))
+    → entry k s ≡ (need (wellFormed s) 7 k >> (need (leb (value (indexDigits (entryPart 0 s))) maxIndex) 8 k
+    >> (need (fieldFits (entryPart 1 s) && fieldFits (entryPart 2 s) && fieldFits (entryPart 3 s)) 9 k >> ok (entryOf s))))
 unfolding entry entryChecks
 entry-steps k s =
-    by-steps (test (wellFormed s) 7 k ∷ test (leb (value (indexDigits (part 0 s))) maxIndex) 8 k ∷ test (fieldFits (part 1 s) && fieldFits (part 2 s) && fieldFits (part 3 s)) 9 k ∷ [])
+    by-steps (test (wellFormed s) 7 k ∷ test (leb (value (indexDigits (entryPart 0 s))) maxIndex) 8 k ∷ test (fieldFits (entryPart 1 s) && fieldFits (entryPart 2 s) && fieldFits (entryPart 3 s)) 9 k ∷ [])
     (ok (entryOf s))
 
 -- a cause that is asked where x holds
@@ -162,13 +163,13 @@ asked-where false y = refl
 
 pub placed-steps : (bare : Bool) (st : State) (e : Entry)
     → placed bare st e ≡ (need (leb 1 (e .units) && leb 1 (e .glyphs)) 10 (st .k) >> (need (allowed bare st e) 11 (st .k)
-    >> (need (not (opensUnits bare st) || leb (e .units) (length (st .rest))) 12 (st .k) >> (need (not (opensUnits bare st) || whole (e .units) (st .rest)) 13 (st .at + e .units) >> ok e))))
+    >> (need (not (opensUnits bare st) || leb (e .units) (length (st .rest))) 12 (st .k) >> (need (not (opensUnits bare st) || keepsPair (e .units) (st .rest)) 13 (st .at + e .units) >> ok e))))
 unfolding placed placeChecks
 placed-steps bare st e =
     let x : Bool = opensUnits bare st in
     let ts : List Test =
-    test (allowed bare st e) 11 (st .k) ∷ test (not x || leb (e .units) (length (st .rest))) 12 (st .k) ∷ test (not x || whole (e .units) (st .rest)) 13 (st .at + e .units) ∷ [] in
-    rw (zero-is (e .units), zero-is (e .glyphs), asked-where x (leb (e .units) (length (st .rest))), asked-where x (whole (e .units) (st .rest)))
+    test (allowed bare st e) 11 (st .k) ∷ test (not x || leb (e .units) (length (st .rest))) 12 (st .k) ∷ test (not x || keepsPair (e .units) (st .rest)) 13 (st .at + e .units) ∷ [] in
+    rw (zero-is (e .units), zero-is (e .glyphs), asked-where x (leb (e .units) (length (st .rest))), asked-where x (keepsPair (e .units) (st .rest)))
     (check-or (leb 1 (e .units)) (leb 1 (e .glyphs)) 10 (st .k) (checksOf ts) (ok e) ∙ rw (by-steps ts (ok e)))
 
 pub walk-end : (bare : Bool) (st : State) → walk bare st [] ≡ (need (opens st) 14 (st .opener) >> ok (tail (st .rest)))
@@ -352,7 +353,7 @@ labels-record k b bs =
 
 pub file-steps : (file : List ℕ) → labelsOf file ≡ (need (begins header file) 25 0 >> labelsFrom 0 0 (drop 5 file))
 unfolding labelsOf labelsFrom
-file-steps file = check-need (begins header file) 25 0 (eachNumbered recordCheck 0 (records file)) (ok (saidLabels file))
+file-steps file = check-need (begins header file) 25 0 (eachNumbered recordCheck 0 (sheetRecords file)) (ok (saidLabels file))
 
 pub sheet-steps : (room : ℕ) (file : List ℕ) → sheetInto room file ≡ (labelsOf file >>= (λ ls. need (leb (2 * length ls) room) 27 (length ls) >> ok (answers ls)))
 unfolding sheetInto sheetChecks labelsOf

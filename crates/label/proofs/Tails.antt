@@ -11,7 +11,7 @@ use lib.Dec.{leb}
 use lib.ListN.{length, getD, drop}
 use Rattle.label.specs.Bytes.{trim}
 use Rattle.label.specs.Text.{xmlChar, isHigh, isLow, isPair, unitsOf}
-use Rattle.label.specs.Run.{fontGlyph, cluster, addGlyph, whole, tail}
+use Rattle.label.specs.Run.{fontGlyph, cluster, addGlyph, keepsPair, tail}
 use Rattle.label.specs.Sound.{isFont, allFont}
 use Rattle.label.specs.Write.{entryBytes, entryList}
 use Rattle.label.specs.declared.Glyph.{Glyph}
@@ -45,7 +45,7 @@ pub tail-first : (us : List ℕ) (a : ℕ) → 1 ≤ length us → wide us ≡ a
 tail-first [] a h e = absurd (not-suc-le-zero h)
 tail-first (u ∷ us) a h e = rw (← e) (tail-cons u us)
 
-pub plain-wide : (us : List ℕ) → whole 1 us ≡ true → wide us ≡ 1
+pub plain-wide : (us : List ℕ) → keepsPair 1 us ≡ true → wide us ≡ 1
 plain-wide us h = let p : isPair us ≡ false = rw (not-true (isLow (getD us 1 0)) h) (and-false (isHigh (getD us 0 0))) in rw p
 
 -- every cluster has one glyph, and every glyph is the font's

@@ -41,13 +41,13 @@ pub record Cut : Type 0 where
   pub after : List ℕ
 
 -- a byte more before the cut
-abbrev pub more : ℕ → Cut → Cut
-more b c = record { before = b ∷ c .before; found = c .found; after = c .after }
+abbrev pub onBefore : ℕ → Cut → Cut
+onBefore b c = record { before = b ∷ c .before; found = c .found; after = c .after }
 
 -- cut at the first byte that passes the test
 unfoldable pub cut : (ℕ → Bool) → List ℕ → Cut
 cut t [] = record { before = []; found = false; after = [] }
-cut t (b ∷ bs) = let r = cut t bs in cond (t b) (record { before = []; found = true; after = bs }) (more b r)
+cut t (b ∷ bs) = let r = cut t bs in cond (t b) (record { before = []; found = true; after = bs }) (onBefore b r)
 
 -- `0` to `9`
 abbrev pub isDigit : ℕ → Bool

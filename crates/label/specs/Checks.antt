@@ -10,8 +10,8 @@ use Rattle.label.specs.Limits.{maxTextBytes, maxIndicesBytes, maxUnits, 
 use Rattle.label.specs.Outcome.{Outcome, ok, _>>_, Check, check, above, verdict}
 use Rattle.label.specs.Bytes.{empty, value, each, Piece}
 use Rattle.label.specs.Text.{startsChar, codePoint, xmlChar, braced, marked, characters, lentUnits, saidUnits}
-use Rattle.label.specs.Entry.{part, indexDigits, wellFormed, fieldFits, Entry, entryOf, entries}
-use Rattle.label.specs.Run.{Run, whole, State, startState, opens, opensUnits, allowed, next, saidParts, saidRun}
+use Rattle.label.specs.Entry.{entryPart, indexDigits, wellFormed, fieldFits, Entry, entryOf, entries}
+use Rattle.label.specs.Run.{Run, keepsPair, State, startState, opens, opensUnits, allowed, next, saidParts, saidRun}
 
 -- 2 and 3 of a character
 abbrev pub charChecks : Piece → List Check
@@ -32,8 +32,8 @@ textChecks text =
 unfoldable pub entryChecks : ℕ → List ℕ → List Check
 entryChecks k s =
     check (not (wellFormed s)) 7 k ∷
-    check (above (value (indexDigits (part 0 s))) maxIndex) 8 k ∷
-    check (not (fieldFits (part 1 s) && fieldFits (part 2 s) && fieldFits (part 3 s))) 9 k ∷
+    check (above (value (indexDigits (entryPart 0 s))) maxIndex) 8 k ∷
+    check (not (fieldFits (entryPart 1 s) && fieldFits (entryPart 2 s) && fieldFits (entryPart 3 s))) 9 k ∷
     []
 
 -- 10 to 13 of an entry, where the walk stands. 12 and 13 are of the cluster that an entry opens in a text that has units, and are asked there: "cluster passes
@@ -43,7 +43,7 @@ placeChecks bare st e =
     check (eqb (e .units) 0 || eqb (e .glyphs) 0) 10 (st .k) ∷
     check (not (allowed bare st e)) 11 (st .k) ∷
     check (opensUnits bare st && above (e .units) (length (st .rest))) 12 (st .k) ∷
-    check (opensUnits bare st && not (whole (e .units) (st .rest))) 13 (st .at + e .units) ∷
+    check (opensUnits bare st && not (keepsPair (e .units) (st .rest))) 13 (st .at + e .units) ∷
     []
 
 -- "entry by entry 7 to 13 in number order; then 14"; document 02, CR 4: 13 is what "the tail no longer gives"

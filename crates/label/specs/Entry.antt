@@ -87,8 +87,8 @@ numberFits s = leb (length (mantissaDigits s)) maxDigits && leb (length (exponen
 -- ── the parts of an entry ──
 
 -- index part (0), advance (1), u offset (2), v offset (3), "each behind a comma"; a part that is not there is empty
-abbrev pub part : ℕ → List ℕ → List ℕ
-part n s = getD (split 44 s) n []
+abbrev pub entryPart : ℕ → List ℕ → List ℕ
+entryPart n s = getD (split 44 s) n []
 
 -- "an optional map": the part begins with `(`
 abbrev pub hasMap : List ℕ → Bool
@@ -131,7 +131,7 @@ isOffset s = empty s || isNumber (unsigned s)
 
 -- 7 does not hold: "an optional index part, then up to three fields, each behind a comma"
 unfoldable pub wellFormed : List ℕ → Bool
-wellFormed s = leb (length (split 44 s)) 4 && isIndexPart (part 0 s) && isAdvance (part 1 s) && isOffset (part 2 s) && isOffset (part 3 s)
+wellFormed s = leb (length (split 44 s)) 4 && isIndexPart (entryPart 0 s) && isAdvance (entryPart 1 s) && isOffset (entryPart 2 s) && isOffset (entryPart 3 s)
 
 -- 9 does not hold of a field
 unfoldable pub fieldFits : List ℕ → Bool
@@ -159,10 +159,10 @@ pub record Entry : Type 0 where
 unfoldable pub entryOf : List ℕ → Entry
 entryOf s =
     record {
-      mapped = hasMap (part 0 s);
-      units = mapUnits (part 0 s);
-      glyphs = mapGlyphs (part 0 s);
-      glyph = record { index = indexOf (part 0 s); advance = advanceOf (part 1 s); u = offsetOf (part 2 s); v = offsetOf (part 3 s) };
+      mapped = hasMap (entryPart 0 s);
+      units = mapUnits (entryPart 0 s);
+      glyphs = mapGlyphs (entryPart 0 s);
+      glyph = record { index = indexOf (entryPart 0 s); advance = advanceOf (entryPart 1 s); u = offsetOf (entryPart 2 s); v = offsetOf (entryPart 3 s) };
     }
 
 -- "Zero bytes of indices are no entries. Otherwise entries are split at each `;`, so n semicolons make n + 1 entries, numbered from 0."

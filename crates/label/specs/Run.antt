@@ -51,8 +51,8 @@ addGlyph true c g p = record { clusters = c ∷ p .clusters; glyphs = g ∷ p .g
 addGlyph false c g p = record { clusters = p .clusters; glyphs = g ∷ p .glyphs }
 
 -- "A cluster may not end between the halves of a pair": the unit behind its a units is no low half
-abbrev pub whole : ℕ → List ℕ → Bool
-whole a us = not (isLow (getD us a 0))
+abbrev pub keepsPair : ℕ → List ℕ → Bool
+keepsPair a us = not (isLow (getD us a 0))
 
 -- "When entries end before the text, each unit left is a 1:1 cluster, all chosen by the font: this is the unwritten tail."
 -- "A cluster may not end between the halves of a pair (house), the tail included." Document 02, CR 4: "Now a pair in the tail is one cluster of 2

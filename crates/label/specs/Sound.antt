@@ -10,7 +10,7 @@ use lib.ListN.{drop, length}
 use Rattle.label.specs.Limits.{maxUnits, maxGlyphs, maxIndex, maxThousandths}
 use Rattle.label.specs.Bytes.{empty}
 use Rattle.label.specs.Text.{xmlChar, isHigh, isLow, isPair}
-use Rattle.label.specs.Run.{Run, named, given, cluster, whole}
+use Rattle.label.specs.Run.{Run, named, given, cluster, keepsPair}
 use Rattle.label.specs.Fetched.{halves, words, evenBytes, wordBytes}
 use Rattle.label.specs.Places.{Places}
 use Rattle.label.specs.declared.Advance.{Advance}
@@ -110,7 +110,7 @@ tailPair us c gs = eqb (c .units) 2 && eqb (c .glyphs) 1 && isPair us && allFont
 abbrev pub mayOpen : Bool → List ℕ → Cluster → Glyph → List Glyph → Bool
 mayOpen true us c g gs = eqb (c .units) 0 && eqb (c .glyphs) 1 && named (g .index)
 mayOpen false us c g gs =
-    leb 1 (c .units) && leb 1 (c .glyphs) && leb (c .units) (length us) && whole (c .units) us
+    leb 1 (c .units) && leb 1 (c .glyphs) && leb (c .units) (length us) && keepsPair (c .units) us
     && (named (g .index) || (eqb (c .units) 1 && eqb (c .glyphs) 1) || tailPair us c (g ∷ gs))
 
 -- "counts add up": the clusters use up the units and the glyphs, each glyph is within its limits, each cluster may stand where it does and its further glyphs

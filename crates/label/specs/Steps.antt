@@ -5,10 +5,13 @@ use Prim.Native.Nat.{ℕ}
 use mathlib.Core.Bool.{Bool}
 use mathlib.Core.List.{List}
 use Rattle.label.specs.Outcome.{Outcome, ok, _>>=_, _>>_, verdict}
-use Rattle.label.specs.Bytes.{each, pieces}
+use Rattle.label.specs.Bytes.{each, pieces, eachNumbered}
 use Rattle.label.specs.Text.{following, charUnits, saidUnits}
 use Rattle.label.specs.Entry.{Entry, entryOf}
 use Rattle.label.specs.Run.{Run, Parts, State, walkParts, saidParts, runWith}
+use Rattle.label.specs.Write.{Label}
+use Rattle.label.specs.Requests.Attribute.{further, rawCheck, rawBytes}
+use Rattle.label.specs.Requests.Sheet.{recordMore, recordCheck, recordLabels}
 use Rattle.label.specs.Checks.{charChecks, textChecks, entryChecks, placeChecks, walkChecks, runChecks}
 
 -- 2 and 3 of the characters from byte `at` on, the first `skip` bytes being of one before; and their units
@@ -38,3 +41,15 @@ walk bare st ss = verdict (walkChecks bare st ss) >> ok (walkParts bare st ss)
 -- 6 to 15 of indices, with these units; and the run
 unfoldable pub runFrom : List ℕ → List ℕ → Outcome Run
 runFrom us indices = verdict (runChecks us indices) >> ok (runWith us (saidParts us indices))
+
+-- document 02, CR 2: 23 of a raw value from byte `at` on, the first `skip` bytes being of what stands before; and what comes out
+unfoldable pub resolveFrom : ℕ → ℕ → List ℕ → Outcome (List ℕ)
+resolveFrom skip at raw = verdict (each rawCheck (pieces further skip at raw)) >> ok (each rawBytes (pieces further skip at raw))
+
+-- a whole raw value, without 24
+abbrev pub resolve : List ℕ → Outcome (List ℕ)
+resolve raw = resolveFrom 0 0 raw
+
+-- document 02, CR 3: 26 of records, the first with number k, the first `skip` bytes being of a record before; and their labels
+unfoldable pub labelsFrom : ℕ → ℕ → List ℕ → Outcome (List Label)
+labelsFrom skip k s = verdict (eachNumbered recordCheck k (pieces recordMore skip 0 s)) >> ok (each recordLabels (pieces recordMore skip 0 s))

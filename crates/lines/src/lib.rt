@@ -29,7 +29,7 @@ fn line_end(s: &[u8], from: usize) -> usize
     ensures { λ r. ⌜ r ≡ lineEnd (now (s .entry)) from ⌝ }
     ensures bounds { λ r. ⌜ (from ≤ r) × (r ≤ length (now (s .entry))) ⌝ }
 {
-    words::find_byte(s, from, 10)
+    octets::find_byte(s, from, 10)
 }
 
 // The place behind a line that ends at `end`: behind its line feed, or the end of the input.

@@ -34,7 +34,7 @@ const CAP: u64 = 1_000_000_000_000_000_000;
 fn is_digit(b: u8) -> bool
     ensures { λ r. ⌜ r ≡ isDigit b ⌝ }
 {
-    words::both(48 <= b, b <= 57)
+    plain::both(48 <= b, b <= 57)
 }
 
 // One more digit behind v.
@@ -252,7 +252,7 @@ fn mantissa_at(s: &[u8], at: usize) -> Mantissa
 fn is_exponent(b: u8) -> bool
     ensures { λ r. ⌜ r ≡ isE b ⌝ }
 {
-    words::either(b == 101, b == 69)
+    plain::either(b == 101, b == 69)
 }
 
 // The bytes of a sign, where b is one.
@@ -260,7 +260,7 @@ pub fn sign_length(b: u8) -> usize
     ensures { λ r. ⌜ r ≡ signLength b ⌝ }
     ensures bounds { λ r. ⌜ r ≤ 1 ⌝ }
 {
-    if words::either(b == 43, b == 45) {
+    if plain::either(b == 43, b == 45) {
         1
     } else {
         0
@@ -302,7 +302,7 @@ pub fn number_at(s: &[u8], at: usize) -> Number
 {
     let m = mantissa_at(s, at);
     let x = exponent_at(s, at + m.used);
-    let ok = words::both(m.ok, x.ok);
+    let ok = plain::both(m.ok, x.ok);
     let used = m.used + x.used;
     if Limits::DIGITS < m.count {
         return Number {

@@ -5,7 +5,7 @@ ghost use mathlib.Core.Bool.{cond};
 ghost use Prim.Native.Nat.{_+_, _<_};
 ghost use lib.Dec.{leb};
 ghost use lib.ListN.{length};
-ghost use Rattle.label.specs.Fetched.{halves, words as wordsOf};
+ghost use Rattle.label.specs.Fetched.{halves, words};
 ghost use Rattle.label.specs.Sound.{nat, clustersOf, glyphsOf};
 ghost use Rattle.label.specs.Pick.{touched, pickGlyphs, pickUnits};
 ghost use Rattle.label.specs.Calls.{refusal, pickOutcome};
@@ -20,8 +20,8 @@ use label::Stretch;
 
 // The count of units, or of glyphs, of the cluster whose two numbers begin at place i.
 fn count_at(cs: &[u8], i: usize, glyphs: bool) -> usize
-    requires { ⌜ i + 1 < length (wordsOf (now cs)) ⌝ }
-    ensures { λ r. ⌜ r ≡ cond glyphs (nat (place (wordsOf (now (cs .entry))) (i + 1))) (nat (place (wordsOf (now (cs .entry))) i)) ⌝ }
+    requires { ⌜ i + 1 < length (words (now cs)) ⌝ }
+    ensures { λ r. ⌜ r ≡ cond glyphs (nat (place (words (now (cs .entry))) (i + 1))) (nat (place (words (now (cs .entry))) i)) ⌝ }
     ensures bounds { λ r. ⌜ r < 2147483648 ⌝ }
 {
     if glyphs {
@@ -41,8 +41,8 @@ fn start_at(passed: usize, first: usize, at: usize, start: usize) -> usize
 // The units of all clusters touched by glyphs `first` up to and without `end`; turned, the glyphs of those touched by units.
 // `passed` glyphs and `at` units stand before the cluster at place i; turned, `passed` units and `at` glyphs.
 fn touched_by(cs: &[u8], turn: bool, first: usize, end: usize) -> Stretch
-    requires { ⌜ (first < end) × (end < 4294967296) × (unitSum (way turn (clustersOf (wordsOf (now cs)))) < 4294967296) ⌝ }
-    ensures { λ r. ⌜ r ≡ touched first end (way turn (clustersOf (wordsOf (now (cs .entry))))) ⌝ }
+    requires { ⌜ (first < end) × (end < 4294967296) × (unitSum (way turn (clustersOf (words (now cs)))) < 4294967296) ⌝ }
+    ensures { λ r. ⌜ r ≡ touched first end (way turn (clustersOf (words (now (cs .entry))))) ⌝ }
 {
     let n = wire::number_count(cs);
     let mut passed = 0;
@@ -77,7 +77,7 @@ fn refused(number: usize) -> Pick
 
 // How many glyphs a run has, or, turned, how many units.
 fn count_of(turn: bool, units: &[u8], glyphs: &[u8]) -> usize
-    ensures { λ r. ⌜ r ≡ cond turn (length (halves (now (units .entry)))) (length (glyphsOf (wordsOf (now (glyphs .entry))))) ⌝ }
+    ensures { λ r. ⌜ r ≡ cond turn (length (halves (now (units .entry)))) (length (glyphsOf (words (now (glyphs .entry))))) ⌝ }
 {
     if turn {
         wire::unit_count(units)
@@ -94,7 +94,7 @@ fn pick(units: &[u8], clusters: &[u8], glyphs: &[u8], turn: bool, first: usize, 
         return refused(19);
     }
     let count = count_of(turn, units, glyphs);
-    if !words::both(first < end, end <= count) {
+    if !plain::both(first < end, end <= count) {
         return refused(22);
     }
     Pick::Picked(touched_by(clusters, turn, first, end))

@@ -15,8 +15,8 @@ use Rattle.label.specs.Wire.{bitsOf, fourBytes, fromWords}
 use Rattle.label.specs.Places.{indexNumber, advanceNumber, flatClusters, flatGlyphs}
 use Rattle.label.specs.Calls.{filled}
 use Rattle.label.specs.declared.Glyph.{Glyph}
-use Rattle.words.specs.Puts.{puts}
-use Rattle.words.proofs.Puts.{sets-append}
+use Rattle.octets.specs.Puts.{puts}
+use Rattle.octets.proofs.Puts.{sets-append}
 use Rattle.reader.specs.Stores.{openedHere, clusterBytes, glyphBytes, clusterPlaces, glyphPlaces}
 
 -- ── a cluster ──

@@ -11,7 +11,7 @@ ghost use Prim.Native.Nat.{_≤_, _<_, _/_};
 ghost use lib.ListN.{length, drop};
 ghost use Rattle.label.specs.Sound.{numberAdvance};
 ghost use Rattle.label.specs.Calls.{refusal, fillingOutcome, filledCount, filledAfter, listInto};
-ghost use Rattle.label.specs.Fetched.{words as wordsOf, signed};
+ghost use Rattle.label.specs.Fetched.{words, signed};
 ghost use Rattle.records.specs.Records.{recordIndex, recordOf, records, planOf};
 
 // ── a record, by the bits of its numbers ──
@@ -39,7 +39,7 @@ fn advance_of(n: u32) -> Advance
 // The record of glyph k.
 fn glyph_at(glyphs: &[u8], k: usize) -> Glyph
     requires { ⌜ k < length (now glyphs) / 16 ⌝ }
-    ensures { λ r. ⌜ r ≡ recordOf (wordsOf (now (glyphs .entry))) k ⌝ }
+    ensures { λ r. ⌜ r ≡ recordOf (words (now (glyphs .entry))) k ⌝ }
 {
     let i = 4 * k;
     let index = index_of(wire::number_at(glyphs, i));
@@ -59,7 +59,7 @@ fn glyph_at(glyphs: &[u8], k: usize) -> Glyph
 // Stores the records of the first n glyphs; the records behind them stay.
 fn fill(out: &mut [Glyph], glyphs: &[u8], n: usize)
     requires { ⌜ (n ≤ length (now out)) × (n ≤ length (now glyphs) / 16) ⌝ }
-    ensures { λ _. ⌜ now (out .exit) ≡ records (wordsOf (now (glyphs .entry))) n ++ drop n (now (out .entry)) ⌝ }
+    ensures { λ _. ⌜ now (out .exit) ≡ records (words (now (glyphs .entry))) n ++ drop n (now (out .entry)) ⌝ }
 {
     let mut k = 0;
     while k < n {

@@ -14,19 +14,19 @@ ghost use Rattle.rules.specs.Rules.{wholeBytes, limited, glyphOk, opensA
 pub fn whole_bytes(units: usize, clusters: usize, glyphs: usize) -> bool
     ensures { λ r. ⌜ r ≡ wholeBytes units clusters glyphs ⌝ }
 {
-    let pairs = words::both(units % 2 == 0, clusters % 4 == 0);
-    words::both(pairs, glyphs % 4 == 0)
+    let pairs = plain::both(units % 2 == 0, clusters % 4 == 0);
+    plain::both(pairs, glyphs % 4 == 0)
 }
 
 // Whether a run of so many units and glyphs is within the limits and not empty.
 pub fn is_limited(units: usize, glyphs: usize) -> bool
     ensures { λ r. ⌜ r ≡ limited units glyphs ⌝ }
 {
-    let few = words::both(
+    let few = plain::both(
         units <= label::Limits::UNITS,
         glyphs <= label::Limits::GLYPHS,
     );
-    words::both(few, !words::both(units == 0, glyphs == 0))
+    plain::both(few, !plain::both(units == 0, glyphs == 0))
 }
 
 // ── a glyph, by its four numbers ──
@@ -38,17 +38,17 @@ fn keeps_limits(index: u32, advance: u32, u: u32, v: u32) -> bool
     let a = wire::count(advance) as u64 <= label::Limits::THOUSANDTHS;
     let x = wire::size(u) as u64 <= label::Limits::THOUSANDTHS;
     let y = wire::size(v) as u64 <= label::Limits::THOUSANDTHS;
-    words::both(words::both(words::both(i, a), x), y)
+    plain::both(plain::both(plain::both(i, a), x), y)
 }
 
 // Index and advance are not below -1, all four keep the limits, and the glyph is wholly the font's where a pair of the tail stands before it.
 pub fn glyph_ok(tail: bool, index: u32, advance: u32, u: u32, v: u32) -> bool
     ensures { λ r. ⌜ r ≡ glyphOk tail (signed index) (signed advance) (signed u) (signed v) ⌝ }
 {
-    let whole = words::both(wire::is_choice(index), wire::is_choice(advance));
+    let whole = plain::both(wire::is_choice(index), wire::is_choice(advance));
     let limits = keeps_limits(index, advance, u, v);
-    let font = words::either(!tail, wire::is_font(index, advance, u, v));
-    words::both(words::both(whole, limits), font)
+    let font = plain::either(!tail, wire::is_font(index, advance, u, v));
+    plain::both(plain::both(whole, limits), font)
 }
 
 // ── a cluster of a units and b glyphs, from unit `at` on ──
@@ -67,22 +67,22 @@ pub fn opens_at(
     ensures { λ r. ⌜ r ≡ opensAt bare (halves (now (us .entry))) at a b named font ⌝ }
 {
     if bare {
-        return words::both(words::both(a == 0, b == 1), named);
+        return plain::both(plain::both(a == 0, b == 1), named);
     }
-    let counts = words::both(1 <= a, 1 <= b);
-    let inside = words::both(counts, a <= wire::unit_count(us) - at);
+    let counts = plain::both(1 <= a, 1 <= b);
+    let inside = plain::both(counts, a <= wire::unit_count(us) - at);
     let split = units::is_low(wire::unit_at(us, at + a));
-    let stands = words::both(inside, !split);
-    if words::either(named, words::both(a == 1, b == 1)) {
+    let stands = plain::both(inside, !split);
+    if plain::either(named, plain::both(a == 1, b == 1)) {
         return stands;
     }
-    let pair = words::both(words::both(a == 2, b == 1), units::is_pair_at(us, at));
-    words::both(stands, words::both(pair, font))
+    let pair = plain::both(plain::both(a == 2, b == 1), units::is_pair_at(us, at));
+    plain::both(stands, plain::both(pair, font))
 }
 
 // Whether all glyphs behind a cluster's first have to be wholly the font's: so where they had to before, or the cluster is a pair of the tail.
 pub fn tail_from(tail: bool, named: bool, a: usize, b: usize) -> bool
     ensures { λ r. ⌜ r ≡ (tail || owes named a b) ⌝ }
 {
-    words::either(tail, !words::either(named, words::both(a == 1, b == 1)))
+    plain::either(tail, !plain::either(named, plain::both(a == 1, b == 1)))
 }

@@ -19,7 +19,7 @@ use Rattle.label.specs.Checks.{read}
 use Rattle.label.specs.Wire.{bitsOf, fourBytes, fromWords}
 use Rattle.label.specs.Write.{Label}
 use Rattle.label.specs.Calls.{readingOutcome, fillingOutcome, filledCount, counts, counted, numbersAfter}
-use Rattle.label.specs.Requests.Sheet.{header, isRecord, recordLabel, labelsOf, labelsFrom, answerOf, answer, answers, sheetInto}
+use Rattle.label.specs.Requests.Sheet.{header, isRecord, recordLabel, labelsOf, answerOf, answer, answers, sheetInto}
 use Rattle.label.specs.declared.Counts.{Counts}
 use Rattle.label.specs.declared.Refusal.{Refusal}
 use Rattle.label.specs.declared.Filling.{Filling}
@@ -32,12 +32,13 @@ use Rattle.label.proofs.Wire.{in32, all32, in32-below, length-words}
 use Rattle.label.proofs.Statements.Sheet.{into-labels, labels-into, answer-32}
 use Rattle.label.proofs.Requests.Sheet.{labels-none, labels-cut, length-answers}
 use Rattle.label.proofs.Refusals.{Placed, refused, read-placed}
-use Rattle.words.specs.Puts.{puts}
-use Rattle.words.proofs.Puts.{Left, left-start, left-next, left-as, left-end, put-room}
+use Rattle.octets.specs.Puts.{puts}
+use Rattle.octets.proofs.Puts.{Left, left-start, left-next, left-as, left-end, put-room}
 use Rattle.wire.proofs.Signed.{back}
 use Rattle.sheet.specs.Records.{labelIn, Accepted}
 use Rattle.sheet.specs.declared.Record.{Record}
 use Rattle.sheet.proofs.Records.{Stands, header-inside, some-left, labels-next}
+use Rattle.label.specs.Steps.{labelsFrom}
 
 -- ── one answer ──
 

@@ -17,16 +17,17 @@ use Rattle.label.specs.Bytes.{ascii, begins}
 use Rattle.label.specs.Wire.{fromHalves}
 use Rattle.label.specs.Write.{Label}
 use Rattle.label.specs.Calls.{refusal, fillingOutcome, filledCount}
-use Rattle.label.specs.Requests.Sheet.{header, textLength, indicesLength, recordLength, isRecord, recordLabel, labelsOf, labelsFrom, answers, sheetInto}
+use Rattle.label.specs.Requests.Sheet.{header, textLength, indicesLength, recordLength, isRecord, recordLabel, labelsOf, answers, sheetInto}
 use Rattle.label.specs.declared.Filling.{Filling}
 use Rattle.label.specs.declared.Filling.the-variants.{Refused}
 use Rattle.label.proofs.Basics.{and-r, cases, clash}
 use Rattle.label.proofs.Requests.Sheet.{labels-none, labels-cut, labels-whole, length-answers}
-use Rattle.words.specs.Words.{halfAt, wordAt}
+use Rattle.octets.specs.Words.{halfAt, wordAt}
 use Rattle.sheet.specs.Records.{recordAt, labelIn}
 use Rattle.sheet.specs.declared.Record.{Record}
 use Rattle.sheet.specs.declared.Found.{Found}
 use Rattle.sheet.specs.declared.Found.the-variants.{Whole, Cut}
+use Rattle.label.specs.Steps.{labelsFrom}
 
 -- ── a record at a place ──
 

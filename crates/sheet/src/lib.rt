@@ -35,8 +35,8 @@ fn record_at(file: &[u8], at: usize) -> Found
         return Found::Cut;
     }
     let text = at + 6;
-    let indices = text + words::get_u16(file, at) as usize;
-    let end = indices + words::widened(words::get_u32(file, at + 2));
+    let indices = text + octets::get_u16(file, at) as usize;
+    let end = indices + plain::widened(octets::get_u32(file, at + 2));
     if file.len() < end {
         return Found::Cut;
     }
@@ -49,7 +49,7 @@ fn record_at(file: &[u8], at: usize) -> Found
 fn judge(file: &[u8], room: usize) -> Filling
     ensures { λ r. ⌜ fillingOutcome r ≡ filledCount (sheetInto room (now (file .entry))) ⌝ }
 {
-    if !words::stands_at(file, 0, b"SLB\x01\x00") {
+    if !octets::stands_at(file, 0, b"SLB\x01\x00") {
         return Filling::refused(25, 0);
     }
     let mut n = 0;

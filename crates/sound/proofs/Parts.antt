@@ -12,7 +12,7 @@ use lib.ListN.{length, drop, length-drop}
 use Rattle.label.specs.Sound.{natural, choice, wholeClusters, wholeGlyphs, clustersOf, glyphsOf}
 use Rattle.label.proofs.Basics.{cases}
 use Rattle.wire.specs.Numbers.{clusterAt, glyphAt, glyphOf, place}
-use Rattle.words.proofs.Places.{none-at, two-at, four-at}
+use Rattle.octets.proofs.Places.{none-at, two-at, four-at}
 
 pub glyph-count : (l : List ℤ) → length (glyphsOf l) ≡ length l / 4
 unfolding glyphsOf

@@ -20,7 +20,7 @@ use Rattle.label.specs.Places.{places}
 use Rattle.label.specs.Sound.{natural, choice, wholeClusters, wholeGlyphs, nat, numberIndex, numberAdvance, clustersOf, glyphsOf, properUnits, size, indexFits, advanceFits, glyphFits, isFont, allFont, mayOpen, fits, soundRun, noLeftOver, sound}
 use Rattle.label.specs.declared.Glyph.{Glyph}
 use Rattle.label.proofs.Basics.{and-l, and-r, cases}
-use Rattle.words.proofs.Loops.{stops, goes}
+use Rattle.octets.proofs.Loops.{stops, goes}
 use Rattle.wire.specs.Numbers.{clusterAt, glyphAt, glyphOf, place}
 use Rattle.wire.proofs.Tests.{named-is}
 use Rattle.sound.specs.Sounds.{wellRun}

@@ -1,5 +1,5 @@
 // Whether the bytes of three buffers are a sound run: one that some accepted label reads as.
-ghost use Rattle.label.specs.Fetched.{halves, words as wordsOf};
+ghost use Rattle.label.specs.Fetched.{halves, words};
 ghost use Rattle.label.specs.Places.{places};
 ghost use Rattle.label.specs.Sound.{sound};
 ghost use mathlib.Core.Path.{_≡_};
@@ -10,7 +10,7 @@ ghost use Rattle.sound.specs.Sounds.{wellRun};
 // One walk over the clusters and the glyphs: whole numbers in range, and the clusters use up the units and the glyphs. `lack`: glyphs that the open cluster
 // still lacks; `tail`: all glyphs from here on have to be wholly the font's.
 fn well_run(us: &[u8], cs: &[u8], gs: &[u8]) -> bool
-    ensures { λ r. ⌜ r ≡ wellRun (halves (now (us .entry))) (wordsOf (now (cs .entry))) (wordsOf (now (gs .entry))) ⌝ }
+    ensures { λ r. ⌜ r ≡ wellRun (halves (now (us .entry))) (words (now (cs .entry))) (words (now (gs .entry))) ⌝ }
 {
     let units = wire::unit_count(us);
     let counts = wire::number_count(cs);
@@ -43,20 +43,20 @@ fn well_run(us: &[u8], cs: &[u8], gs: &[u8]) -> bool
         }
         let x = wire::number_at(cs, i);
         let y = wire::number_at(cs, i + 1);
-        let whole = words::both(wire::is_natural(x), wire::is_natural(y));
+        let whole = plain::both(wire::is_natural(x), wire::is_natural(y));
         let a = wire::count(x);
         let b = wire::count(y);
         let font = wire::is_font(index, advance, u, v);
-        if !words::both(whole, rules::opens_at(bare, us, at, a, b, named, font)) {
+        if !plain::both(whole, rules::opens_at(bare, us, at, a, b, named, font)) {
             return false;
         }
         tail = rules::tail_from(tail, named, a, b);
         at += a;
         i += 2;
-        lack = words::less_one(b);
+        lack = plain::less_one(b);
     }
-    let used = words::both(i == counts, k == numbers);
-    words::both(words::both(used, lack == 0), at == units)
+    let used = plain::both(i == counts, k == numbers);
+    plain::both(plain::both(used, lack == 0), at == units)
 }
 
 // Whether some accepted label reads as these bytes.
@@ -65,7 +65,7 @@ pub fn is_sound(units: &[u8], clusters: &[u8], glyphs: &[u8]) -> bool
 {
     let whole = rules::whole_bytes(units.len(), clusters.len(), glyphs.len());
     let few = rules::is_limited(wire::unit_count(units), wire::number_count(glyphs) / 4);
-    if !words::both(whole, few) {
+    if !plain::both(whole, few) {
         return false;
     }
     if !units::proper_units(units) {

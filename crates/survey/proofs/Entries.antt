@@ -9,7 +9,7 @@ use borrow.Author.Tests.{le-leb, lt-leb, leb-true, leb-false}
 use lib.Dec.{eqb, leb, eqb·suc-zero, leb·zero, leb·suc-suc}
 use lib.ListN.{length, getD, drop, length-drop}
 use lib.Seq.{drop-drop}
-use Rattle.label.specs.Bytes.{empty, split, Cut, more, cut}
+use Rattle.label.specs.Bytes.{empty, split, Cut, onBefore, cut}
 use Rattle.label.specs.Entry.{entries}
 use Rattle.label.proofs.Basics.{cases}
 use Rattle.label.proofs.Splits.{split-hit, split-miss, split-nil, split-length}
@@ -49,7 +49,7 @@ here-hit b bs h = ap (λ (v : Cut). v .before) (stops b bs h)
 here-miss : (b : ℕ) (bs : List ℕ) → eqb b 59 ≡ false → here (b ∷ bs) ≡ b ∷ here bs
 here-miss b bs h = ap (λ (v : Cut). v .before) (goes b bs h)
   where
-    goes : (b : ℕ) (bs : List ℕ) → eqb b 59 ≡ false → cut isSemi (b ∷ bs) ≡ more b (cut isSemi bs)
+    goes : (b : ℕ) (bs : List ℕ) → eqb b 59 ≡ false → cut isSemi (b ∷ bs) ≡ onBefore b (cut isSemi bs)
     goes b bs h = unfold cut in rw h
 
 here-is : (l : List ℕ) → getD (split 59 l) 0 [] ≡ here l

@@ -11,7 +11,7 @@ use lib.Dec.{eqb, leb, leb·zero}
 use lib.ListN.{length, drop}
 use Rattle.label.specs.Outcome.{Outcome, ok, no, _>>_, need}
 use Rattle.label.specs.Entry.{Entry}
-use Rattle.label.specs.Run.{named, whole, State}
+use Rattle.label.specs.Run.{named, keepsPair, State}
 use Rattle.label.specs.Steps.{decode, placed}
 use Rattle.label.specs.Calls.{refusal}
 use Rattle.label.specs.declared.Cursor.{Cursor}
@@ -82,7 +82,7 @@ module _ (bare : Bool) (text : List ℕ) (c : Cursor) (x : Item) where
   pub turn-opens : (r : Turn) → Opens text c (x .units) (x .glyphs) (c .place + x .used + 1) r → enough ≡ true → free ≡ true → Turns bare text c x r
   unfolding Turns Opens
   turn-opens (Took d k) o h f = rw (placed-steps bare (stateAt text c) (itemEntry x), h, f) (rw (o .0, o .1), o .2, o .3)
-  turn-opens (Stopped r) o h f = rw (placed-steps bare (stateAt text c) (itemEntry x), h, f) (go (leb (x .units) (length (unitsFrom text (c .byte)))) (whole (x .units) (unitsFrom text (c .byte))) o)
+  turn-opens (Stopped r) o h f = rw (placed-steps bare (stateAt text c) (itemEntry x), h, f) (go (leb (x .units) (length (unitsFrom text (c .byte)))) (keepsPair (x .units) (unitsFrom text (c .byte))) o)
     where
       go : (p q : Bool) → (need p 12 (c .entry) >> need q 13 (c .unit + x .units)) ≡ no (r .number) (r .place)
           → (need p 12 (c .entry) >> (need q 13 (c .unit + x .units) >> ok (itemEntry x))) ≡ no (r .number) (r .place)
@@ -152,7 +152,7 @@ placed-cut bare st n r e few =
     (λ u.
     let l : e .units ≤ length (st .rest) = leb-true (e .units) (length (st .rest)) u in
     let m : min (e .units) cap ≡ e .units = omega arith in
-    rw m (asked (leb (e .units) (length (st .rest))) (whole (e .units) (st .rest)) (st .at + e .units)
+    rw m (asked (leb (e .units) (length (st .rest))) (keepsPair (e .units) (st .rest)) (st .at + e .units)
     (record { mapped = e .mapped; units = e .units; glyphs = min (e .glyphs) cap; glyph = e .glyph })))
     (λ u.
     let l : length (st .rest) < e .units = leb-false (e .units) (length (st .rest)) u in

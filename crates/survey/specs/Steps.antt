@@ -10,7 +10,7 @@ use Rattle.label.specs.Limits.{maxGlyphs}
 use Rattle.label.specs.Outcome.{Outcome, ok, no, _>>_, need}
 use Rattle.label.specs.Bytes.{empty}
 use Rattle.label.specs.Entry.{Entry}
-use Rattle.label.specs.Run.{Parts, whole, State, takes}
+use Rattle.label.specs.Run.{Parts, keepsPair, State, takes}
 use Rattle.label.specs.Steps.{decode, placed}
 use Rattle.label.specs.declared.Cursor.{Cursor}
 use Rattle.label.specs.declared.Counts.{Counts}
@@ -58,10 +58,10 @@ advanced c b units glyphs i =
 -- what 12 and 13 come to for an entry that opens a cluster of a units and b glyphs
 unfoldable pub Opens : List ℕ → Cursor → ℕ → ℕ → ℕ → Turn → Type 0
 Opens text c a b i (Took d n) =
-    (leb a (length (unitsFrom text (c .byte))) ≡ true) × (whole a (unitsFrom text (c .byte)) ≡ true) × (d ≡ advanced c (d .byte) a b i)
+    (leb a (length (unitsFrom text (c .byte))) ≡ true) × (keepsPair a (unitsFrom text (c .byte)) ≡ true) × (d ≡ advanced c (d .byte) a b i)
     × (decode 0 (d .byte) (drop (d .byte) text) ≡ ok (drop a (unitsFrom text (c .byte))))
 Opens text c a b i (Stopped r) =
-    (need (leb a (length (unitsFrom text (c .byte)))) 12 (c .entry) >> need (whole a (unitsFrom text (c .byte))) 13 (c .unit + a)) ≡ no (r .number) (r .place)
+    (need (leb a (length (unitsFrom text (c .byte)))) 12 (c .entry) >> need (keepsPair a (unitsFrom text (c .byte))) 13 (c .unit + a)) ≡ no (r .number) (r .place)
 
 -- what an entry's checks 10 to 13 come to: the cursor behind it, from whose byte on the units not used yet stand, or the refusal
 unfoldable pub Turns : Bool → List ℕ → Cursor → Item → Turn → Type 0

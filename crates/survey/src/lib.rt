@@ -57,7 +57,7 @@ pub fn advance(
             entry: entry + 1,
             byte,
             unit: c.unit + units,
-            lack: words::less_one(glyphs),
+            lack: plain::less_one(glyphs),
             opener: entry,
             clusters: c.clusters + 1,
         };
@@ -67,7 +67,7 @@ pub fn advance(
         entry: entry + 1,
         byte,
         unit: c.unit + units,
-        lack: words::less_one(lack),
+        lack: plain::less_one(lack),
         opener: c.opener,
         clusters: c.clusters,
     }
@@ -101,7 +101,7 @@ fn open_cluster(
 fn opens_here(bare: bool, c: label::Cursor) -> bool
     ensures { λ r. ⌜ r ≡ (eqb (c .lack) 0 && not bare) ⌝ }
 {
-    words::both(c.lack == 0, !bare)
+    plain::both(c.lack == 0, !bare)
 }
 
 // An entry's checks 10 to 13, where the walk stands.
@@ -111,14 +111,14 @@ fn take_entry(text: &[u8], bare: bool, c: label::Cursor, x: entry::Item) -> Turn
     ensures { λ r. ⌜ Turns bare (now (text .entry)) c x r ⌝ }
     ensures rounded { λ r. ⌜ Carries (x .rounded) r ⌝ }
 {
-    if !words::both(1 <= x.units, 1 <= x.glyphs) {
+    if !plain::both(1 <= x.units, 1 <= x.glyphs) {
         return stopped(10, c.entry);
     }
     let opens = opens_here(bare, c);
     let glyph = x.glyph;
     let index = glyph.index;
-    let plain = words::both(!x.mapped, is_named(index));
-    if !words::either(opens, plain) {
+    let plain = plain::both(!x.mapped, is_named(index));
+    if !plain::either(opens, plain) {
         return stopped(11, c.entry);
     }
     let place = c.place + x.used + 1;
@@ -140,8 +140,8 @@ fn survey_entry(text: &[u8], indices: &[u8], bare: bool, c: label::Cursor) -> Tu
     let place = c.place;
     let byte = c.byte;
     let digits = number::digits_at(indices, place, 0);
-    let easy = words::both(opens_here(bare, c), text::is_plain(text, byte));
-    if words::both(easy, entry::is_index(indices, place, digits)) {
+    let easy = plain::both(opens_here(bare, c), text::is_plain(text, byte));
+    if plain::both(easy, entry::is_index(indices, place, digits)) {
         return Turn::Took {
             next: advance(c, byte + 1, 1, 1, place + digits.count + 1),
             rounded: 0,
@@ -164,7 +164,7 @@ fn count_tail(text: &[u8], byte: usize) -> usize
     let mut b = byte;
     let mut n = 0;
     while b < text.len() {
-        if words::is_within(0x20, 0x7f, text[b]) {
+        if octets::is_within(0x20, 0x7f, text[b]) {
             n += 1;
             b += 1;
         } else {
@@ -240,7 +240,7 @@ fn survey_run(text: &[u8], indices: &[u8], count: usize, start: usize) -> label:
     ensures rounded { λ r. ⌜ readingRounded r ≡ beside (roundedIn (now (indices .entry))) (readingOutcome r) ⌝ }
 {
     let bare = count == 0;
-    if words::both(bare, indices.len() == 0) {
+    if plain::both(bare, indices.len() == 0) {
         return label::Reading::refused(6, 0);
     }
     let mut c = first_cursor(indices, start);

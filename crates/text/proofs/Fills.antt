@@ -14,14 +14,14 @@ use Rattle.label.specs.Steps.{decode}
 use Rattle.label.specs.Wire.{fromHalves}
 use Rattle.label.specs.Calls.{filled}
 use Rattle.label.proofs.Wire.{length-halves}
-use Rattle.words.specs.Puts.{puts}
+use Rattle.octets.specs.Puts.{puts}
 use Rattle.label.proofs.Cursors.{decode-end}
 use Rattle.label.proofs.Text.{xml-range}
 use Rattle.label.proofs.Run.{ok-path}
 use Rattle.utf8.specs.Chars.{charAt}
 use Rattle.text.specs.Moves.{unitsFrom}
 use Rattle.utf8.specs.declared.Char.the-variants.{Good}
-use Rattle.words.proofs.Puts.{sets-append}
+use Rattle.octets.proofs.Puts.{sets-append}
 use Rattle.text.proofs.Moves.{Here, here-good}
 
 halves-append : (x y : List ℕ) → fromHalves (x ++ y) ≡ fromHalves x ++ fromHalves y

@@ -7,7 +7,7 @@ use mathlib.Core.List.{List, []}
 use lib.Dec.{leb}
 use lib.ListN.{length, drop}
 use Rattle.label.specs.Outcome.{Outcome, ok, no}
-use Rattle.label.specs.Run.{whole}
+use Rattle.label.specs.Run.{keepsPair}
 use Rattle.label.specs.Steps.{decode}
 use Rattle.text.specs.declared.Moved.{Moved}
 use Rattle.text.specs.declared.Moved.the-variants.{To, Past, Half}
@@ -25,6 +25,6 @@ unitsFrom s at = unitsOr (decode 0 at (drop at s))
 -- where the other units start
 abbrev pub Moves : List ℕ → ℕ → ℕ → Moved → Type 0
 Moves s at a Past = leb a (length (unitsFrom s at)) ≡ false
-Moves s at a Half = (leb a (length (unitsFrom s at)) ≡ true) × (whole a (unitsFrom s at) ≡ false)
+Moves s at a Half = (leb a (length (unitsFrom s at)) ≡ true) × (keepsPair a (unitsFrom s at) ≡ false)
 Moves s at a (To j) =
-    (leb a (length (unitsFrom s at)) ≡ true) × (whole a (unitsFrom s at) ≡ true) × (decode 0 j (drop j s) ≡ ok (drop a (unitsFrom s at)))
+    (leb a (length (unitsFrom s at)) ≡ true) × (keepsPair a (unitsFrom s at) ≡ true) × (decode 0 j (drop j s) ≡ ok (drop a (unitsFrom s at)))

@@ -39,7 +39,7 @@ fn count_units(s: &[u8]) -> Counted
     let mut i = 0;
     let mut n = 0;
     while i < s.len() {
-        if words::is_within(0x20, 0x7f, s[i]) {
+        if octets::is_within(0x20, 0x7f, s[i]) {
             n += 1;
             i += 1;
         } else {
@@ -92,10 +92,10 @@ pub fn survey_text(text: &[u8]) -> TextRead
 {
     match count_units(text) {
         Counted::Units(n) => {
-            if words::byte_or_zero(text, 0) != 0x7b {
+            if octets::byte_or_zero(text, 0) != 0x7b {
                 return limited(n, 0);
             }
-            if words::byte_or_zero(text, 1) != 0x7d {
+            if octets::byte_or_zero(text, 1) != 0x7d {
                 return TextRead::Refused(label::Refusal {
                     number: 4,
                     place: 0,
@@ -150,8 +150,8 @@ pub fn fill_units(text: &[u8], from: usize, out: &mut [u8])
     let mut i = from;
     let mut n = 0;
     while i < text.len() {
-        if words::is_within(0x20, 0x7f, text[i]) {
-            n = put_char(out, n, words::wide(text[i]));
+        if octets::is_within(0x20, 0x7f, text[i]) {
+            n = put_char(out, n, octets::wide(text[i]));
             i += 1;
         } else {
             match utf8::char_at(text, i) {
@@ -190,7 +190,7 @@ pub fn move_past(s: &[u8], at: usize, count: usize) -> Moved
         if s.len() <= b {
             return Moved::Past;
         }
-        if words::is_within(0x20, 0x7f, s[b]) {
+        if octets::is_within(0x20, 0x7f, s[b]) {
             a -= 1;
             b += 1;
         } else {
@@ -224,5 +224,5 @@ pub fn is_plain(s: &[u8], at: usize) -> bool
     if s.len() <= at {
         return false;
     }
-    words::is_within(0x20, 0x7f, s[at])
+    octets::is_within(0x20, 0x7f, s[at])
 }

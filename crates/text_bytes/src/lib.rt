@@ -6,7 +6,7 @@ ghost use lib.ListN.{length};
 ghost use Rattle.label.specs.Fetched.{halves};
 ghost use Rattle.label.specs.Write.{utf8, paired, unitBytes, unitsBytes, textOf};
 ghost use Rattle.label.specs.Requests.Attribute.{escapeByte, asAsked};
-ghost use Rattle.words.specs.Puts.{Put};
+ghost use Rattle.octets.specs.Puts.{Put};
 ghost use Rattle.text_bytes.specs.Lengths.{unitLength, askedLength, markLength};
 
 // ── a run's units in UTF-8 ──
@@ -24,21 +24,21 @@ pub fn put_utf8(out: &mut [u8], at: usize, c: u32) -> usize
     ensures bounds { λ r. ⌜ r ≤ at + 4 ⌝ }
 {
     if c <= 0x7f {
-        return words::put_byte(out, at, c as u8);
+        return octets::put_byte(out, at, c as u8);
     }
     if c <= 0x7ff {
-        let p = words::put_byte(out, at, (192 + c / 64) as u8);
-        return words::put_byte(out, p, tail_byte(c));
+        let p = octets::put_byte(out, at, (192 + c / 64) as u8);
+        return octets::put_byte(out, p, tail_byte(c));
     }
     if c <= 0xffff {
-        let p = words::put_byte(out, at, (224 + c / 4096) as u8);
-        let q = words::put_byte(out, p, tail_byte(c / 64));
-        return words::put_byte(out, q, tail_byte(c));
+        let p = octets::put_byte(out, at, (224 + c / 4096) as u8);
+        let q = octets::put_byte(out, p, tail_byte(c / 64));
+        return octets::put_byte(out, q, tail_byte(c));
     }
-    let p = words::put_byte(out, at, (240 + c / 262144) as u8);
-    let q = words::put_byte(out, p, tail_byte(c / 4096));
-    let t = words::put_byte(out, q, tail_byte(c / 64));
-    words::put_byte(out, t, tail_byte(c))
+    let p = octets::put_byte(out, at, (240 + c / 262144) as u8);
+    let q = octets::put_byte(out, p, tail_byte(c / 4096));
+    let t = octets::put_byte(out, q, tail_byte(c / 64));
+    octets::put_byte(out, t, tail_byte(c))
 }
 
 // What a low half adds to a pair's number; 0 for a unit below the low halves.
@@ -79,24 +79,24 @@ fn put_escaped(out: &mut [u8], at: usize, b: u8) -> usize
     ensures bounds { λ r. ⌜ r ≤ at + 6 ⌝ }
 {
     if b == b'&' {
-        return words::put_bytes(out, at, b"&amp;");
+        return octets::put_bytes(out, at, b"&amp;");
     }
     if b == b'<' {
-        return words::put_bytes(out, at, b"&lt;");
+        return octets::put_bytes(out, at, b"&lt;");
     }
     if b == b'"' {
-        return words::put_bytes(out, at, b"&quot;");
+        return octets::put_bytes(out, at, b"&quot;");
     }
     if b == b'\t' {
-        return words::put_bytes(out, at, b"&#9;");
+        return octets::put_bytes(out, at, b"&#9;");
     }
     if b == b'\n' {
-        return words::put_bytes(out, at, b"&#10;");
+        return octets::put_bytes(out, at, b"&#10;");
     }
     if b == b'\r' {
-        return words::put_bytes(out, at, b"&#13;");
+        return octets::put_bytes(out, at, b"&#13;");
     }
-    words::put_byte(out, at, b)
+    octets::put_byte(out, at, b)
 }
 
 // The same as it is asked for. Only a character of one byte can be one of the six.
@@ -105,7 +105,7 @@ fn put_asked(escape: bool, out: &mut [u8], at: usize, u: u16, v: u16) -> usize
     ensures { λ r. ⌜ Put (now (out .entry)) at (asAsked escape (unitBytes u v)) r (now (out .exit)) ⌝ }
     ensures bounds { λ r. ⌜ r ≤ at + 6 ⌝ }
 {
-    if words::both(escape, u <= 0x7f) {
+    if plain::both(escape, u <= 0x7f) {
         return put_escaped(out, at, u as u8);
     }
     put_unit(out, at, u, v)
@@ -140,7 +140,7 @@ pub fn put_text(escape: bool, out: &mut [u8], us: &[u8]) -> usize
     ensures { λ r. ⌜ Put (now (out .entry)) 0 (asAsked escape (textOf (halves (now (us .entry))))) r (now (out .exit)) ⌝ }
 {
     if is_braced(us) {
-        let p = words::put_bytes(out, 0, b"{}");
+        let p = octets::put_bytes(out, 0, b"{}");
         return put_units(escape, out, p, us);
     }
     put_units(escape, out, 0, us)
@@ -180,7 +180,7 @@ fn asked_length(escape: bool, u: u16) -> usize
     ensures { λ r. ⌜ r ≡ askedLength escape u ⌝ }
     ensures bounds { λ r. ⌜ r ≤ 6 ⌝ }
 {
-    if words::both(escape, u <= 0x7f) {
+    if plain::both(escape, u <= 0x7f) {
         return escaped_length(u as u8);
     }
     unit_length(u)

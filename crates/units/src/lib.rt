@@ -14,13 +14,13 @@ ghost use Rattle.units.specs.Units.{unitOk, nextHalf};
 pub fn is_high(u: u16) -> bool
     ensures { λ r. ⌜ r ≡ isHigh u ⌝ }
 {
-    words::both(0xd800 <= u, u <= 0xdbff)
+    plain::both(0xd800 <= u, u <= 0xdbff)
 }
 
 pub fn is_low(u: u16) -> bool
     ensures { λ r. ⌜ r ≡ isLow u ⌝ }
 {
-    words::both(0xdc00 <= u, u <= 0xdfff)
+    plain::both(0xdc00 <= u, u <= 0xdfff)
 }
 
 // A unit may stand behind a high half, or where no high half is before it.
@@ -30,7 +30,7 @@ fn unit_ok(half: bool, u: u16) -> bool
     if half {
         is_low(u)
     } else {
-        words::either(is_high(u), utf8::is_xml(u as u32))
+        plain::either(is_high(u), utf8::is_xml(u as u32))
     }
 }
 

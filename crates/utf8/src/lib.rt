@@ -35,39 +35,39 @@ fn row_of(b: u8) -> Trailing
     ensures { λ r. ⌜ r ≡ lead b ⌝ }
 {
     // U+0000..U+007F: 00..7F
-    if words::is_within(0x00, 0x7f, b) {
+    if octets::is_within(0x00, 0x7f, b) {
         return row(0, 0, 0);
     }
     // U+0080..U+07FF: C2..DF, 80..BF
-    if words::is_within(0xc2, 0xdf, b) {
+    if octets::is_within(0xc2, 0xdf, b) {
         return row(1, 0x80, 0xbf);
     }
     // U+0800..U+0FFF: E0, A0..BF, 80..BF
-    if words::is_within(0xe0, 0xe0, b) {
+    if octets::is_within(0xe0, 0xe0, b) {
         return row(2, 0xa0, 0xbf);
     }
     // U+1000..U+CFFF: E1..EC, 80..BF, 80..BF
-    if words::is_within(0xe1, 0xec, b) {
+    if octets::is_within(0xe1, 0xec, b) {
         return row(2, 0x80, 0xbf);
     }
     // U+D000..U+D7FF: ED, 80..9F, 80..BF
-    if words::is_within(0xed, 0xed, b) {
+    if octets::is_within(0xed, 0xed, b) {
         return row(2, 0x80, 0x9f);
     }
     // U+E000..U+FFFF: EE..EF, 80..BF, 80..BF
-    if words::is_within(0xee, 0xef, b) {
+    if octets::is_within(0xee, 0xef, b) {
         return row(2, 0x80, 0xbf);
     }
     // U+10000..U+3FFFF: F0, 90..BF, 80..BF, 80..BF
-    if words::is_within(0xf0, 0xf0, b) {
+    if octets::is_within(0xf0, 0xf0, b) {
         return row(3, 0x90, 0xbf);
     }
     // U+40000..U+FFFFF: F1..F3, 80..BF, 80..BF, 80..BF
-    if words::is_within(0xf1, 0xf3, b) {
+    if octets::is_within(0xf1, 0xf3, b) {
         return row(3, 0x80, 0xbf);
     }
     // U+100000..U+10FFFF: F4, 80..8F, 80..BF, 80..BF
-    if words::is_within(0xf4, 0xf4, b) {
+    if octets::is_within(0xf4, 0xf4, b) {
         return row(3, 0x80, 0x8f);
     }
     Trailing {
@@ -119,7 +119,7 @@ pub fn is_xml(c: u32) -> bool
     ensures { λ r. ⌜ r ≡ xmlChar c ⌝ }
 {
     if c < 0x20 {
-        return words::either(words::either(c == 9, c == 10), c == 13);
+        return plain::either(plain::either(c == 9, c == 10), c == 13);
     }
     if c <= 0xd7ff {
         return true;
@@ -149,7 +149,7 @@ fn scalar_at(s: &[u8], at: usize, more: usize) -> u32
     requires { ⌜ at + more < length (now s) ⌝ }
     ensures { λ r. ⌜ r ≡ scalar more (getD (now (s .entry)) at 0) (drop (at + 1) (now (s .entry))) ⌝ }
 {
-    let b = words::wide(s[at]);
+    let b = octets::wide(s[at]);
     if more == 0 {
         return b;
     }

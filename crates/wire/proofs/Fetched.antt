@@ -6,7 +6,7 @@ use native.Mathlib.Omega.{arith}
 use lib.IntN.{pos}
 use lib.ListN.{length, getD, drop}
 use Rattle.label.specs.Fetched.{halves, signed, words}
-use Rattle.words.specs.Words.{halfAt, wordAt}
+use Rattle.octets.specs.Words.{halfAt, wordAt}
 
 pub halves-length : (s : List ℕ) → length (halves s) ≡ length s / 2
 unfolding halves

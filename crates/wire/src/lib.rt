@@ -6,9 +6,9 @@ ghost use lib.ListN.{length, getD};
 ghost use lib.IntN.{pos};
 ghost use mathlib.Core.List.{[], _∷_};
 ghost use Rattle.label.specs.Wire.{bitsOf, fourBytes};
-ghost use Rattle.label.specs.Fetched.{halves, signed, words as wordsOf};
+ghost use Rattle.label.specs.Fetched.{halves, signed, words};
 ghost use Rattle.label.specs.Sound.{natural, choice, nat as natOf, size as sizeOf, isFont};
-ghost use Rattle.words.specs.Puts.{puts};
+ghost use Rattle.octets.specs.Puts.{puts};
 ghost use Rattle.wire.specs.Numbers.{glyphOf};
 
 // ── how many ──
@@ -21,7 +21,7 @@ pub fn unit_count(s: &[u8]) -> usize
 }
 
 pub fn number_count(s: &[u8]) -> usize
-    ensures { λ r. ⌜ r ≡ length (wordsOf (now (s .entry))) ⌝ }
+    ensures { λ r. ⌜ r ≡ length (words (now (s .entry))) ⌝ }
     ensures bounds { λ r. ⌜ r ≡ length (now (s .entry)) / 4 ⌝ }
 {
     s.len() / 4
@@ -34,7 +34,7 @@ pub fn unit_at(s: &[u8], j: usize) -> u16
     ensures { λ r. ⌜ r ≡ getD (halves (now (s .entry))) j 0 ⌝ }
 {
     if j < s.len() / 2 {
-        words::get_u16(s, 2 * j)
+        octets::get_u16(s, 2 * j)
     } else {
         0
     }
@@ -42,10 +42,10 @@ pub fn unit_at(s: &[u8], j: usize) -> u16
 
 // The bits of number k.
 pub fn number_at(s: &[u8], k: usize) -> u32
-    requires { ⌜ k < length (wordsOf (now s)) ⌝ }
-    ensures { λ r. ⌜ signed r ≡ getD (wordsOf (now (s .entry))) k (pos 0) ⌝ }
+    requires { ⌜ k < length (words (now s)) ⌝ }
+    ensures { λ r. ⌜ signed r ≡ getD (words (now (s .entry))) k (pos 0) ⌝ }
 {
-    words::get_u32(s, 4 * k)
+    octets::get_u32(s, 4 * k)
 }
 
 // ── a number in hand, by its bits ──
@@ -60,7 +60,7 @@ pub fn is_natural(n: u32) -> bool
 pub fn is_choice(n: u32) -> bool
     ensures { λ r. ⌜ r ≡ choice (signed n) ⌝ }
 {
-    words::either(n < 0x8000_0000, n == 0xffff_ffff)
+    plain::either(n < 0x8000_0000, n == 0xffff_ffff)
 }
 
 // without its sign
@@ -86,7 +86,7 @@ pub fn count(n: u32) -> usize
     ensures { λ r. ⌜ r ≡ natOf (signed n) ⌝ }
     ensures bounds { λ r. ⌜ r < 2147483648 ⌝ }
 {
-    words::widened(nat(n))
+    plain::widened(nat(n))
 }
 
 // with its sign
@@ -108,7 +108,7 @@ pub fn is_font(index: u32, advance: u32, u: u32, v: u32) -> bool
     let given = is_natural(advance);
     let x = size(u);
     let y = size(v);
-    words::both(words::both(words::both(!named, !given), x == 0), y == 0)
+    plain::both(plain::both(plain::both(!named, !given), x == 0), y == 0)
 }
 
 // ── stored ──
@@ -118,7 +118,7 @@ pub fn put_unit(out: &mut [u8], j: usize, u: u16)
     ensures { λ _. ⌜ now (out .exit) ≡ puts (now (out .entry)) (2 * j) (u % 256 ∷ u / 256 ∷ []) ⌝ }
 {
     let at = 2 * j;
-    words::put_u16(out, at, u);
+    octets::put_u16(out, at, u);
 }
 
 // by its bits
@@ -127,7 +127,7 @@ pub fn put_bits(out: &mut [u8], k: usize, n: u32)
     ensures { λ _. ⌜ now (out .exit) ≡ puts (now (out .entry)) (4 * k) (fourBytes n) ⌝ }
 {
     let at = 4 * k;
-    words::put_u32(out, at, n);
+    octets::put_u32(out, at, n);
 }
 
 // The 32 bits of v: the low 31 by a mask, which is never negative, and the sign's.

@@ -18,8 +18,8 @@ use Rattle.label.specs.Requests.Attribute.{asAsked}
 use Rattle.label.specs.declared.Writing.{Writing}
 use Rattle.label.specs.declared.Writing.the-variants.{Written, Refused}
 use Rattle.label.proofs.Requests.Escaping.{asked-indices}
-use Rattle.words.specs.Puts.{Put}
-use Rattle.words.proofs.Puts.{put-room}
+use Rattle.octets.specs.Puts.{Put}
+use Rattle.octets.proofs.Puts.{put-room}
 use Rattle.sound.proofs.Facts.{few-units, few-numbers}
 
 -- the three clauses of the call, where the writing comes to w

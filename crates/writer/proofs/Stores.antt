@@ -14,8 +14,8 @@ use Rattle.label.specs.Fetched.{signed}
 use Rattle.label.specs.Sound.{nat, clustersOf, glyphsOf}
 use Rattle.label.specs.Write.{entryBytes, entryList, indicesOf}
 use Rattle.label.proofs.Basics.{cases}
-use Rattle.words.specs.Puts.{Put}
-use Rattle.words.proofs.Puts.{Left, left-next, left-as}
+use Rattle.octets.specs.Puts.{Put}
+use Rattle.octets.proofs.Puts.{Left, left-next, left-as}
 use Rattle.wire.specs.Numbers.{clusterAt, glyphAt, glyphOf, place}
 use Rattle.sound.proofs.Parts.{glyphs-at, glyphs-end, clusters-at, clusters-end}
 use Rattle.writer.specs.Entries.{semis, led, owing}

@@ -4,11 +4,11 @@ ghost use mathlib.Core.Path.{_≡_};
 ghost use mathlib.Core.Bool.{cond};
 ghost use Prim.Native.Nat.{_+_, _<_, _≤_};
 ghost use lib.ListN.{length};
-ghost use Rattle.label.specs.Fetched.{words as wordsOf};
+ghost use Rattle.label.specs.Fetched.{words};
 ghost use Rattle.label.specs.Sound.{clustersOf, glyphsOf};
 ghost use Rattle.label.specs.Write.{entryBytes, indicesOf};
 ghost use Rattle.label.specs.Calls.{refusal, writingOutcome, lengths, textAfter, indicesAfter, writeAsked, outputs};
-ghost use Rattle.words.specs.Puts.{Put};
+ghost use Rattle.octets.specs.Puts.{Put};
 ghost use Rattle.wire.specs.Numbers.{glyphAt};
 ghost use Rattle.writer.specs.Entries.{semis, led};
 use label::Lengths;
@@ -27,7 +27,7 @@ fn put_semis(out: &mut [u8], at: usize, n: usize) -> usize
     let mut p = at;
     let mut m = n;
     while 0 < m {
-        p = words::put_byte(out, p, 59);
+        p = octets::put_byte(out, p, 59);
         m -= 1;
     }
     p
@@ -35,8 +35,8 @@ fn put_semis(out: &mut [u8], at: usize, n: usize) -> usize
 
 // The entry of the glyph at place k, with the separators owed before it; nothing for a glyph wholly the font's, whose entry has no bytes.
 fn put_next(out: &mut [u8], at: usize, owed: usize, a: u32, b: u32, gs: &[u8], k: usize) -> usize
-    requires { ⌜ (at < 1000000000000000000) × (owed < 100000000000000000) × (k + 3 < length (wordsOf (now gs))) ⌝ }
-    ensures { λ r. ⌜ Put (now (out .entry)) at (led owed (entryBytes a b (glyphAt (wordsOf (now (gs .entry))) k))) r (now (out .exit)) ⌝ }
+    requires { ⌜ (at < 1000000000000000000) × (owed < 100000000000000000) × (k + 3 < length (words (now gs))) ⌝ }
+    ensures { λ r. ⌜ Put (now (out .entry)) at (led owed (entryBytes a b (glyphAt (words (now (gs .entry))) k))) r (now (out .exit)) ⌝ }
     ensures bounds { λ r. ⌜ r ≤ at + owed + 80 ⌝ }
 {
     let index = wire::number_at(gs, k);
@@ -62,8 +62,8 @@ fn owes(stored: bool, owed: usize) -> usize
 // The indices of a run. Entries without bytes at the end are never stored, as the separators before an entry are stored with it.
 // `lack`: glyphs that the open cluster still lacks.
 fn put_indices(out: &mut [u8], cs: &[u8], gs: &[u8]) -> usize
-    requires { ⌜ length (wordsOf (now gs)) ≤ 1000000000000 ⌝ }
-    ensures { λ r. ⌜ Put (now (out .entry)) 0 (indicesOf (clustersOf (wordsOf (now (cs .entry)))) (glyphsOf (wordsOf (now (gs .entry))))) r (now (out .exit)) ⌝ }
+    requires { ⌜ length (words (now gs)) ≤ 1000000000000 ⌝ }
+    ensures { λ r. ⌜ Put (now (out .entry)) 0 (indicesOf (clustersOf (words (now (cs .entry)))) (glyphsOf (words (now (gs .entry))))) r (now (out .exit)) ⌝ }
 {
     let counts = wire::number_count(cs);
     let numbers = wire::number_count(gs);
@@ -90,7 +90,7 @@ fn put_indices(out: &mut [u8], cs: &[u8], gs: &[u8]) -> usize
         owed = owes(at < p, owed);
         at = p;
         i += 2;
-        lack = words::less_one(words::widened(b));
+        lack = plain::less_one(plain::widened(b));
         k += 4;
     }
     at
@@ -98,8 +98,8 @@ fn put_indices(out: &mut [u8], cs: &[u8], gs: &[u8]) -> usize
 
 // How many bytes the indices of a run have.
 fn indices_length(cs: &[u8], gs: &[u8]) -> usize
-    requires { ⌜ length (wordsOf (now gs)) ≤ 1000000000000 ⌝ }
-    ensures { λ r. ⌜ r ≡ length (indicesOf (clustersOf (wordsOf (now (cs .entry)))) (glyphsOf (wordsOf (now (gs .entry))))) ⌝ }
+    requires { ⌜ length (words (now gs)) ≤ 1000000000000 ⌝ }
+    ensures { λ r. ⌜ r ≡ length (indicesOf (clustersOf (words (now (cs .entry)))) (glyphsOf (words (now (gs .entry))))) ⌝ }
 {
     let mut none = [0u8; 1];
     put_indices(&mut none, cs, gs)

@@ -4,8 +4,8 @@ use native.Mathlib.Omega.{arith}
 use borrow.Author.Needs.{needs}
 use borrow.Fn.Kinds.{In}
 use borrow.Fn.PlainCycle.{Measures, is, falls, and}
-use Rattle.words.proofs.Puts.{then, put-as, put-digit}
-use Rattle.words.proofs.put_byte.Reads as put-byte-reads
+use Rattle.octets.proofs.Puts.{then, put-as, put-digit}
+use Rattle.octets.proofs.put_byte.Reads as put-byte-reads
 use Rattle.entry_bytes.proofs.DecimalLaws.{decimal-small, decimal-step, decimal-short}
 use Rattle.entry_bytes.proofs.+put_decimal.{statement}
 use Rattle.entry_bytes.proofs.+put_decimal.Tie.{close}

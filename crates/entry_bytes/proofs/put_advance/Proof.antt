@@ -1,6 +1,6 @@
 -- `entry_bytes::put_advance` meets its contract. Assumes nothing.
 use Rattle.entry_bytes.proofs.WriteLaws.{chosen-some, chosen-none, advance-is}
-use Rattle.words.proofs.Puts.{none, put-as}
+use Rattle.octets.proofs.Puts.{none, put-as}
 use Rattle.label.specs.Fetched.{signed}
 use native.Mathlib.Omega.{arith}
 use borrow.Author.Needs.{needs}

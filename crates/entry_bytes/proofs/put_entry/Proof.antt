@@ -1,6 +1,6 @@
 -- `entry_bytes::put_entry` meets its contract. Assumes nothing.
 use Rattle.entry_bytes.proofs.WriteLaws.{entry-is}
-use Rattle.words.proofs.Puts.{then, put-as}
+use Rattle.octets.proofs.Puts.{then, put-as}
 use Rattle.label.specs.Fetched.{signed}
 use native.Mathlib.Omega.{arith}
 use borrow.Author.Needs.{needs}

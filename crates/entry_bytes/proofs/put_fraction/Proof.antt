@@ -1,7 +1,7 @@
 -- `entry_bytes::put_fraction` meets its contract. Assumes nothing.
 use native.Mathlib.Omega.{arith}
 use borrow.Author.Needs.{needs}
-use Rattle.words.proofs.Puts.{then, put-as, put-digit}
+use Rattle.octets.proofs.Puts.{then, put-as, put-digit}
 use Rattle.entry_bytes.proofs.WriteLaws.{frac-one, frac-two, frac-three}
 use Rattle.entry_bytes.proofs.put_fraction.Statement.{statement}
 use Rattle.entry_bytes.proofs.put_fraction.Tie as tie

@@ -1,6 +1,6 @@
 -- `entry_bytes::put_index` meets its contract. Assumes nothing.
 use Rattle.entry_bytes.proofs.WriteLaws.{chosen-some, chosen-none, index-is}
-use Rattle.words.proofs.Puts.{none, then, put-as}
+use Rattle.octets.proofs.Puts.{none, then, put-as}
 use Rattle.label.specs.Fetched.{signed}
 use native.Mathlib.Omega.{arith}
 use borrow.Author.Needs.{needs}

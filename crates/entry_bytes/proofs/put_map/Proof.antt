@@ -1,7 +1,7 @@
 -- `entry_bytes::put_map` meets its contract. Assumes nothing.
 use native.Mathlib.Omega.{arith}
 use borrow.Author.Needs.{needs}
-use Rattle.words.proofs.Puts.{then, none, put-as}
+use Rattle.octets.proofs.Puts.{then, none, put-as}
 use Rattle.entry_bytes.proofs.WriteLaws.{map-none, map-some}
 use Rattle.entry_bytes.proofs.put_map.Statement.{statement}
 use Rattle.entry_bytes.proofs.put_map.Tie as tie

@@ -1,7 +1,7 @@
 -- `entry_bytes::put_value` meets its contract. Assumes nothing.
 use native.Mathlib.Omega.{arith}
 use borrow.Author.Needs.{needs}
-use Rattle.words.proofs.Puts.{then, put-as}
+use Rattle.octets.proofs.Puts.{then, put-as}
 use Rattle.entry_bytes.proofs.WriteLaws.{value-whole, value-point}
 use Rattle.entry_bytes.proofs.put_value.Statement.{statement}
 use Rattle.entry_bytes.proofs.put_value.Tie as tie

@@ -3,13 +3,13 @@ use native.Mathlib.Omega.{arith}
 use mathlib.Core.Path.{_≡_, sym, _∙_}
 use borrow.Author.Needs.{needs}
 use lib.ListN.{length}
-use Rattle.faults.specs.Faults.{entryPart}
+use Rattle.faults.specs.Faults.{entryShown}
 use Rattle.faults.proofs.Faults.{partFrom, from-start, from-next, from-here, from-none}
 use Rattle.faults.proofs.find_entry.Statement.{statement}
 use Rattle.faults.proofs.find_entry.Tie as tie
 
 abbrev Inv-loop : tie.InvT-loop
-Inv-loop s k place₀ rest₀ place rest = entryPart s k ≡ partFrom s place rest
+Inv-loop s k place₀ rest₀ place rest = entryShown s k ≡ partFrom s place rest
 
 abbrev μ-loop : tie.MeasureT-loop
 μ-loop s k place₀ rest₀ place rest = length s + 1 - place

@@ -15,12 +15,13 @@ use Rattle.label.specs.Outcome.{ok, no, verdict}
 use Rattle.label.specs.Bytes.{ascii, empty, cut, isDigit, allDigits, digits, valueFrom, value, each, pieces}
 use Rattle.label.specs.Text.{within, xmlChar}
 use Rattle.label.specs.Write.{utf8}
-use Rattle.label.specs.Requests.Attribute.{sameBytes, predefined, digitValue, allOf, valueBehind, numbered, referred, body, isClosed, isReference, isGood, spaced, gives, further, resolveFrom, escapeByte, escape}
+use Rattle.label.specs.Requests.Attribute.{sameBytes, predefined, digitValue, allOf, valueBehind, numbered, referred, body, isClosed, isReference, isGood, spaced, gives, further, escapeByte, escape}
 use Rattle.label.proofs.Basics.{and-l, and-r, clash, cases, need-ok, bind-ok, within-lo, within-hi}
 use Rattle.label.proofs.Steps.{resolve-none, resolve-inside, resolve-first}
 use Rattle.label.proofs.Utf8.{utf8-size}
 use Rattle.label.proofs.Run.{ok-path}
 use Rattle.label.proofs.Cursors.{onto}
+use Rattle.label.specs.Steps.{resolveFrom}
 
 -- ── what was escaped is restored ──
 

@@ -13,7 +13,7 @@ use lib.ListN.{length}
 use Rattle.label.specs.Limits.{maxGlyphs}
 use Rattle.label.specs.Outcome.{Outcome, ok, no}
 use Rattle.label.specs.Bytes.{empty, trim}
-use Rattle.label.specs.Entry.{unsigned, nearest, scaled, part, entries}
+use Rattle.label.specs.Entry.{unsigned, nearest, scaled, entryPart, entries}
 use Rattle.label.specs.Run.{Run, Parts, cluster, addGlyph, State, startState, opens, takes, next}
 use Rattle.label.specs.Checks.{read}
 use Rattle.label.specs.Steps.{walk}
@@ -41,7 +41,7 @@ field-few s = go (empty s || isExact (unsigned s))
 
 entry-few : (s : List ℕ) → roundedEntry s ≤ 3
 unfolding roundedEntry
-entry-few s = omega (arith, field-few (part 1 s), field-few (part 2 s), field-few (part 3 s))
+entry-few s = omega (arith, field-few (entryPart 1 s), field-few (entryPart 2 s), field-few (entryPart 3 s))
 
 entries-few : (ss : List (List ℕ)) → roundedEntries ss ≤ 3 * length ss
 unfolding roundedEntries

@@ -15,13 +15,14 @@ use Rattle.label.specs.Run.{Run}
 use Rattle.label.specs.Checks.{read}
 use Rattle.label.specs.Wire.{fromHalves}
 use Rattle.label.specs.Write.{Label}
-use Rattle.label.specs.Requests.Sheet.{header, textLength, indicesLength, recordLength, isRecord, recordLabel, labelsOf, labelsFrom, answerOf, answer, answers}
+use Rattle.label.specs.Requests.Sheet.{header, textLength, indicesLength, recordLength, isRecord, recordLabel, labelsOf, answerOf, answer, answers}
 use Rattle.label.specs.Statements.Sheet.{recordBytes, recordsBytes, sheetFile, fitsFile}
 use Rattle.label.specs.Statements.Demands.{allBytes}
 use Rattle.label.proofs.Basics.{and-l, and-r, bind-ok, need-ok}
 use Rattle.label.proofs.Steps.{labels-end, labels-inside, labels-record, file-steps}
 use Rattle.label.proofs.Run.{ok-path}
 use Rattle.label.proofs.Wire.{four-bytes, cells, four}
+use Rattle.label.specs.Steps.{labelsFrom}
 
 labels-skip : (j k : ℕ) (s : List ℕ) → labelsFrom j k s ≡ labelsFrom 0 k (drop j s)
 labels-skip zero k s = refl

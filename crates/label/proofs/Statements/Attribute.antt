@@ -16,7 +16,8 @@ use Rattle.label.specs.Run.{Run, saidRun}
 use Rattle.label.specs.Places.{placesOf}
 use Rattle.label.specs.Write.{Label, normal}
 use Rattle.label.specs.Calls.{filledCount, filledAfter, roomOf, readInto, askedFor, writeAsked, outputs}
-use Rattle.label.specs.Requests.Attribute.{rawGives, resolve, escapeByte, escape, resolveChecks, resolveInto, rawLabelChecks, readRaw}
+use Rattle.label.specs.Requests.Attribute.{rawGives, escapeByte, escape, resolveChecks, resolveInto}
+use Rattle.label.specs.Statements.Attribute.{rawLabelChecks, readRaw}
 use Rattle.label.specs.Statements.Memory.{filledAll, Kept}
 use Rattle.label.specs.Statements.Demands.{RoomyFor}
 use Rattle.label.specs.Statements.Attribute.{cameOut, escapedText, escapedIndices, Restored, isMarkup, Restoring}
@@ -31,6 +32,7 @@ use Rattle.label.proofs.Statements.Demands.{written-to, written-from, w
 use Rattle.label.proofs.Sizes.{sound-short}
 use Rattle.label.proofs.Requests.Attribute.{restored, ten-numbered, resolved-within}
 use Rattle.label.proofs.Requests.Escaping.{escaped-most, indices-plain}
+use Rattle.label.specs.Steps.{resolve}
 
 -- ── resolving into a buffer ──
 
@@ -107,7 +109,7 @@ restoring =
       passed = λ t i r tx ix bt bi us cs gs h m n o. restored-all r _ (λ x y. readInto (roomOf us cs gs) x y) tx ix bt bi
           (written-from true (placesOf r) (outputs tx ix) (own t i r h) m)
           m n (demand-3 .reads (normal r .text) (normal r .indices) r (roomOf us cs gs) (demand-3 .back t i r h) o);
-      bare = λ s. ap (λ (c : Cut). c .found) (cut-none isMarkup (escape s) (escape-bare s));
+      no-markup = λ s. ap (λ (c : Cut). c .found) (cut-none isMarkup (escape s) (escape-bare s));
       written = λ asked z room b. (
         λ l. let (w, e, m) = written-to asked z room (l .0) b (l .1) in (w, m),
         λ w. (askedFor asked (normal (w .0 .run)), written-from asked z room (w .0) (w .1)),

@@ -11,7 +11,7 @@ use Rattle.label.specs.Outcome.{Outcome, ok, no, _>>_, Check, verdict}
 use Rattle.label.specs.Bytes.{join, each, Piece}
 use Rattle.label.specs.Text.{isPair, characters, saidUnits}
 use Rattle.label.specs.Entry.{entries}
-use Rattle.label.specs.Run.{Run, whole, addGlyph, cluster, fontGlyph, tail, saidRun}
+use Rattle.label.specs.Run.{Run, keepsPair, addGlyph, cluster, fontGlyph, tail, saidRun}
 use Rattle.label.specs.Checks.{charChecks, textChecks, walkChecks, runChecks, labelChecks, read}
 use Rattle.label.specs.Sound.{allFont, fits}
 use Rattle.label.specs.Write.{indicesOf}
@@ -38,7 +38,7 @@ last : (us : List ℕ) (cs : List Cluster) (g : Glyph) (gs : List Glyph) → fit
 unfolding allFont
 last us cs g gs h =
     let m = fits-opening false us (cluster 2 1) cs fontGlyph gs h .may in
-    and-r (isPair us) (allFont gs) (and-r (leb 2 (length us) && whole 2 us) (isPair us && allFont gs) m)
+    and-r (isPair us) (allFont gs) (and-r (leb 2 (length us) && keepsPair 2 us) (isPair us && allFont gs) m)
 
 drops : (cs : List Cluster) (gs : List Glyph) → allFont gs ≡ true → indicesOf cs gs ≡ []
 unfolding indicesOf join

@@ -8,10 +8,7 @@ use lib.ListN.{drop, getD, length}
 use Rattle.label.specs.Outcome.{Outcome, ok, _>>_, Check, check, above, verdict}
 use Rattle.label.specs.Bytes.{ascii, empty, cut, each, Piece, pieces}
 use Rattle.label.specs.Text.{within, xmlChar}
-use Rattle.label.specs.Run.{Run, saidRun}
-use Rattle.label.specs.Checks.{labelChecks}
 use Rattle.label.specs.Write.{utf8}
-use Rattle.label.specs.declared.Lengths.{Lengths}
 
 -- ── references ──
 
@@ -99,14 +96,6 @@ rawChecks raw = each rawCheck (pieces further 0 0 raw)
 abbrev pub rawGives : List ℕ → List ℕ
 rawGives raw = each rawBytes (pieces further 0 0 raw)
 
--- the value resolved from byte `at` on, the first `skip` bytes being of what stands before; and a raw attribute value resolved: "It works on one attribute a
--- call"
-unfoldable pub resolveFrom : ℕ → ℕ → List ℕ → Outcome (List ℕ)
-resolveFrom skip at raw = verdict (each rawCheck (pieces further skip at raw)) >> ok (each rawBytes (pieces further skip at raw))
-
-abbrev pub resolve : List ℕ → Outcome (List ℕ)
-resolve raw = resolveFrom 0 0 raw
-
 -- ── escaping ──
 
 -- "`&`, `<`, `"`, tab, line feed, carriage return become `&amp;` `&lt;` `&quot;` `&#9;` `&#10;` `&#13;`"
@@ -137,11 +126,3 @@ resolveChecks room raw = rawChecks raw ++ (check (above (length (rawGives raw)) 
 
 unfoldable pub resolveInto : ℕ → List ℕ → Outcome (List ℕ)
 resolveInto room raw = verdict (resolveChecks room raw) >> ok (rawGives raw)
-
--- a raw text and raw indices, each resolved into a buffer of so many bytes, "text before indices [...], and the reading is of what comes out"; 23 and 24 of
--- each, "both before 1"
-unfoldable pub rawLabelChecks : Lengths → List ℕ → List ℕ → List Check
-rawLabelChecks room text indices = resolveChecks (room .text) text ++ (resolveChecks (room .indices) indices ++ labelChecks (rawGives text) (rawGives indices))
-
-unfoldable pub readRaw : Lengths → List ℕ → List ℕ → Outcome Run
-readRaw room text indices = verdict (rawLabelChecks room text indices) >> ok (saidRun (rawGives text) (rawGives indices))

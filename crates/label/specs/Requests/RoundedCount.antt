@@ -7,7 +7,7 @@ use lib.Dec.{eqb}
 use lib.ListN.{length}
 use Rattle.label.specs.Outcome.{Outcome, ok, no}
 use Rattle.label.specs.Bytes.{empty, value}
-use Rattle.label.specs.Entry.{minus, unsigned, atExponent, mantissaDigits, fractionDigits, exponentDigits, part, entries}
+use Rattle.label.specs.Entry.{minus, unsigned, atExponent, mantissaDigits, fractionDigits, exponentDigits, entryPart, entries}
 
 -- m × 10^(e − f) × 1000 is a whole number: the ratio that `scaled` rounds leaves no remainder; `down` where e is negative
 unfoldable pub isWhole : ℕ → ℕ → Bool → ℕ → Bool
@@ -23,7 +23,7 @@ roundedField s = cond (empty s || isExact (unsigned s)) 0 1
 
 -- the fields of an entry, document 01's "advance, u offset, v offset"
 unfoldable pub roundedEntry : List ℕ → ℕ
-roundedEntry s = roundedField (part 1 s) + roundedField (part 2 s) + roundedField (part 3 s)
+roundedEntry s = roundedField (entryPart 1 s) + roundedField (entryPart 2 s) + roundedField (entryPart 3 s)
 
 -- "The count is defined from the entries": the sum over some of them
 unfoldable pub roundedEntries : List (List ℕ) → ℕ

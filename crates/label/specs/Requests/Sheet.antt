@@ -50,22 +50,19 @@ abbrev pub recordLabels : Piece → List Label
 recordLabels r = recordLabel (fromPiece r) ∷ []
 
 -- the records of a file, behind its header, and their labels
-abbrev pub records : List ℕ → List Piece
-records file = pieces recordMore 0 0 (drop 5 file)
+abbrev pub sheetRecords : List ℕ → List Piece
+sheetRecords file = pieces recordMore 0 0 (drop 5 file)
 
 abbrev pub saidLabels : List ℕ → List Label
-saidLabels file = each recordLabels (records file)
+saidLabels file = each recordLabels (sheetRecords file)
 
 -- "25: mark or version wrong or cut off", then 26 of each record
 abbrev pub fileChecks : List ℕ → List Check
-fileChecks file = check (not (begins header file)) 25 0 ∷ eachNumbered recordCheck 0 (records file)
+fileChecks file = check (not (begins header file)) 25 0 ∷ eachNumbered recordCheck 0 (sheetRecords file)
 
--- the labels of a file; and of records, the first with number k, the first `skip` bytes being of a record before
+-- the labels of a file
 unfoldable pub labelsOf : List ℕ → Outcome (List Label)
 labelsOf file = verdict (fileChecks file) >> ok (saidLabels file)
-
-unfoldable pub labelsFrom : ℕ → ℕ → List ℕ → Outcome (List Label)
-labelsFrom skip k s = verdict (eachNumbered recordCheck k (pieces recordMore skip 0 s)) >> ok (each recordLabels (pieces recordMore skip 0 s))
 
 -- ── the answers ──
 

@@ -17,8 +17,10 @@ use Rattle.label.specs.Places.{Places, places}
 use Rattle.label.specs.Sound.{wholeClusters, wholeGlyphs, clustersOf, glyphsOf, properUnits, fits, soundRun, sound}
 use Rattle.label.specs.Write.{utf8, unitBytes, unitsBytes, textOf, fraction, valueBytes, advanceBytes, offsetBytes, mapBytes, indexBytes, entryBytes, entryList, indicesOf}
 use Rattle.label.specs.Calls.{filledCount, filledAfter, writeChecks, writeAsked, lengths}
-use Rattle.label.specs.Requests.Attribute.{sameBytes, predefined, digitValue, allOf, valueBehind, numbered, referred, body, isClosed, isReference, isGood, spaced, gives, further, resolveFrom, resolve, escapeByte, escape, resolveChecks, resolveInto, rawLabelChecks, readRaw}
+use Rattle.label.specs.Requests.Attribute.{sameBytes, predefined, digitValue, allOf, valueBehind, numbered, referred, body, isClosed, isReference, isGood, spaced, gives, further, escapeByte, escape, resolveChecks, resolveInto}
+use Rattle.label.specs.Statements.Attribute.{rawLabelChecks, readRaw}
 use Rattle.label.specs.Rows.Types.{RawRow, rawRow, EscapeRow, escapeRow, handed, sizes, plain, font, label, glyphBytes, clusterBytes}
+use Rattle.label.specs.Steps.{resolveFrom, resolve}
 
 -- a row for each way to resolve
 unfoldable pub rawRows : List RawRow

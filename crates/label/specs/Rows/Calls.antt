@@ -8,7 +8,7 @@ use lib.ListN.{replicate}
 use Rattle.label.specs.Outcome.{ok, no, verdict}
 use Rattle.label.specs.Bytes.{ascii, split, cut, allDigits, valueFrom, joinRest, join, trim, decimalFrom, decimal, each, pieces}
 use Rattle.label.specs.Text.{table, rowFits, fitting, startsChar, moreBytes, following, scalar, xmlChar, unitsOf}
-use Rattle.label.specs.Entry.{unsigned, isDecimals, isNumber, mantissaDigits, fractionDigits, exponentDigits, nearest, scaled, thousandths, numberFits, part, isIndexPart, indexDigits, mapUnits, mapGlyphs, isAdvance, isOffset, wellFormed, fieldFits, indexOf, advanceOf, offsetOf, entryOf, entries}
+use Rattle.label.specs.Entry.{unsigned, isDecimals, isNumber, mantissaDigits, fractionDigits, exponentDigits, nearest, scaled, thousandths, numberFits, entryPart, isIndexPart, indexDigits, mapUnits, mapGlyphs, isAdvance, isOffset, wellFormed, fieldFits, indexOf, advanceOf, offsetOf, entryOf, entries}
 use Rattle.label.specs.Run.{fontGlyph, tail, walkParts, saidRun}
 use Rattle.label.specs.Checks.{textChecks, entryChecks, placeChecks, walkChecks, runChecks, labelChecks, read}
 use Rattle.label.specs.Wire.{fromHalves, fromWords}
@@ -110,7 +110,7 @@ faults =
 pub calls-agree : (map (λ (w : Writes). writeInto (sizes 99 99) (w .run)) writings ≡ map (λ (w : Writes). w .answer) writings)
     × (map (λ (p : Picked). pickUnits four (p .first) (p .end)) picks ≡ map (λ (p : Picked). p .units) picks)
     × (map (λ (p : Picked). pickGlyphs four (p .first) (p .end)) picks ≡ map (λ (p : Picked). p .glyphs) picks)
-    × (map (λ (s : Shown). faultPart (ascii "{a") (ascii "(1:2)5;") (s .number) (s .place)) faults ≡ map (λ (s : Shown). s .part) faults)
+    × (map (λ (s : Shown). faultPart (ascii "{a") (ascii "(1:2)5;") (s .number) (s .place)) faults ≡ map (λ (s : Shown). s .shows) faults)
 unfolding writings picks faults ascii wholeClusters wholeGlyphs clustersOf glyphsOf properUnits allFont fits soundRun sound xmlChar split join joinRest trim decimalFrom decimal utf8 unitBytes unitsBytes textOf fraction valueBytes advanceBytes offsetBytes mapBytes indexBytes entryBytes entryList indicesOf writeAsked holding touched turned pickUnits pickGlyphs entryStart faultPart entries fromHalves fromWords halves words signed evenBytes wordBytes pickChecks verdict writeChecks
 calls-agree = (refl, refl, refl, refl)
 

@@ -5,7 +5,6 @@ use mathlib.Core.List.{List, [], _∷_}
 use lib.IntN.{negsuc, pos, ℤ}
 use lib.ListN.{replicate}
 use Rattle.label.specs.Outcome.{Outcome, ok, no}
-use Rattle.label.specs.Entry.{part}
 use Rattle.label.specs.Run.{Run, cluster}
 use Rattle.label.specs.Wire.{fromHalves, fromWords}
 use Rattle.label.specs.Places.{Places, places}
@@ -151,11 +150,11 @@ picked a b u g = record { first = a; end = b; units = u; glyphs = g }
 pub record Shown : Type 0 where
   pub number : ℕ
   pub place : ℕ
-  pub part : Part
+  pub shows : Part
 
 -- the row of a number, a place and a part
 abbrev pub shown : ℕ → ℕ → Part → Shown
-shown n p x = record { number = n; place = p; part = x }
+shown n p x = record { number = n; place = p; shows = x }
 
 -- the room of buffers of so many bytes
 abbrev pub buffers : ℕ → ℕ → ℕ → Counts

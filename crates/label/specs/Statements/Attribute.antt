@@ -6,24 +6,34 @@ use Prim.Native.Nat.{ℕ, _*_, _≤_}
 use mathlib.Core.Path.{_≡_}
 use mathlib.Core.Logic.{_↔_}
 use mathlib.Core.Bool.{Bool, cond, false, true, _||_}
-use mathlib.Core.List.{List, [], _∷_}
+use mathlib.Core.List.{List, [], _++_, _∷_}
 use lib.Dec.{eqb}
 use lib.ListN.{length, take}
 use Rattle.label.specs.Limits.{maxIndicesBytes, maxUnits}
-use Rattle.label.specs.Outcome.{Outcome, ok, no, _>>=_}
+use Rattle.label.specs.Outcome.{Outcome, ok, no, _>>=_, _>>_, Check, verdict}
 use Rattle.label.specs.Statements.Memory.{GivenBy}
 use Rattle.label.specs.Bytes.{cut, digits, value}
-use Rattle.label.specs.Run.{Run}
-use Rattle.label.specs.Checks.{read}
+use Rattle.label.specs.Run.{Run, saidRun}
+use Rattle.label.specs.Checks.{labelChecks, read}
+use Rattle.label.specs.Steps.{resolve}
 use Rattle.label.specs.Places.{Places, placesOf, Readable}
 use Rattle.label.specs.Write.{indicesOf, Label, normal}
 use Rattle.label.specs.Statements.Memory.{Kept}
 use Rattle.label.specs.Calls.{saidLabel, filledCount, filledAfter, roomOf, readInto, askedFor, writeChecks, writeAsked, outputs, textAfter, indicesAfter}
-use Rattle.label.specs.Requests.Attribute.{rawGives, numbered, resolve, escape, resolveChecks, resolveInto, rawLabelChecks, readRaw}
+use Rattle.label.specs.Requests.Attribute.{rawGives, numbered, escape, resolveChecks, resolveInto}
 use Rattle.label.specs.Statements.Demands.{storedLabel, outputsAfter, Roomy, RoomyFor, inBytes, Wrote}
 use Rattle.label.specs.declared.Cluster.{Cluster}
 use Rattle.label.specs.declared.Glyph.{Glyph}
 use Rattle.label.specs.declared.Lengths.{Lengths}
+
+-- a raw text and raw indices, each resolved into a buffer of so many bytes, "text before indices [...], and the reading is of what comes out"; 23 and 24 of
+-- each, "both before 1"
+unfoldable pub rawLabelChecks : Lengths → List ℕ → List ℕ → List Check
+rawLabelChecks room text indices = resolveChecks (room .text) text ++ (resolveChecks (room .indices) indices ++ labelChecks (rawGives text) (rawGives indices))
+
+-- what such a reading comes to
+unfoldable pub readRaw : Lengths → List ℕ → List ℕ → Outcome Run
+readRaw room text indices = verdict (rawLabelChecks room text indices) >> ok (saidRun (rawGives text) (rawGives indices))
 
 -- the bytes that came out of s, n of them, in a buffer that held `old`
 abbrev pub cameOut : ℕ → List ℕ → List ℕ → List ℕ
@@ -59,7 +69,7 @@ pub record Restoring : Type 0 where
       → RoomyFor (normal r) (outputs bt bi) → Roomy r (roomOf us cs gs)
       → Restored r (writeAsked true (outputs tx ix) (placesOf r)) (λ x y. readInto (roomOf us cs gs) x y) tx ix bt bi
   -- what is escaped can stand between double quotes: no such byte is found in it
-  pub bare : (s : List ℕ) → cut isMarkup (escape s) .found ≡ false
+  pub no-markup : (s : List ℕ) → cut isMarkup (escape s) .found ≡ false
   -- "A caller may ask the writer to escape": asked or not, a run handed in is written exactly when some label reads as it and the outputs have room, and
   -- then in its normal writing, escaped where that is asked
   pub written : (asked : Bool) (z : Places) (room : Lengths) → inBytes z ≡ true

@@ -33,7 +33,7 @@ partStart (n ∷ ns) (suc j) = n + partStart ns j
 
 -- place i is in part j
 pub record In (ns : List ℕ) (j i : ℕ) : Type 0 where
-  pub part : j < length ns
+  pub exists : j < length ns
   pub from : partStart ns j ≤ i
   pub below : i < partStart ns (suc j)
 

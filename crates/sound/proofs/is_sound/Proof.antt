@@ -1,7 +1,7 @@
 -- `sound::is_sound` meets its contract. Assumes nothing.
 use Rattle.sound.proofs.Sounds.{sound-is}
 use Rattle.sound.proofs.Tests.{and-of}
-use Rattle.words.proofs.Loops.{stops, goes}
+use Rattle.octets.proofs.Loops.{stops, goes}
 use mathlib.Core.Path.{refl, sym, _∙_}
 use borrow.Author.Needs.{needs}
 use Rattle.sound.proofs.is_sound.Statement.{statement}

@@ -1,6 +1,6 @@
 -- `text_bytes::put_asked` meets its contract. Assumes nothing.
 use Rattle.text_bytes.proofs.Utf8.{asked-ascii, asked-plain, ascii-most}
-use Rattle.words.proofs.Puts.{put-as}
+use Rattle.octets.proofs.Puts.{put-as}
 use mathlib.Core.Path.{sym, _∙_}
 use native.Mathlib.Omega.{arith}
 use borrow.Author.Needs.{needs}

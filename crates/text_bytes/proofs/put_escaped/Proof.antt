@@ -3,7 +3,7 @@ use native.Mathlib.Omega.{arith}
 use mathlib.Core.Path.{sym, ap}
 use Rattle.label.specs.Bytes.{ascii}
 use Rattle.label.specs.Requests.Attribute.{escapeByte}
-use Rattle.words.proofs.Puts.{put-as}
+use Rattle.octets.proofs.Puts.{put-as}
 use Rattle.text_bytes.proofs.Utf8.{escape-other}
 use borrow.Author.Needs.{needs}
 use Rattle.text_bytes.proofs.put_escaped.Statement.{statement}

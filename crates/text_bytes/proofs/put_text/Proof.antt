@@ -1,6 +1,6 @@
 -- `text_bytes::put_text` meets its contract. Assumes nothing.
 use Rattle.label.specs.Fetched.{halves}
-use Rattle.words.proofs.Puts.{then, put-as}
+use Rattle.octets.proofs.Puts.{then, put-as}
 use Rattle.text_bytes.proofs.Utf8.{text-braced, text-plain}
 use borrow.Author.Needs.{needs}
 use Rattle.text_bytes.proofs.put_text.Statement.{statement}

@@ -1,6 +1,6 @@
 -- `text_bytes::put_unit` meets its contract. Assumes nothing.
 use native.Mathlib.Omega.{arith}
-use Rattle.words.proofs.Puts.{none, put-as}
+use Rattle.octets.proofs.Puts.{none, put-as}
 use Rattle.text_bytes.proofs.Utf8.{unit-low, unit-high, unit-plain, high-range}
 use mathlib.Core.Path.{_≡_}
 use Rattle.label.specs.Write.{paired}

@@ -1,6 +1,6 @@
 -- `text_bytes::put_units` meets its contract. Assumes nothing.
 use Rattle.text_bytes.proofs.Utf8.{asked-here, asked-end}
-use Rattle.words.proofs.Puts.{Left, left-start, left-next, left-as, left-end}
+use Rattle.octets.proofs.Puts.{Left, left-start, left-next, left-as, left-end}
 use Rattle.label.specs.Fetched.{halves}
 use Rattle.label.specs.Write.{unitsBytes}
 use Rattle.label.specs.Requests.Attribute.{asAsked}

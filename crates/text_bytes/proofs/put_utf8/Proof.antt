@@ -1,6 +1,6 @@
 -- `text_bytes::put_utf8` meets its contract. Assumes nothing.
 use Rattle.label.proofs.Utf8.{utf8-one, utf8-two, utf8-three, utf8-four}
-use Rattle.words.proofs.Puts.{then, put-as, put-digit}
+use Rattle.octets.proofs.Puts.{then, put-as, put-digit}
 use mathlib.Core.Path.{sym}
 use native.Mathlib.Omega.{arith}
 use borrow.Author.Needs.{needs}

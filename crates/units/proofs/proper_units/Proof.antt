@@ -1,5 +1,5 @@
 -- `units::proper_units` meets its contract. Assumes nothing.
-use Rattle.words.proofs.Loops.{stops, goes}
+use Rattle.octets.proofs.Loops.{stops, goes}
 use Rattle.units.proofs.Units.{proper-here, proper-end}
 use Rattle.label.specs.Fetched.{halves}
 use Rattle.label.specs.Sound.{properUnits}

@@ -1,5 +1,5 @@
 -- `wire::put_number` meets its contract. Assumes nothing.
-use Rattle.words.specs.Puts.{puts}
+use Rattle.octets.specs.Puts.{puts}
 use Rattle.label.specs.Wire.{bitsOf, fourBytes}
 use Prim.Native.Nat.{ℕ, _*_}
 use mir.Facts.{toZ-ofZ}

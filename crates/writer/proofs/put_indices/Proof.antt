@@ -5,7 +5,7 @@ use Prim.Native.Nat.{ℕ, _+_, _-_, _*_, _≤_}
 use Rattle.label.specs.Fetched.{words}
 use Rattle.label.specs.Sound.{nat as natOf, clustersOf, glyphsOf}
 use Rattle.label.specs.Write.{indicesOf}
-use Rattle.words.proofs.Puts.{Left, left-start, left-as, left-end}
+use Rattle.octets.proofs.Puts.{Left, left-start, left-as, left-end}
 use Rattle.writer.proofs.Stores.{owed, writtenAt, indices-start, rest-further, rest-opens, rest-none, rest-end, entry-stored, owes-bound}
 use borrow.Author.Needs.{needs}
 use Rattle.writer.proofs.put_indices.Statement.{statement}

@@ -1,6 +1,6 @@
 -- `writer::put_next` meets its contract. Assumes nothing.
 use native.Mathlib.Omega.{arith}
-use Rattle.words.proofs.Puts.{none, then, put-as}
+use Rattle.octets.proofs.Puts.{none, then, put-as}
 use Rattle.writer.proofs.Stores.{glyph-is, led-none, led-some}
 use Rattle.wire.specs.Numbers.{glyphAt}
 use Rattle.label.proofs.Outputs.{empty-is-font}

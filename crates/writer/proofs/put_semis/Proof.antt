@@ -2,7 +2,7 @@
 use native.Mathlib.Omega.{arith}
 use Prim.Native.Nat.{_+_}
 use mathlib.Core.Path.{_≡_, refl}
-use Rattle.words.proofs.Puts.{Left, left-start, left-next, left-as, left-end}
+use Rattle.octets.proofs.Puts.{Left, left-start, left-next, left-as, left-end}
 use Rattle.writer.specs.Entries.{semis}
 use Rattle.writer.proofs.Stores.{semis-step, semis-none}
 use borrow.Author.Needs.{needs}

@@ -1,9 +1,9 @@
--- `words::put_byte` meets its contract. Assumes nothing.
-use Rattle.words.proofs.Puts.{put-one, put-past}
+-- `octets::put_byte` meets its contract. Assumes nothing.
+use Rattle.octets.proofs.Puts.{put-one, put-past}
 use native.Mathlib.Omega.{arith}
 use borrow.Author.Needs.{needs}
-use Rattle.words.proofs.put_byte.Statement.{statement}
-use Rattle.words.proofs.put_byte.Tie as tie
+use Rattle.octets.proofs.put_byte.Statement.{statement}
+use Rattle.octets.proofs.put_byte.Tie as tie
 
 add-result : tie.Need-add-result
 add-result c = search needs

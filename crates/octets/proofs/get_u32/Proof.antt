@@ -1,8 +1,8 @@
--- `words::get_u32` meets its contract. Assumes nothing.
-use Rattle.words.specs.Words.{wordAt}
+-- `octets::get_u32` meets its contract. Assumes nothing.
+use Rattle.octets.specs.Words.{wordAt}
 use borrow.Author.Needs.{needs}
-use Rattle.words.proofs.get_u32.Statement.{statement}
-use Rattle.words.proofs.get_u32.Tie as tie
+use Rattle.octets.proofs.get_u32.Statement.{statement}
+use Rattle.octets.proofs.get_u32.Tie as tie
 
 shared-slice-read-wide : tie.Need-shared-slice-read-wide
 shared-slice-read-wide c = search needs

@@ -7,7 +7,7 @@ use native.Mathlib.Numerals.{add-one}
 use native.Mathlib.Omega.{arith}
 use lib.ListN.{length, getD, drop, set, length-append}
 use lib.Seq.{sets, sets-eq, length-sets, set-out, drop-cons}
-use Rattle.words.specs.Puts.{puts, Put}
+use Rattle.octets.specs.Puts.{puts, Put}
 
 -- stores one behind the other
 pub sets-append : {A : Type 0} (x y l : List A) (i : ℕ) → sets (sets l i x) (i + length x) y ≡ sets l i (x ++ y)

@@ -1,4 +1,4 @@
-// The leaves that nothing else proves again: truth values, numbers in little-endian bytes, bytes looked at, and bytes stored as far as there is room.
+// Bytes in memory: numbers low byte first, bytes looked at, and bytes stored as far as there is room.
 ghost use mathlib.Core.Path.{_≡_};
 ghost use mathlib.Core.Bool.{_&&_, _||_};
 ghost use mathlib.Core.List.{[], _∷_};
@@ -8,36 +8,8 @@ ghost use lib.ListN.{length, getD, drop};
 ghost use Rattle.label.specs.Bytes.{begins, cut};
 ghost use Rattle.label.specs.Text.{within};
 ghost use Rattle.label.specs.Wire.{fourBytes};
-ghost use Rattle.words.specs.Words.{halfAt, wordAt};
-ghost use Rattle.words.specs.Puts.{puts, Put};
-
-// ── truth values ──
-
-pub fn both(a: bool, b: bool) -> bool
-    ensures { λ r. ⌜ r ≡ (a && b) ⌝ }
-{
-    if a { b } else { false }
-}
-
-pub fn either(a: bool, b: bool) -> bool
-    ensures { λ r. ⌜ r ≡ (a || b) ⌝ }
-{
-    if a { true } else { b }
-}
-
-// ── unsigned numbers ──
-
-pub fn widened(n: u32) -> usize
-    ensures { λ r. ⌜ (r ≡ n) × (r < 4294967296) ⌝ }
-{
-    n as usize
-}
-
-pub fn less_one(n: usize) -> usize
-    ensures { λ r. ⌜ r ≡ n - 1 ⌝ }
-{
-    if n == 0 { 0 } else { n - 1 }
-}
+ghost use Rattle.octets.specs.Words.{halfAt, wordAt};
+ghost use Rattle.octets.specs.Puts.{puts, Put};
 
 // ── bytes, low byte first ──
 
@@ -105,7 +77,7 @@ pub fn byte_or_zero(s: &[u8], i: usize) -> u8
 pub fn is_within(lo: u8, hi: u8, b: u8) -> bool
     ensures { λ r. ⌜ r ≡ within lo hi b ⌝ }
 {
-    both(lo <= b, b <= hi)
+    plain::both(lo <= b, b <= hi)
 }
 
 // Where the first byte b from `from` on stands, or the end.

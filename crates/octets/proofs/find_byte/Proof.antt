@@ -1,12 +1,12 @@
--- `words::find_byte` meets its contract. Assumes nothing.
+-- `octets::find_byte` meets its contract. Assumes nothing.
 use Prim.Native.Nat.{_-_, _≤_}
 use native.Mathlib.Omega.{arith}
 use mathlib.Core.Path.{_≡_, refl, _∙_}
 use borrow.Author.Needs.{needs}
 use lib.ListN.{length}
-use Rattle.words.proofs.Finds.{found, found-here, found-next, found-end}
-use Rattle.words.proofs.find_byte.Statement.{statement}
-use Rattle.words.proofs.find_byte.Tie as tie
+use Rattle.octets.proofs.Finds.{found, found-here, found-next, found-end}
+use Rattle.octets.proofs.find_byte.Statement.{statement}
+use Rattle.octets.proofs.find_byte.Tie as tie
 
 abbrev Inv-loop : tie.InvT-loop
 Inv-loop s from b i₀ i = (from ≤ i) × (i ≤ length s) × (found s b i ≡ found s b from)

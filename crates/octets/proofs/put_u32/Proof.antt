@@ -1,13 +1,13 @@
--- `words::put_u32` meets its contract. Assumes nothing.
+-- `octets::put_u32` meets its contract. Assumes nothing.
 use Prim.Native.Nat.{_/_}
 use native.Mathlib.Numerals.{add-one, add-two, add-three}
 use native.Mathlib.Omega.{arith}
 use lib.ListN.{length-set}
 use lib.Bits.{and-le-r, and-mask}
-use Rattle.words.specs.Puts.{puts}
+use Rattle.octets.specs.Puts.{puts}
 use borrow.Author.Needs.{needs}
-use Rattle.words.proofs.put_u32.Statement.{statement}
-use Rattle.words.proofs.put_u32.Tie as tie
+use Rattle.octets.proofs.put_u32.Statement.{statement}
+use Rattle.octets.proofs.put_u32.Tie as tie
 
 cast-buf : tie.Need-cast-buf
 cast-buf c = omega (arith, and-le-r (c .args .n) 255)

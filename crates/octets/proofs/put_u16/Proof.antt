@@ -1,11 +1,11 @@
--- `words::put_u16` meets its contract. Assumes nothing.
-use Rattle.words.specs.Puts.{puts}
+-- `octets::put_u16` meets its contract. Assumes nothing.
+use Rattle.octets.specs.Puts.{puts}
 use lib.Bits.{and-le-r, and-mask}
 use native.Mathlib.Numerals.{add-one}
 use native.Mathlib.Omega.{arith}
 use borrow.Author.Needs.{needs}
-use Rattle.words.proofs.put_u16.Statement.{statement}
-use Rattle.words.proofs.put_u16.Tie as tie
+use Rattle.octets.proofs.put_u16.Statement.{statement}
+use Rattle.octets.proofs.put_u16.Tie as tie
 
 cast-buf : tie.Need-cast-buf
 cast-buf c = omega (arith, and-le-r (c .args .n) 255)

@@ -1,10 +1,10 @@
--- `words::byte_or_zero` meets its contract. Assumes nothing.
+-- `octets::byte_or_zero` meets its contract. Assumes nothing.
 use mathlib.Core.Path.{sym}
 use denote.Ref.{now}
 use lib.ListN.{List·getD-eq-default}
 use borrow.Author.Needs.{needs}
-use Rattle.words.proofs.byte_or_zero.Statement.{statement}
-use Rattle.words.proofs.byte_or_zero.Tie as tie
+use Rattle.octets.proofs.byte_or_zero.Statement.{statement}
+use Rattle.octets.proofs.byte_or_zero.Tie as tie
 
 shared-slice-read-result : tie.Need-shared-slice-read-result
 shared-slice-read-result c = search needs

@@ -1,12 +1,12 @@
--- `words::put_bytes` meets its contract. Assumes nothing.
-use Rattle.words.proofs.Puts.{Left, left-start, left-next, left-as, left-end, byte-next}
+-- `octets::put_bytes` meets its contract. Assumes nothing.
+use Rattle.octets.proofs.Puts.{Left, left-start, left-next, left-as, left-end, byte-next}
 use lib.ListN.{length, drop, drop-of-length-le}
 use borrow.Author.Needs.{needs}
 use mathlib.Core.Path.{_≡_}
 use native.Mathlib.Omega.{arith}
 use Prim.Native.Nat.{_+_, _-_, _≤_}
-use Rattle.words.proofs.put_bytes.Statement.{statement}
-use Rattle.words.proofs.put_bytes.Tie as tie
+use Rattle.octets.proofs.put_bytes.Statement.{statement}
+use Rattle.octets.proofs.put_bytes.Tie as tie
 
 abbrev Inv-loop : tie.InvT-loop
 Inv-loop out₀ at s p₀ i₀ out p i = Left out₀ s out at p (drop i s) × (p ≡ at + i) × (i ≤ length s)

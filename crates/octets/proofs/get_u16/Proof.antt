@@ -1,8 +1,8 @@
--- `words::get_u16` meets its contract. Assumes nothing.
-use Rattle.words.specs.Words.{halfAt}
+-- `octets::get_u16` meets its contract. Assumes nothing.
+use Rattle.octets.specs.Words.{halfAt}
 use borrow.Author.Needs.{needs}
-use Rattle.words.proofs.get_u16.Statement.{statement}
-use Rattle.words.proofs.get_u16.Tie as tie
+use Rattle.octets.proofs.get_u16.Statement.{statement}
+use Rattle.octets.proofs.get_u16.Tie as tie
 
 shared-slice-read-half : tie.Need-shared-slice-read-half
 shared-slice-read-half c = search needs

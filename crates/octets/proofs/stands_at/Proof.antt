@@ -1,5 +1,5 @@
--- `words::stands_at` meets its contract. Assumes nothing.
-use Rattle.words.proofs.Begins.{left-end, left-short, left-other, left-next}
+-- `octets::stands_at` meets its contract. Assumes nothing.
+use Rattle.octets.proofs.Begins.{left-end, left-short, left-other, left-next}
 use Rattle.label.specs.Bytes.{begins}
 use lib.ListN.{length, drop}
 use mathlib.Core.Path.{_≡_, sym, _∙_}
@@ -7,8 +7,8 @@ use native.Mathlib.Nat.{add-zero}
 use Prim.Native.Nat.{_+_, _-_, _≤_}
 use borrow.Author.Needs.{needs}
 use native.Mathlib.Omega.{arith}
-use Rattle.words.proofs.stands_at.Statement.{statement}
-use Rattle.words.proofs.stands_at.Tie as tie
+use Rattle.octets.proofs.stands_at.Statement.{statement}
+use Rattle.octets.proofs.stands_at.Tie as tie
 
 abbrev Inv-loop : tie.InvT-loop
 Inv-loop s at w i₀ i = (i ≤ length w) × (begins (drop i w) (drop (at + i) s) ≡ begins w (drop at s))
