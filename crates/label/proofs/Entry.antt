@@ -59,16 +59,26 @@ value-read test says most n v w i s l =
 given-read : (n : ℕ) (v : List ℕ) → Writes n v → AdvanceRead (Given n) v
 unfolding isAdvance advanceOf unsigned
 given-read n v w =
-    value-read isAdvance (advanceOf v ≡ Given n) 11 n v w (rw (w .full, w .no-minus, w .no-plus, w .is)) (rw (w .full, w .no-minus, w .no-plus, w .val)) (omega arith)
+    value-read isAdvance (advanceOf v ≡ Given n) 11 n v w (rw (w .full, w .no-minus, w .no-plus, w .is)) (rw (w .full, w .no-minus, w .no-plus, w .val))
+    (omega arith)
 
 pos-read : (n : ℕ) (v : List ℕ) → Writes n v → OffsetRead (pos n) v
 unfolding isOffset offsetOf unsigned
 pos-read n v w =
-    value-read isOffset (offsetOf v ≡ pos n) 12 n v w (rw (w .full, w .no-minus, w .no-plus, w .is)) (rw (w .full, w .no-minus, w .no-plus, w .val)) (omega arith)
+    value-read isOffset (offsetOf v ≡ pos n) 12 n v w (rw (w .full, w .no-minus, w .no-plus, w .is)) (rw (w .full, w .no-minus, w .no-plus, w .val))
+    (omega arith)
 
 neg-read : (n : ℕ) (v : List ℕ) → Writes (suc n) v → OffsetRead (negsuc n) (45 ∷ v)
 unfolding isOffset fieldFits roundedField offsetOf unsigned
-neg-read n v w = record { is = w .is; small = w .small; val = rw (w .val); exact = rw (w .exact); short = omega (arith, w .short); comma = w .comma; semi = w .semi }
+neg-read n v w = record {
+  is = w .is;
+  small = w .small;
+  val = rw (w .val);
+  exact = rw (w .exact);
+  short = omega (arith, w .short);
+  comma = w .comma;
+  semi = w .semi;
+}
 
 advance-read : (a : Advance) → advanceFits a ≡ true → AdvanceRead a (advanceBytes a)
 unfolding advanceBytes isAdvance fieldFits roundedField advanceOf
@@ -120,7 +130,8 @@ map-read : (a b n : ℕ) (x : List ℕ) (c : Cut) → none (λ b. eqb b 41) x �
     → IndexRead true a b (Named n) (40 ∷ (x ++ (41 ∷ decimal n)))
 unfolding isIndexPart indexDigits mapUnits mapGlyphs
 map-read a b n x c h e d f va vb c4 c5 =
-    let o : cut (λ b. eqb b 41) (x ++ (41 ∷ decimal n)) ≡ record { before = x; found = true; after = decimal n } = cut-found (λ b. eqb b 41) x 41 (decimal n) h refl in
+    let o : cut (λ b. eqb b 41) (x ++ (41 ∷ decimal n)) ≡ record { before = x; found = true; after = decimal n } = cut-found (λ b. eqb b 41) x 41 (decimal n) h
+    refl in
     record {
       is = rw (o, e, digits-decimal n, d, f);
       mapped = refl;
@@ -163,7 +174,8 @@ mapped-read a b n h =
     (λ t. rw (map-two a b n h t)
     (map-read a b n (decimal a ++ (58 ∷ decimal b)) (record { before = decimal a; found = true; after = decimal b })
     (none-append (λ b. eqb b 41) (decimal a) (58 ∷ decimal b) (digits-free 41 refl a) (digits-free 41 refl b))
-    (cut-found (λ b. eqb b 58) (decimal a) 58 (decimal b) (digits-free 58 refl a) refl) (digits-decimal a) (digits-decimal b) (value-decimal a) (value-decimal b)
+    (cut-found (λ b. eqb b 58) (decimal a) 58 (decimal b) (digits-free 58 refl a) refl) (digits-decimal a) (digits-decimal b) (value-decimal a)
+    (value-decimal b)
     (none-append (λ b. eqb b 44) (decimal a) (58 ∷ decimal b) (digits-free 44 refl a) (digits-free 44 refl b))
     (none-append (λ b. eqb b 59) (decimal a) (58 ∷ decimal b) (digits-free 59 refl a) (digits-free 59 refl b))))
 
@@ -271,7 +283,8 @@ module _ (a b : ℕ) (g : Glyph) (m : glyphFits g ≡ true) where
   entry-index : leb (value (indexDigits (entryPart 0 (entryBytes a b g)))) 65535 ≡ true
   entry-index = rw (the-part 0) (index-small (g .index) (indexBytes a b (g .index)) fits-i (ri .figs))
 
-  entry-numbers : (fieldFits (entryPart 1 (entryBytes a b g)) && fieldFits (entryPart 2 (entryBytes a b g)) && fieldFits (entryPart 3 (entryBytes a b g))) ≡ true
+  entry-numbers : (fieldFits (entryPart 1 (entryBytes a b g)) && fieldFits (entryPart 2 (entryBytes a b g)) && fieldFits
+      (entryPart 3 (entryBytes a b g))) ≡ true
   entry-numbers = rw (the-part 1, the-part 2, the-part 3, ra .small, ru .small, rv .small)
 
   entry-is : entryOf (entryBytes a b g) ≡ back a b g

@@ -57,7 +57,16 @@ empty-is-font a b g =
     let v = offsetBytes (g .v) in
     joined-empty 44 (i ∷ d ∷ u ∷ v ∷ [])
     ∙ trim-empty i (d ∷ u ∷ v ∷ [])
-    ∙ rw (trim-empty d (u ∷ v ∷ []), trim-empty u (v ∷ []), trim-empty v [], trim-nil, index-empty a b (g .index), advance-empty (g .advance), offset-empty (g .u), offset-empty (g .v))
+    ∙ rw (
+      trim-empty d (u ∷ v ∷ []),
+      trim-empty u (v ∷ []),
+      trim-empty v [],
+      trim-nil,
+      index-empty a b (g .index),
+      advance-empty (g .advance),
+      offset-empty (g .u),
+      offset-empty (g .v),
+    )
     (regroup (not (named (g .index))) (not (given (g .advance))) (eqb (size (g .u)) 0) (eqb (size (g .v)) 0))
   where
     regroup : (a b c d : Bool) → (a && (b && (c && (d && true)))) ≡ (a && b && c && d)
@@ -80,7 +89,10 @@ font-is g h = is (g .index) (g .advance) (g .u) (g .v) h
     is (Named n) a u v h = clash false h refl
     is Font (Given n) u v h = clash false h refl
     is Font Own u v h =
-        rw (nothing u (eqb-true (size u) 0 (and-l (eqb (size u) 0) (eqb (size v) 0) h)), nothing v (eqb-true (size v) 0 (and-r (eqb (size u) 0) (eqb (size v) 0) h)))
+        rw (
+          nothing u (eqb-true (size u) 0 (and-l (eqb (size u) 0) (eqb (size v) 0) h)),
+          nothing v (eqb-true (size v) 0 (and-r (eqb (size u) 0) (eqb (size v) 0) h)),
+        )
 
 pub font-empty : (a b : ℕ) (g : Glyph) → isFont g ≡ true → entryBytes a b g ≡ []
 font-empty a b g h = empty-nil (entryBytes a b g) (empty-is-font a b g ∙ h)

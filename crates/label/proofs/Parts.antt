@@ -81,7 +81,8 @@ fits-units (g ∷ gs) false (c ∷ cs) us zero h =
     let r : sum (unitCounts cs) ≡ length (drop (c .units) us) = fits-units gs false cs (drop (c .units) us) (c .glyphs - 1) (f .rest) in
     omega (arith, o .inside, rw length-drop at r)
 
-pub fits-glyphs : (gs : List Glyph) (bare : Bool) (cs : List Cluster) (us : List ℕ) (lack : ℕ) → fits bare lack us cs gs ≡ true → lack + sum (glyphCounts cs) ≡ length gs
+pub fits-glyphs : (gs : List Glyph) (bare : Bool) (cs : List Cluster) (us : List ℕ) (lack : ℕ) → fits bare lack us cs gs ≡ true
+    → lack + sum (glyphCounts cs) ≡ length gs
 fits-glyphs [] bare cs us lack h = let (a, b, c) = fits-nil bare lack us cs h in rw (a, b)
 fits-glyphs (g ∷ gs) bare cs us (suc n) h =
     let r : n + sum (glyphCounts cs) ≡ length gs = fits-glyphs gs bare cs us n (fits-further bare n us cs g gs h .rest) in
@@ -158,7 +159,11 @@ glyphs-flat (i ∷ a ∷ []) h = absurd (false≢true h)
 glyphs-flat (i ∷ a ∷ u ∷ []) h = absurd (false≢true h)
 glyphs-flat (i ∷ a ∷ u ∷ v ∷ zs) h =
     let p : (choice i && choice a) ≡ true = and-l (choice i && choice a) (wholeGlyphs zs) h in
-    rw (index-number i (and-l (choice i) (choice a) p), advance-number a (and-r (choice i) (choice a) p), glyphs-flat zs (and-r (choice i && choice a) (wholeGlyphs zs) h))
+    rw (
+      index-number i (and-l (choice i) (choice a) p),
+      advance-number a (and-r (choice i) (choice a) p),
+      glyphs-flat zs (and-r (choice i && choice a) (wholeGlyphs zs) h),
+    )
 
 pub glyphs-of : (gs : List Glyph) → glyphsOf (flatGlyphs gs) ≡ gs
 unfolding glyphsOf flatGlyphs
@@ -233,5 +238,9 @@ map-at (c ∷ cs) g zero k x =
     in-front (c .units) g k (clusterMap (g + c .glyphs) cs) l ∙ omega arith
 map-at (c ∷ cs) g (suc j) k x =
     let l : c .units ≤ k = omega (arith, x .from) in
-    let y : In (unitCounts cs) j (k - c .units) = record { exists = omega (arith, x .exists); from = omega (arith, x .from); below = omega (arith, x .below, x .from) } in
+    let y : In (unitCounts cs) j (k - c .units) = record {
+      exists = omega (arith, x .exists);
+      from = omega (arith, x .from);
+      below = omega (arith, x .below, x .from);
+    } in
     behind-it (c .units) g k (clusterMap (g + c .glyphs) cs) l ∙ map-at cs (g + c .glyphs) j (k - c .units) y ∙ omega arith

@@ -21,7 +21,11 @@ holding-is (c ∷ cs) n u zero x =
     rw (lt-ltb n (c .glyphs) l, a, b)
 holding-is (c ∷ cs) n u (suc j) x =
     let l : c .glyphs ≤ n = omega (arith, x .from) in
-    let y : In (glyphCounts cs) j (n - c .glyphs) = record { exists = omega (arith, x .exists); from = omega (arith, x .from); below = omega (arith, x .below, x .from) } in
+    let y : In (glyphCounts cs) j (n - c .glyphs) = record {
+      exists = omega (arith, x .exists);
+      from = omega (arith, x .from);
+      below = omega (arith, x .below, x .from);
+    } in
     let a : u + c .units + partStart (unitCounts cs) j ≡ u + (c .units + partStart (unitCounts cs) j) = omega arith in
     let b : u + c .units + partStart (unitCounts cs) (suc j) ≡ u + (c .units + partStart (unitCounts cs) (suc j)) = omega arith in
     rw (le-ltb n (c .glyphs) l) (holding-is cs (n - c .glyphs) (u + c .units) j y ∙ rw (a, b))

@@ -40,7 +40,14 @@ module _ (r : Run) (h : soundRun r ≡ true) where
   pub run-sound : sound (placesOf r) ≡ true
   unfolding sound
   run-sound =
-      rw (halves-even (r .units), words-whole (flatClusters (r .clusters)), words-whole (flatGlyphs (r .glyphs)), halves-back (r .units), clusters-back, glyphs-back)
+      rw (
+        halves-even (r .units),
+        words-whole (flatClusters (r .clusters)),
+        words-whole (flatGlyphs (r .glyphs)),
+        halves-back (r .units),
+        clusters-back,
+        glyphs-back,
+      )
       (rw (clusters-whole (r .clusters), glyphs-whole (r .glyphs), clusters-of (r .clusters), glyphs-of (r .glyphs)) h)
 
 -- ── sound places ──
@@ -93,7 +100,13 @@ places-of z h s =
 pub sound-readable : (z : Places) → inBytes z ≡ true → sound z ≡ true → Readable z
 sound-readable z b h =
     let s : SoundPlaces z = sound-places z h in
-    record { run = runOf z; text = normal (runOf z) .text; indices = normal (runOf z) .indices; reads = read-back (runOf z) (s .run-is); places-are = places-of z b s }
+    record {
+      run = runOf z;
+      text = normal (runOf z) .text;
+      indices = normal (runOf z) .indices;
+      reads = read-back (runOf z) (s .run-is);
+      places-are = places-of z b s;
+    }
 
 pub readable-sound : (z : Places) → Readable z → sound z ≡ true
 readable-sound z w = rw (← w .places-are) (run-sound (w .run) (read-sound (w .text) (w .indices) (w .run) (w .reads)))

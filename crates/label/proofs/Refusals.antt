@@ -60,7 +60,8 @@ module _ (k : ℕ) where
       rw (entry-steps j s)
       (need-placed 15 k (wellFormed s) 7 j _ (omega arith, omega arith) h
       (λ _. need-placed 15 k (leb (value (indexDigits (entryPart 0 s))) maxIndex) 8 j _ (omega arith, omega arith) h
-      (λ _. need-placed 15 k (fieldFits (entryPart 1 s) && fieldFits (entryPart 2 s) && fieldFits (entryPart 3 s)) 9 j _ (omega arith, omega arith) h (λ _. fine))))
+      (λ _. need-placed 15 k (fieldFits (entryPart 1 s) && fieldFits (entryPart 2 s) && fieldFits (entryPart 3 s)) 9 j _ (omega arith, omega arith) h
+      (λ _. fine))))
 
   checks-placed : (bare : Bool) (st : State) (e : Entry) → st .k ≤ k → st .at + length (st .rest) ≤ k → Placed 15 k (placed bare st e)
   checks-placed bare st e h r =
@@ -71,7 +72,8 @@ module _ (k : ℕ) where
       (λ t. cases (opensUnits bare st)
       (λ x.
       let l = leb-true (e .units) (length (st .rest)) (rw x at t) in
-      need-placed 15 k (not (opensUnits bare st) || keepsPair (e .units) (st .rest)) 13 (st .at + e .units) _ (omega arith, omega arith) (omega arith) (λ _. fine))
+      need-placed 15 k (not (opensUnits bare st) || keepsPair (e .units) (st .rest)) 13 (st .at + e .units) _ (omega arith, omega arith) (omega arith)
+      (λ _. fine))
       (λ x. rw x fine)))))
 
   step-placed : (bare : Bool) (st : State) (s : List ℕ) → st .k ≤ k → st .at + length (st .rest) ≤ k → Placed 15 k (step bare st s)
@@ -82,7 +84,8 @@ module _ (k : ℕ) where
   cond-below true p q = p
   cond-below false p q = q
 
-  walk-placed : (ss : List (List ℕ)) (bare : Bool) (st : State) → st .k + length ss ≤ k → st .at + length (st .rest) ≤ k → st .opener ≤ k → Placed 15 k (walk bare st ss)
+  walk-placed : (ss : List (List ℕ)) (bare : Bool) (st : State) → st .k + length ss ≤ k → st .at + length (st .rest) ≤ k → st .opener ≤ k
+      → Placed 15 k (walk bare st ss)
   walk-placed [] bare st h r o = rw (walk-end bare st) (need-placed 15 k (opens st) 14 (st .opener) _ (omega arith, omega arith) o (λ _. fine))
   walk-placed (s ∷ ss) bare st h r o =
       rw (walk-first bare st s ss)
@@ -98,7 +101,8 @@ module _ (k : ℕ) where
   run-placed us indices h e =
       rw (run-steps us indices)
       (need-placed 15 k (not (empty us && empty indices)) 6 0 _ (omega arith, omega arith) (omega arith)
-      (λ _. bind-placed 15 k (walk (empty us) (startState us) (entries indices)) _ (walk-placed (entries indices) (empty us) (startState us) (omega arith) (omega arith) (omega arith))
+      (λ _. bind-placed 15 k (walk (empty us) (startState us) (entries indices)) _
+      (walk-placed (entries indices) (empty us) (startState us) (omega arith) (omega arith) (omega arith))
       (λ p _. need-placed 15 k (leb (length (p .glyphs)) maxGlyphs) 15 0 _ (omega arith, omega arith) (omega arith) (λ _. fine))))
 
 -- the units of an accepted text

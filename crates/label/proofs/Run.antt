@@ -75,7 +75,14 @@ step-open : (k at : ℕ) (rest : List ℕ) (opener a b : ℕ) (g : Glyph) → gl
     → a ≤ length rest → keepsPair a rest ≡ true → step false (state k at rest 0 opener) (entryBytes a b g) ≡ ok (opened a b g)
 unfolding step
 step-open k at rest opener a b g m f ha hb hl w =
-    rw (entry-read a b g m k ∙ ap ok (back-open a b g ha f), placed-steps false (state k at rest 0 opener) (opened a b g), le-leb 1 a ha, le-leb 1 b hb, le-leb a (length rest) hl, w)
+    rw (
+      entry-read a b g m k ∙ ap ok (back-open a b g ha f),
+      placed-steps false (state k at rest 0 opener) (opened a b g),
+      le-leb 1 a ha,
+      le-leb 1 b hb,
+      le-leb a (length rest) hl,
+      w,
+    )
 
 -- ── what `fits` says ──
 
@@ -88,8 +95,11 @@ written-nil (suc n) cs = refl
 pub fits-nil : (bare : Bool) (lack : ℕ) (us : List ℕ) (cs : List Cluster) → fits bare lack us cs [] ≡ true → (lack ≡ 0) × (cs ≡ []) × (us ≡ [])
 unfolding fits
 fits-nil bare lack us cs h =
-    let p : (eqb lack 0 && empty cs) ≡ true = and-l (eqb lack 0 && empty cs) (empty us) h in
-    (eqb-true lack 0 (and-l (eqb lack 0) (empty cs) p), empty-nil cs (and-r (eqb lack 0) (empty cs) p), empty-nil us (and-r (eqb lack 0 && empty cs) (empty us) h))
+    let p : (eqb lack 0 && empty cs) ≡ true = and-l (eqb lack 0 && empty cs) (empty us) h in (
+      eqb-true lack 0 (and-l (eqb lack 0) (empty cs) p),
+      empty-nil cs (and-r (eqb lack 0) (empty cs) p),
+      empty-nil us (and-r (eqb lack 0 && empty cs) (empty us) h),
+    )
 
 -- what `fits` says of a further glyph, and of one that opens a cluster
 pub record Further (bare : Bool) (n : ℕ) (us : List ℕ) (cs : List Cluster) (g : Glyph) (gs : List Glyph) : Type 0 where
@@ -117,7 +127,8 @@ pub fits-opening : (bare : Bool) (us : List ℕ) (c : Cluster) (cs : List Cluste
     → Opening bare us c cs g gs
 unfolding fits
 fits-opening bare us c cs g gs h =
-    let p : (glyphFits g && mayOpen bare us c g gs) ≡ true = and-l (glyphFits g && mayOpen bare us c g gs) (fits bare (c .glyphs - 1) (drop (c .units) us) cs gs) h in
+    let p : (glyphFits g && mayOpen bare us c g gs) ≡ true = and-l (glyphFits g && mayOpen bare us c g gs)
+    (fits bare (c .glyphs - 1) (drop (c .units) us) cs gs) h in
     record {
       small = and-l (glyphFits g) (mayOpen bare us c g gs) p;
       may = and-r (glyphFits g) (mayOpen bare us c g gs) p;
@@ -212,7 +223,8 @@ font-wide us c g gs o h = ⊎-elim plain (λ p. (rw (p .pair, p .two), p .one)) 
         (plain-wide us (rw u at (o .whole-pairs)) ∙ sym u, v)
 
 -- the tail begins with a cluster that is wholly the font's, and goes on behind it
-font-more : (us : List ℕ) (c : Cluster) (cs : List Cluster) (g : Glyph) (gs : List Glyph) → Opens us c g gs → isFont g ≡ true → tail (drop (c .units) us) ≡ parts cs gs
+font-more : (us : List ℕ) (c : Cluster) (cs : List Cluster) (g : Glyph) (gs : List Glyph) → Opens us c g gs → isFont g ≡ true
+    → tail (drop (c .units) us) ≡ parts cs gs
     → tail us ≡ parts (c ∷ cs) (g ∷ gs)
 font-more us c cs g gs o h t =
     let (w, one) = font-wide us c g gs o h in
@@ -240,7 +252,8 @@ walk-opens k at us opener c cs g gs m o f r =
     cases (empty e && empty (trim ss))
     (λ t. let i : isFont g ≡ true = sym (empty-is-font (c .units) (c .glyphs) g) ∙ and-l (empty e) (empty (trim ss)) t in
     let n : trim ss ≡ [] = empty-nil (trim ss) (and-r (empty e) (empty (trim ss)) t) in
-    let b : tail (drop (c .units) us) ≡ parts cs gs = ok-path _ _ (sym (walk-nil false (suc k) (at + c .units) (drop (c .units) us) k) ∙ rw (n, font-wide us c g gs o i .1) at r) in
+    let b : tail (drop (c .units) us) ≡ parts cs gs = ok-path _ _
+    (sym (walk-nil false (suc k) (at + c .units) (drop (c .units) us) k) ∙ rw (n, font-wide us c g gs o i .1) at r) in
     rw (trim-gone e ss t) (walk-nil false k at us opener ∙ ap ok (font-more us c cs g gs o i b)))
     (λ t. rw (trim-kept e ss t)
     (walk-step false (state k at us 0 opener) e (trim ss) (opened (c .units) (c .glyphs) g) (parts cs gs)
@@ -251,7 +264,8 @@ trim-named : (a b : ℕ) (g : Glyph) (ss : List (List ℕ)) → named (g .index)
 trim-named a b g ss h = trim-kept (entryBytes a b g) ss (rw (entry-full a b g h))
 
 -- the walk over the entries that are left gives the clusters and the glyphs
-walk-back : (gs : List Glyph) (bare : Bool) (cs : List Cluster) (k at : ℕ) (us : List ℕ) (lack opener : ℕ) → keepsPair 0 us ≡ true → fits bare lack us cs gs ≡ true
+walk-back : (gs : List Glyph) (bare : Bool) (cs : List Cluster) (k at : ℕ) (us : List ℕ) (lack opener : ℕ) → keepsPair 0 us ≡ true
+    → fits bare lack us cs gs ≡ true
     → walk bare (state k at us lack opener) (trim (entryList lack cs gs)) ≡ ok (parts cs gs)
 unfolding entryList
 walk-back [] bare cs k at us lack opener w h =
@@ -272,7 +286,8 @@ walk-back (g ∷ gs) true (c ∷ cs) k at us zero opener w h =
     let r : walk true (next true (state k at us 0 opener) (back 0 1 g)) (trim (entryList (1 - 1) cs gs)) ≡ ok (parts cs gs) =
     walk-back gs true cs (suc k) (at + 0) us 0 k w (rw (o .none, o .one) at (f .rest)) in
     rw (o .none, o .one, trim-named 0 1 g (entryList (1 - 1) cs gs) (o .name))
-    (walk-step true (state k at us 0 opener) (entryBytes 0 1 g) (trim (entryList (1 - 1) cs gs)) (back 0 1 g) (parts cs gs) (step-bare k at us opener g (f .small) (o .name)) r)
+    (walk-step true (state k at us 0 opener) (entryBytes 0 1 g) (trim (entryList (1 - 1) cs gs)) (back 0 1 g) (parts cs gs)
+    (step-bare k at us opener g (f .small) (o .name)) r)
 walk-back (g ∷ gs) false (c ∷ cs) k at us zero opener w h =
     let f : Opening false us c cs g gs = fits-opening false us c cs g gs h in
     let o : Opens us c g gs = may-opens us c g gs (f .may) in
@@ -306,7 +321,13 @@ step-ok bare st s e h =
     let (t12, b12) = need-ok (not (opensUnits bare st) || leb (x .units) (length (st .rest))) 12 (st .k) _ e b11 in
     let (t13, b13) = need-ok (not (opensUnits bare st) || keepsPair (x .units) (st .rest)) 13 (st .at + x .units) _ e b12 in
     let q : x ≡ e = ok-path x e b13 in
-    subst (λ (y : Entry). Stepped bare st s y) q (record { is = a; ten = t10; eleven = t11; twelve = within-rest (opensUnits bare st) (x .units) (length (st .rest)) t12; thirteen = t13 })
+    subst (λ (y : Entry). Stepped bare st s y) q (record {
+      is = a;
+      ten = t10;
+      eleven = t11;
+      twelve = within-rest (opensUnits bare st) (x .units) (length (st .rest)) t12;
+      thirteen = t13;
+    })
 
 pub record Walked (bare : Bool) (st : State) (s : List ℕ) (ss : List (List ℕ)) (p : Parts) : Type 0 where
   pub first : Entry
@@ -352,7 +373,8 @@ written-each P p (g ∷ gs) bare (c ∷ cs) us zero h =
     let f : Opening bare us c cs g gs = fits-opening bare us c cs g gs h in
     (p (c .units) (c .glyphs) g (f .small), written-each P p gs bare cs (drop (c .units) us) (c .glyphs - 1) (f .rest))
 
-pub written-semi : (gs : List Glyph) (bare : Bool) (cs : List Cluster) (us : List ℕ) (lack : ℕ) → fits bare lack us cs gs ≡ true → allFree 59 (entryList lack cs gs) ≡ true
+pub written-semi : (gs : List Glyph) (bare : Bool) (cs : List Cluster) (us : List ℕ) (lack : ℕ) → fits bare lack us cs gs ≡ true
+    → allFree 59 (entryList lack cs gs) ≡ true
 written-semi gs bare cs us lack h = go (entryList lack cs gs) (written-each (λ x. free 59 x ≡ true) entry-semi gs bare cs us lack h)
   where
     go : (l : List (List ℕ)) → Each (λ x. free 59 x ≡ true) l → allFree 59 l ≡ true
@@ -365,7 +387,8 @@ fits-lack [] bare cs us lack h = let z : lack ≡ 0 = fits-nil bare lack us cs h
 fits-lack (g ∷ gs) bare cs us zero h = omega arith
 fits-lack (g ∷ gs) bare cs us (suc n) h = let r : n ≤ length gs = fits-lack gs bare cs us n (fits-further bare n us cs g gs h .rest) in omega arith
 
-pub written-total : (gs : List Glyph) (bare : Bool) (cs : List Cluster) (us : List ℕ) (lack : ℕ) → length us < 100000 → length gs < 100000 → fits bare lack us cs gs ≡ true
+pub written-total : (gs : List Glyph) (bare : Bool) (cs : List Cluster) (us : List ℕ) (lack : ℕ) → length us < 100000 → length gs < 100000
+    → fits bare lack us cs gs ≡ true
     → total (entryList lack cs gs) ≤ 58 * length gs
 unfolding entryList
 written-total [] bare cs us lack hu hg h = omega arith
@@ -398,7 +421,8 @@ pub record Indices (bare : Bool) (us : List ℕ) (cs : List Cluster) (gs : List 
   pub back-again : walk bare (startState us) (entries (indicesOf cs gs)) ≡ ok (parts cs gs)
   pub short : length (indicesOf cs gs) ≤ 262144
 
-pub indices-back : (bare : Bool) (us : List ℕ) (cs : List Cluster) (gs : List Glyph) → keepsPair 0 us ≡ true → length us ≤ 4096 → length gs ≤ 4096 → fits bare 0 us cs gs ≡ true
+pub indices-back : (bare : Bool) (us : List ℕ) (cs : List Cluster) (gs : List Glyph) → keepsPair 0 us ≡ true → length us ≤ 4096 → length gs ≤ 4096
+    → fits bare 0 us cs gs ≡ true
     → Indices bare us cs gs
 unfolding indicesOf
 indices-back bare us cs gs w hu hg h =

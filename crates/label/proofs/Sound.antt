@@ -69,9 +69,11 @@ map-names p h m =
     let q : (atParenthesis p .found && digits (atParenthesis p .after) && digits (i .before) && cond (i .found) (digits (i .after)) true) ≡ true = rw m at h in
     let q1 : (atParenthesis p .found && digits (atParenthesis p .after) && digits (i .before)) ≡ true =
     and-l (atParenthesis p .found && digits (atParenthesis p .after) && digits (i .before)) (cond (i .found) (digits (i .after)) true) q in
-    let q2 : (atParenthesis p .found && digits (atParenthesis p .after)) ≡ true = and-l (atParenthesis p .found && digits (atParenthesis p .after)) (digits (i .before)) q1 in
+    let q2 : (atParenthesis p .found && digits (atParenthesis p .after)) ≡ true = and-l (atParenthesis p .found && digits (atParenthesis p .after))
+    (digits (i .before)) q1 in
     let q3 : digits (atParenthesis p .after) ≡ true = and-r (atParenthesis p .found) (digits (atParenthesis p .after)) q2 in
-    let n : empty (atParenthesis p .after) ≡ false = not-true (empty (atParenthesis p .after)) (and-l (not (empty (atParenthesis p .after))) (allDigits (atParenthesis p .after)) q3) in
+    let n : empty (atParenthesis p .after) ≡ false = not-true (empty (atParenthesis p .after))
+    (and-l (not (empty (atParenthesis p .after))) (allDigits (atParenthesis p .after)) q3) in
     rw (m, n)
 
 formed-index : (s : List ℕ) → wellFormed s ≡ true → isIndexPart (entryPart 0 s) ≡ true
@@ -94,7 +96,12 @@ facts-of s t7 t8 t9 =
     let m12 : (m1 && m2) ≡ true = and-l (m1 && m2) m3 t9 in
     record {
       small =
-          rw (index-fits (entryPart 0 s) t8, advance-fits (entryPart 1 s) (and-l m1 m2 m12), offset-fits (entryPart 2 s) (and-r m1 m2 m12), offset-fits (entryPart 3 s) (and-r (m1 && m2) m3 t9));
+          rw (
+            index-fits (entryPart 0 s) t8,
+            advance-fits (entryPart 1 s) (and-l m1 m2 m12),
+            offset-fits (entryPart 2 s) (and-r m1 m2 m12),
+            offset-fits (entryPart 3 s) (and-r (m1 && m2) m3 t9),
+          );
       map-named = λ m. map-names (entryPart 0 s) (formed-index s t7) m;
       no-map = λ m. (rw m, rw m);
     }
@@ -129,11 +136,18 @@ tail-fits (u ∷ []) h = fits-open-is false (u ∷ []) (cluster 1 1) [] fontGlyp
 tail-fits (u ∷ v ∷ us) h =
     cases (isPair (u ∷ v ∷ us))
     (λ p. let w : keepsPair 2 (u ∷ v ∷ us) ≡ true = pair-whole (u ∷ v ∷ us) h p in
-    let o : mayOpen false (u ∷ v ∷ us) (cluster 2 1) fontGlyph (tail us .glyphs) ≡ true = rw (le-leb 2 (suc (suc (length us))) (omega arith), w, p, tail-font us) in
-    rw p (fits-open-is false (u ∷ v ∷ us) (cluster 2 1) (tail us .clusters) fontGlyph (tail us .glyphs) refl o (tail-fits us (proper-behind (u ∷ v ∷ us) 2 h w))))
+    let o : mayOpen false (u ∷ v ∷ us) (cluster 2 1) fontGlyph (tail us .glyphs) ≡ true = rw (
+      le-leb 2 (suc (suc (length us))) (omega arith),
+      w,
+      p,
+      tail-font us,
+    ) in
+    rw p (fits-open-is false (u ∷ v ∷ us) (cluster 2 1) (tail us .clusters) fontGlyph (tail us .glyphs) refl o
+    (tail-fits us (proper-behind (u ∷ v ∷ us) 2 h w))))
     (λ p. let w : keepsPair 1 (u ∷ v ∷ us) ≡ true = plain-whole (u ∷ v ∷ us) h p in
     let o : mayOpen false (u ∷ v ∷ us) (cluster 1 1) fontGlyph (tail (v ∷ us) .glyphs) ≡ true = rw (le-leb 1 (suc (suc (length us))) (omega arith), w) in
-    rw p (fits-open-is false (u ∷ v ∷ us) (cluster 1 1) (tail (v ∷ us) .clusters) fontGlyph (tail (v ∷ us) .glyphs) refl o (tail-fits (v ∷ us) (proper-behind (u ∷ v ∷ us) 1 h w))))
+    rw p (fits-open-is false (u ∷ v ∷ us) (cluster 1 1) (tail (v ∷ us) .clusters) fontGlyph (tail (v ∷ us) .glyphs) refl o
+    (tail-fits (v ∷ us) (proper-behind (u ∷ v ∷ us) 1 h w))))
 
 -- ── the walk ──
 
@@ -142,7 +156,8 @@ walk-over bare k at us lack opener p h =
     let (t, b) = need-ok (eqb lack 0) 14 opener _ p (sym (walk-end bare (state k at us lack opener)) ∙ h) in
     (eqb-true lack 0 t, ok-path (tail us) p b)
 
-next-further : (bare : Bool) (k at : ℕ) (us : List ℕ) (n opener : ℕ) (e : Entry) → next bare (state k at us (suc n) opener) e ≡ state (suc k) (at + 0) us n opener
+next-further : (bare : Bool) (k at : ℕ) (us : List ℕ) (n opener : ℕ) (e : Entry)
+    → next bare (state k at us (suc n) opener) e ≡ state (suc k) (at + 0) us n opener
 next-further bare k at us n opener e = let d : suc n - 1 ≡ n = omega arith in rw (eqb·suc-zero n, d)
 
 or-false : (b : Bool) → (false || b) ≡ true → b ≡ true
@@ -165,7 +180,8 @@ may-open-is us e gs f h10 h12 h13 =
     (λ m. rw (eq-eqb (e .units) 1 (f .no-map m .0), eq-eqb (e .glyphs) 1 (f .no-map m .1)) (or-true (named (e .glyph .index)))) in
     rw (and-l (leb 1 (e .units)) (leb 1 (e .glyphs)) h10, and-r (leb 1 (e .units)) (leb 1 (e .glyphs)) h10, h12, h13, n)
 
-pub walk-fits : (ss : List (List ℕ)) (bare : Bool) (k at : ℕ) (us : List ℕ) (lack opener : ℕ) (p : Parts) → (bare ≡ true → us ≡ []) → properUnits false us ≡ true
+pub walk-fits : (ss : List (List ℕ)) (bare : Bool) (k at : ℕ) (us : List ℕ) (lack opener : ℕ) (p : Parts) → (bare ≡ true → us ≡ [])
+    → properUnits false us ≡ true
     → walk bare (state k at us lack opener) ss ≡ ok p → fits bare lack us (p .clusters) (p .glyphs) ≡ true
 walk-fits [] true k at us lack opener p b q h =
     let (l, t) = walk-over true k at us lack opener p h in
@@ -180,10 +196,12 @@ walk-fits (s ∷ ss) bare k at us (suc n) opener p b q h =
     let w : walk bare (state (suc k) (at + 0) us n opener) ss ≡ ok (x .others) =
     subst (λ (st : State). walk bare st ss ≡ ok (x .others)) (next-further bare k at us n opener (x .first)) (x .walked) in
     let r : fits bare n us (x .others .clusters) (x .others .glyphs) ≡ true = walk-fits ss bare (suc k) (at + 0) us n opener (x .others) b q w in
-    let a : (not (x .first .mapped) && named (x .first .glyph .index)) ≡ true = or-false (not (x .first .mapped) && named (x .first .glyph .index)) (further-allowed bare k at us n opener (x .first) (y .eleven)) in
+    let a : (not (x .first .mapped) && named (x .first .glyph .index)) ≡ true = or-false (not (x .first .mapped) && named (x .first .glyph .index))
+    (further-allowed bare k at us n opener (x .first) (y .eleven)) in
     subst (λ (r : Parts). fits bare (suc n) us (r .clusters) (r .glyphs) ≡ true)
     (further-is n (cluster (takes bare (state k at us (suc n) opener) (x .first)) (x .first .glyphs)) (x .first .glyph) (x .others) ∙ x .is)
-    (fits-further-is bare n us (x .others .clusters) (x .first .glyph) (x .others .glyphs) (f .small) (and-r (not (x .first .mapped)) (named (x .first .glyph .index)) a) r)
+    (fits-further-is bare n us (x .others .clusters) (x .first .glyph) (x .others .glyphs) (f .small)
+    (and-r (not (x .first .mapped)) (named (x .first .glyph .index)) a) r)
   where
     further-allowed : (bare : Bool) (k at : ℕ) (us : List ℕ) (n opener : ℕ) (e : Entry) → allowed bare (state k at us (suc n) opener) e ≡ true
         → (false || (not (e .mapped) && named (e .glyph .index))) ≡ true
@@ -199,14 +217,16 @@ walk-fits (s ∷ ss) true k at us zero opener p b q h =
     let r : fits true (x .first .glyphs - 1) us (x .others .clusters) (x .others .glyphs) ≡ true =
     walk-fits ss true (suc k) (at + 0) us (x .first .glyphs - 1) k (x .others) b q (x .walked) in
     subst (λ (r : Parts). fits true 0 us (r .clusters) (r .glyphs) ≡ true) (x .is)
-    (fits-open-is true us (cluster 0 (x .first .glyphs)) (x .others .clusters) (x .first .glyph) (x .others .glyphs) (f .small) (may-bare-is us (x .first) (x .others .glyphs) f (y .eleven)) r)
+    (fits-open-is true us (cluster 0 (x .first .glyphs)) (x .others .clusters) (x .first .glyph) (x .others .glyphs) (f .small)
+    (may-bare-is us (x .first) (x .others .glyphs) f (y .eleven)) r)
 walk-fits (s ∷ ss) false k at us zero opener p b q h =
     let st = state k at us 0 opener in
     let x : Walked false st s ss p = walk-ok false st s ss p h in
     let y : Stepped false st s (x .first) = step-ok false st s (x .first) (x .stepped) in
     let f : EntryFacts (x .first) = entry-facts k s (x .first) (y .is) in
     let r : fits false (x .first .glyphs - 1) (drop (x .first .units) us) (x .others .clusters) (x .others .glyphs) ≡ true =
-    walk-fits ss false (suc k) (at + x .first .units) (drop (x .first .units) us) (x .first .glyphs - 1) k (x .others) (λ z. clash false z refl) (proper-behind us (x .first .units) q (y .thirteen)) (x .walked) in
+    walk-fits ss false (suc k) (at + x .first .units) (drop (x .first .units) us) (x .first .glyphs - 1) k (x .others) (λ z. clash false z refl)
+    (proper-behind us (x .first .units) q (y .thirteen)) (x .walked) in
     subst (λ (r : Parts). fits false 0 us (r .clusters) (r .glyphs) ≡ true) (x .is)
     (fits-open-is false us (cluster (x .first .units) (x .first .glyphs)) (x .others .clusters) (x .first .glyph) (x .others .glyphs) (f .small)
     (may-open-is us (x .first) (x .others .glyphs) f (y .ten) (y .twelve) (y .thirteen)) r)
@@ -298,7 +318,8 @@ walk-some : (bare : Bool) (st : State) (ss : List (List ℕ)) (p : Parts) → em
 walk-some bare st [] p e h = clash true refl e
 walk-some bare st (s ∷ ss) p e h =
     let x : Walked bare st s ss p = walk-ok bare st s ss p h in
-    subst (λ (q : Parts). empty (q .glyphs) ≡ false) (x .is) (some (opens st) (cluster (takes bare st (x .first)) (x .first .glyphs)) (x .first .glyph) (x .others))
+    subst (λ (q : Parts). empty (q .glyphs) ≡ false) (x .is) (some (opens st) (cluster (takes bare st (x .first)) (x .first .glyphs)) (x .first .glyph)
+    (x .others))
   where
     some : (b : Bool) (c : Cluster) (g : Glyph) (q : Parts) → empty (addGlyph b c g q .glyphs) ≡ false
     some true c g q = refl
@@ -333,7 +354,8 @@ read-sound text indices r h =
     (λ e. let i : empty indices ≡ false = nand (empty us) (empty indices) (x .sixth) e in
     rw (walk-some (empty us) (startState us) (entries indices) (x .made) (entries-some indices i) (x .walked)) (and-not (empty us)))
     (λ e. rw e) in
-    subst (λ (q : Run). soundRun q ≡ true) (x .is) (all-sound us (x .made .clusters) (x .made .glyphs) p (text-ok text us (x .text-is) .fifth) (x .fifteenth) n f)
+    subst (λ (q : Run). soundRun q ≡ true) (x .is) (all-sound us (x .made .clusters) (x .made .glyphs) p (text-ok text us (x .text-is) .fifth) (x .fifteenth) n
+    f)
   where
     and-not : (a : Bool) → not (a && false) ≡ true
     and-not true = refl
@@ -379,7 +401,8 @@ read-back r h =
     indices-back (empty (r .units)) (r .units) (r .clusters) (r .glyphs) (proper-first (r .units) (s .proper)) (s .few-units) (s .few-glyphs) (s .fit) in
     let n : not (empty (r .units) && empty (indicesOf (r .clusters) (r .glyphs))) ≡ true =
     cases (empty (r .units))
-    (λ e. rw (indices-full (r .units) (r .clusters) (r .glyphs) (nand (empty (r .units)) (empty (r .glyphs)) (s .some) e) (rw e at (s .fit))) (and-not (empty (r .units))))
+    (λ e. rw (indices-full (r .units) (r .clusters) (r .glyphs) (nand (empty (r .units)) (empty (r .glyphs)) (s .some) e) (rw e at (s .fit)))
+    (and-not (empty (r .units))))
     (λ e. rw e) in
     read-steps (textOf (r .units)) (indicesOf (r .clusters) (r .glyphs)) ∙ rw (
       le-leb (length (textOf (r .units))) 16384 (t .short (s .few-units)),

@@ -34,12 +34,14 @@ use Rattle.label.specs.declared.Lengths.{Lengths}
 -- ── a list of checks before an outcome ──
 
 -- a check in front is a `need`
-pub check-need : {A : Type 0} (t : Bool) (n p : ℕ) (cs : List Check) (o : Outcome A) → (verdict (check (not t) n p ∷ cs) >> o) ≡ (need t n p >> (verdict cs >> o))
+pub check-need : {A : Type 0} (t : Bool) (n p : ℕ) (cs : List Check) (o : Outcome A)
+    → (verdict (check (not t) n p ∷ cs) >> o) ≡ (need t n p >> (verdict cs >> o))
 unfolding verdict
 check-need true n p cs o = refl
 check-need false n p cs o = refl
 
-pub check-cause : {A : Type 0} (h : Bool) (n p : ℕ) (cs : List Check) (o : Outcome A) → (verdict (check h n p ∷ cs) >> o) ≡ (need (not h) n p >> (verdict cs >> o))
+pub check-cause : {A : Type 0} (h : Bool) (n p : ℕ) (cs : List Check) (o : Outcome A)
+    → (verdict (check h n p ∷ cs) >> o) ≡ (need (not h) n p >> (verdict cs >> o))
 unfolding verdict
 check-cause true n p cs o = refl
 check-cause false n p cs o = refl
@@ -51,13 +53,15 @@ check-last true n p o = refl
 check-last false n p o = refl
 
 -- causes in the papers' words
-pub check-and : {A : Type 0} (a b : Bool) (n p : ℕ) (cs : List Check) (o : Outcome A) → (verdict (check (a && not b) n p ∷ cs) >> o) ≡ (need (not a || b) n p >> (verdict cs >> o))
+pub check-and : {A : Type 0} (a b : Bool) (n p : ℕ) (cs : List Check) (o : Outcome A)
+    → (verdict (check (a && not b) n p ∷ cs) >> o) ≡ (need (not a || b) n p >> (verdict cs >> o))
 unfolding verdict
 check-and true true n p cs o = refl
 check-and true false n p cs o = refl
 check-and false b n p cs o = refl
 
-pub check-or : {A : Type 0} (a b : Bool) (n p : ℕ) (cs : List Check) (o : Outcome A) → (verdict (check (not a || not b) n p ∷ cs) >> o) ≡ (need (a && b) n p >> (verdict cs >> o))
+pub check-or : {A : Type 0} (a b : Bool) (n p : ℕ) (cs : List Check) (o : Outcome A)
+    → (verdict (check (not a || not b) n p ∷ cs) >> o) ≡ (need (a && b) n p >> (verdict cs >> o))
 unfolding verdict
 check-or true true n p cs o = refl
 check-or true false n p cs o = refl
@@ -120,7 +124,8 @@ decode-inside skip at b bs = refl
 
 pub decode-char : (at b : ℕ) (bs : List ℕ)
     → decode 0 at (b ∷ bs)
-    ≡ (need (startsChar b bs) 2 at >> (need (xmlChar (codePoint b bs)) 3 at >> (decode (following b bs) (suc at) bs >>= (λ us. ok (unitsOf (codePoint b bs) ++ us)))))
+    ≡ (need (startsChar b bs) 2 at >> (need (xmlChar (codePoint b bs)) 3 at >>
+    (decode (following b bs) (suc at) bs >>= (λ us. ok (unitsOf (codePoint b bs) ++ us)))))
 unfolding decode each pieces
 decode-char at b bs =
     let ps : List Piece = pieces following (following b bs) (suc at) bs in
@@ -143,7 +148,8 @@ text-steps text =
     let few : Bool = leb (length (unmarked all)) maxUnits in
     let five : List Check = check (not few) 5 0 ∷ [] in
     verdict-append cs (check (braced all && not (marked all)) 4 0 ∷ five) (ok (unmarked all))
-    ∙ ap (λ (x : Outcome (List ℕ)). verdict cs >> x) (check-and (braced all) (marked all) 4 0 five (ok (unmarked all)) ∙ rw (check-last few 5 0 (ok (unmarked all))))
+    ∙ ap (λ (x : Outcome (List ℕ)). verdict cs >> x) (check-and (braced all) (marked all) 4 0 five (ok (unmarked all))
+    ∙ rw (check-last few 5 0 (ok (unmarked all))))
     ∙ sym (seq-bind (verdict cs) all (λ us. fourFive us))
 
 -- ── the entries ──
@@ -153,7 +159,8 @@ pub entry-steps : (k : ℕ) (s : List ℕ)
     >> (need (fieldFits (entryPart 1 s) && fieldFits (entryPart 2 s) && fieldFits (entryPart 3 s)) 9 k >> ok (entryOf s))))
 unfolding entry entryChecks
 entry-steps k s =
-    by-steps (test (wellFormed s) 7 k ∷ test (leb (value (indexDigits (entryPart 0 s))) maxIndex) 8 k ∷ test (fieldFits (entryPart 1 s) && fieldFits (entryPart 2 s) && fieldFits (entryPart 3 s)) 9 k ∷ [])
+    by-steps (test (wellFormed s) 7 k ∷ test (leb (value (indexDigits (entryPart 0 s))) maxIndex) 8 k ∷ test
+    (fieldFits (entryPart 1 s) && fieldFits (entryPart 2 s) && fieldFits (entryPart 3 s)) 9 k ∷ [])
     (ok (entryOf s))
 
 -- a cause that is asked where x holds
@@ -163,12 +170,14 @@ asked-where false y = refl
 
 pub placed-steps : (bare : Bool) (st : State) (e : Entry)
     → placed bare st e ≡ (need (leb 1 (e .units) && leb 1 (e .glyphs)) 10 (st .k) >> (need (allowed bare st e) 11 (st .k)
-    >> (need (not (opensUnits bare st) || leb (e .units) (length (st .rest))) 12 (st .k) >> (need (not (opensUnits bare st) || keepsPair (e .units) (st .rest)) 13 (st .at + e .units) >> ok e))))
+    >> (need (not (opensUnits bare st) || leb (e .units) (length (st .rest))) 12 (st .k) >>
+    (need (not (opensUnits bare st) || keepsPair (e .units) (st .rest)) 13 (st .at + e .units) >> ok e))))
 unfolding placed placeChecks
 placed-steps bare st e =
     let x : Bool = opensUnits bare st in
     let ts : List Test =
-    test (allowed bare st e) 11 (st .k) ∷ test (not x || leb (e .units) (length (st .rest))) 12 (st .k) ∷ test (not x || keepsPair (e .units) (st .rest)) 13 (st .at + e .units) ∷ [] in
+    test (allowed bare st e) 11 (st .k) ∷ test (not x || leb (e .units) (length (st .rest))) 12 (st .k) ∷ test (not x || keepsPair (e .units) (st .rest)) 13
+    (st .at + e .units) ∷ [] in
     rw (zero-is (e .units), zero-is (e .glyphs), asked-where x (leb (e .units) (length (st .rest))), asked-where x (keepsPair (e .units) (st .rest)))
     (check-or (leb 1 (e .units)) (leb 1 (e .glyphs)) 10 (st .k) (checksOf ts) (ok e) ∙ rw (by-steps ts (ok e)))
 
@@ -258,18 +267,22 @@ pub write-steps : (asked : Bool) (m : Lengths) (z : Places) → writeAsked asked
 unfolding writeAsked writeChecks
 write-steps asked m z =
     let l : Label = saidLabel asked z in
-    by-steps (test (sound z) 19 0 ∷ test (leb (length (l .text)) (m .text)) 20 (length (l .text)) ∷ test (leb (length (l .indices)) (m .indices)) 21 (length (l .indices)) ∷ [])
+    by-steps (test (sound z) 19 0 ∷ test (leb (length (l .text)) (m .text)) 20 (length (l .text)) ∷ test (leb (length (l .indices)) (m .indices)) 21
+    (length (l .indices)) ∷ [])
     (ok l)
 
 pub units-steps : (z : Places) (first end : ℕ)
     → pickUnits z first end ≡ (need (sound z) 19 0 >> (need (inside first end (length (runOf z .glyphs))) 22 0 >> ok (touched first end (runOf z .clusters))))
 unfolding pickUnits pickChecks
-units-steps z first end = by-steps (test (sound z) 19 0 ∷ test (inside first end (length (runOf z .glyphs))) 22 0 ∷ []) (ok (touched first end (runOf z .clusters)))
+units-steps z first end = by-steps (test (sound z) 19 0 ∷ test (inside first end (length (runOf z .glyphs))) 22 0 ∷ [])
+    (ok (touched first end (runOf z .clusters)))
 
 pub glyphs-steps : (z : Places) (first end : ℕ)
-    → pickGlyphs z first end ≡ (need (sound z) 19 0 >> (need (inside first end (length (runOf z .units))) 22 0 >> ok (touched first end (turned (runOf z .clusters)))))
+    → pickGlyphs z first end ≡ (need (sound z) 19 0 >> (need (inside first end (length (runOf z .units))) 22 0 >> ok
+    (touched first end (turned (runOf z .clusters)))))
 unfolding pickGlyphs pickChecks
-glyphs-steps z first end = by-steps (test (sound z) 19 0 ∷ test (inside first end (length (runOf z .units))) 22 0 ∷ []) (ok (touched first end (turned (runOf z .clusters))))
+glyphs-steps z first end = by-steps (test (sound z) 19 0 ∷ test (inside first end (length (runOf z .units))) 22 0 ∷ [])
+    (ok (touched first end (turned (runOf z .clusters))))
 
 pub list-steps : (room : ℕ) (z : Places)
     → listInto room z ≡ (need (sound z) 19 0 >> (need (leb (length (runOf z .glyphs)) room) 18 (length (runOf z .glyphs)) >> ok (runOf z .glyphs)))
@@ -303,7 +316,8 @@ resolve-into-steps room raw =
     ∙ ap (λ (o : Outcome (List ℕ)). verdict (rawChecks raw) >> o) (check-last (leb (length s) room) 24 (length s) (ok s))
     ∙ sym (seq-bind (verdict (rawChecks raw)) s (λ x. need (leb (length x) room) 24 (length x) >> ok x))
 
-pub raw-steps : (m : Lengths) (text indices : List ℕ) → readRaw m text indices ≡ (resolveInto (m .text) text >>= (λ t. resolveInto (m .indices) indices >>= (λ i. read t i)))
+pub raw-steps : (m : Lengths) (text indices : List ℕ)
+    → readRaw m text indices ≡ (resolveInto (m .text) text >>= (λ t. resolveInto (m .indices) indices >>= (λ i. read t i)))
 unfolding readRaw rawLabelChecks resolveInto read
 raw-steps m text indices =
     let t : List ℕ = rawGives text in
@@ -318,7 +332,8 @@ raw-steps m text indices =
 -- ── a sheet's file ──
 
 -- a record's check and its label do not look at its place
-record-checks-at : (s : List ℕ) (skip k at to : ℕ) → eachNumbered recordCheck k (pieces recordMore skip at s) ≡ eachNumbered recordCheck k (pieces recordMore skip to s)
+record-checks-at : (s : List ℕ) (skip k at to : ℕ)
+    → eachNumbered recordCheck k (pieces recordMore skip at s) ≡ eachNumbered recordCheck k (pieces recordMore skip to s)
 unfolding eachNumbered pieces
 record-checks-at [] zero k at to = refl
 record-checks-at [] (suc skip) k at to = refl
@@ -342,7 +357,8 @@ unfolding labelsFrom pieces
 labels-inside skip k b bs = rw (record-checks-at bs skip k 1 0, record-labels-at bs skip 1 0)
 
 pub labels-record : (k b : ℕ) (bs : List ℕ)
-    → labelsFrom 0 k (b ∷ bs) ≡ (need (isRecord (b ∷ bs)) 26 k >> (labelsFrom (recordLength (b ∷ bs) - 1) (suc k) bs >>= (λ ls. ok (recordLabel (b ∷ bs) ∷ ls))))
+    → labelsFrom 0 k (b ∷ bs) ≡ (need (isRecord (b ∷ bs)) 26 k >>
+    (labelsFrom (recordLength (b ∷ bs) - 1) (suc k) bs >>= (λ ls. ok (recordLabel (b ∷ bs) ∷ ls))))
 unfolding labelsFrom each eachNumbered pieces
 labels-record k b bs =
     let n : ℕ = recordMore b bs in
@@ -355,7 +371,8 @@ pub file-steps : (file : List ℕ) → labelsOf file ≡ (need (begins header fi
 unfolding labelsOf labelsFrom
 file-steps file = check-need (begins header file) 25 0 (eachNumbered recordCheck 0 (sheetRecords file)) (ok (saidLabels file))
 
-pub sheet-steps : (room : ℕ) (file : List ℕ) → sheetInto room file ≡ (labelsOf file >>= (λ ls. need (leb (2 * length ls) room) 27 (length ls) >> ok (answers ls)))
+pub sheet-steps : (room : ℕ) (file : List ℕ)
+    → sheetInto room file ≡ (labelsOf file >>= (λ ls. need (leb (2 * length ls) room) 27 (length ls) >> ok (answers ls)))
 unfolding sheetInto sheetChecks labelsOf
 sheet-steps room file =
     let ls : List Label = saidLabels file in

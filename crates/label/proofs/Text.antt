@@ -148,7 +148,8 @@ proper-end = refl
 abbrev DecodesBack : List ℕ → Type 0
 DecodesBack us = (at : ℕ) → decode 0 at (unitsBytes us) ≡ ok us
 
-single-back : (u : ℕ) (us : List ℕ) (at : ℕ) → isHigh u ≡ false → (leb u 65535 && xmlChar u) ≡ true → DecodesBack us → decode 0 at (unitsBytes (u ∷ us)) ≡ ok (u ∷ us)
+single-back : (u : ℕ) (us : List ℕ) (at : ℕ) → isHigh u ≡ false → (leb u 65535 && xmlChar u) ≡ true → DecodesBack us
+    → decode 0 at (unitsBytes (u ∷ us)) ≡ ok (u ∷ us)
 single-back u us at n h ih =
     let x : xmlChar u ≡ true = and-r (leb u 65535) (xmlChar u) h in
     rw (bytes-cons u us, bytes-one u (getD us 0 0) n x)

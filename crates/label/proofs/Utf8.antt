@@ -25,8 +25,49 @@ Rising m (r ∷ rs) = (f : Range) × (fs : List Range) × (r .bytes ≡ f ∷ fs
 
 pub rising : Rising 0 table
 unfolding table
-rising =
-    (_, _, refl, omega arith, omega arith, (_, _, refl, omega arith, omega arith, (_, _, refl, omega arith, omega arith, (_, _, refl, omega arith, omega arith, (_, _, refl, omega arith, omega arith, (_, _, refl, omega arith, omega arith, (_, _, refl, omega arith, omega arith, (_, _, refl, omega arith, omega arith, (_, _, refl, omega arith, omega arith, tt)))))))))
+rising = (
+  _,
+  _,
+  refl,
+  omega arith,
+  omega arith,
+  (
+    _,
+    _,
+    refl,
+    omega arith,
+    omega arith,
+    (
+      _,
+      _,
+      refl,
+      omega arith,
+      omega arith,
+      (
+        _,
+        _,
+        refl,
+        omega arith,
+        omega arith,
+        (
+          _,
+          _,
+          refl,
+          omega arith,
+          omega arith,
+          (
+            _,
+            _,
+            refl,
+            omega arith,
+            omega arith,
+            (_, _, refl, omega arith, omega arith, (_, _, refl, omega arith, omega arith, (_, _, refl, omega arith, omega arith, tt))),
+          ),
+        ),
+      ),
+    ),
+  ),
+)
 
 below-range : (lo hi b : ℕ) → b < lo → within lo hi b ≡ false
 below-range lo hi b h = rw (lt-leb lo b h)
@@ -331,13 +372,20 @@ unfolding table
 laws =
     one-law
     ⨾ two-law
-    ⨾ three-law 0x800 0xfff 0 0 32 63 (omega arith) (omega arith) (omega arith) (omega arith) (omega arith) (λ c a b. low-scalar c (omega arith)) (λ c a b. (omega arith, omega arith, omega arith, omega arith))
-    ⨾ three-law 0x1000 0xcfff 1 12 0 63 (omega arith) (omega arith) (omega arith) (omega arith) (omega arith) (λ c a b. low-scalar c (omega arith)) (λ c a b. (omega arith, omega arith, omega arith, omega arith))
-    ⨾ three-law 0xd000 0xd7ff 13 13 0 31 (omega arith) (omega arith) (omega arith) (omega arith) (omega arith) (λ c a b. low-scalar c (omega arith)) (λ c a b. (omega arith, omega arith, omega arith, omega arith))
-    ⨾ three-law 0xe000 0xffff 14 15 0 63 (omega arith) (omega arith) (omega arith) (omega arith) (omega arith) (λ c a b. high-scalar c (omega arith) (omega arith)) (λ c a b. (omega arith, omega arith, omega arith, omega arith))
-    ⨾ four-law 0x10000 0x3ffff 0 0 16 63 (omega arith) (omega arith) (omega arith) (omega arith) (omega arith) (λ c a b. (omega arith, omega arith, omega arith, omega arith))
-    ⨾ four-law 0x40000 0xfffff 1 3 0 63 (omega arith) (omega arith) (omega arith) (omega arith) (omega arith) (λ c a b. (omega arith, omega arith, omega arith, omega arith))
-    ⨾ four-law 0x100000 0x10ffff 4 4 0 15 (omega arith) (omega arith) (omega arith) (omega arith) (omega arith) (λ c a b. (omega arith, omega arith, omega arith, omega arith))
+    ⨾ three-law 0x800 0xfff 0 0 32 63 (omega arith) (omega arith) (omega arith) (omega arith) (omega arith) (λ c a b. low-scalar c (omega arith))
+    (λ c a b. (omega arith, omega arith, omega arith, omega arith))
+    ⨾ three-law 0x1000 0xcfff 1 12 0 63 (omega arith) (omega arith) (omega arith) (omega arith) (omega arith) (λ c a b. low-scalar c (omega arith))
+    (λ c a b. (omega arith, omega arith, omega arith, omega arith))
+    ⨾ three-law 0xd000 0xd7ff 13 13 0 31 (omega arith) (omega arith) (omega arith) (omega arith) (omega arith) (λ c a b. low-scalar c (omega arith))
+    (λ c a b. (omega arith, omega arith, omega arith, omega arith))
+    ⨾ three-law 0xe000 0xffff 14 15 0 63 (omega arith) (omega arith) (omega arith) (omega arith) (omega arith)
+    (λ c a b. high-scalar c (omega arith) (omega arith)) (λ c a b. (omega arith, omega arith, omega arith, omega arith))
+    ⨾ four-law 0x10000 0x3ffff 0 0 16 63 (omega arith) (omega arith) (omega arith) (omega arith) (omega arith)
+    (λ c a b. (omega arith, omega arith, omega arith, omega arith))
+    ⨾ four-law 0x40000 0xfffff 1 3 0 63 (omega arith) (omega arith) (omega arith) (omega arith) (omega arith)
+    (λ c a b. (omega arith, omega arith, omega arith, omega arith))
+    ⨾ four-law 0x100000 0x10ffff 4 4 0 15 (omega arith) (omega arith) (omega arith) (omega arith) (omega arith)
+    (λ c a b. (omega arith, omega arith, omega arith, omega arith))
     ⨾ tt
 
 -- ── the row of a scalar value, and the scalar value of a row ──
@@ -371,7 +419,8 @@ find (r ∷ rs) m ls o c rest (inr w) =
     (λ t. (q, skips r rs s t ∙ e, n))
 
 -- where a row fits, the UTF-8 of a scalar value starts
-pub scalar-of : (rs : List Row) → Each Law rs → (s : List ℕ) → not (empty (fitting rs s)) ≡ true → (c : ℕ) × (rest : List ℕ) × (isScalar c ≡ true) × (s ≡ utf8 c ++ rest)
+pub scalar-of : (rs : List Row) → Each Law rs → (s : List ℕ) → not (empty (fitting rs s)) ≡ true
+    → (c : ℕ) × (rest : List ℕ) × (isScalar c ≡ true) × (s ≡ utf8 c ++ rest)
 scalar-of [] ls s h = absurd (false≢true (unfold fitting in h))
 scalar-of (r ∷ rs) ls s h =
     cases (rowFits (r .bytes) s)
@@ -400,7 +449,8 @@ sum-four c h =
 number-of : (c : ℕ) (rest : List ℕ) → c ≤ 0x10ffff → scalar (length (utf8 c) - 1) (getD (utf8 c ++ rest) 0 0) (drop 1 (utf8 c ++ rest)) ≡ c
 unfolding scalar
 number-of c rest m =
-    by-length c (λ h. rw (utf8-one c h)) (λ h k. rw (utf8-two c h k) (omega arith)) (λ h k. rw (utf8-three c h k) (sum-three c k)) (λ h. rw (utf8-four c h) (sum-four c m))
+    by-length c (λ h. rw (utf8-one c h)) (λ h k. rw (utf8-two c h k) (omega arith)) (λ h k. rw (utf8-three c h k) (sum-three c k))
+    (λ h. rw (utf8-four c h) (sum-four c m))
 
 pub utf8-size : (c : ℕ) → (1 ≤ length (utf8 c)) × (length (utf8 c) ≤ 4)
 utf8-size c =

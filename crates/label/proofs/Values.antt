@@ -111,7 +111,8 @@ whole-writes : (n q : ℕ) → n ≤ 1000000000 → n ≡ q * 1000 → Writes n 
 whole-writes n q h e =
     let p : Plain (decimal q) (decimal q) [] = plain-whole (decimal q) (digits-decimal q) in
     let l : length (decimal q) ≤ 7 = length-decimal q 6 (omega arith) in
-    let t : thousandths (decimal q) ≡ n = plain-value (decimal q) (decimal q) [] p ∙ rw value-decimal (nearest-exact (q * 1000) 1 n (omega arith) (omega arith)) in
+    let t : thousandths (decimal q) ≡ n = plain-value (decimal q) (decimal q) [] p
+    ∙ rw value-decimal (nearest-exact (q * 1000) 1 n (omega arith) (omega arith)) in
     let d : isDigit (getD (decimal q) 0 0) ≡ true = head-digit (decimal q) (digits-decimal q) in
     record {
       full = empty-decimal q;
@@ -158,7 +159,8 @@ frac-three q r h =
           digits-append ((48 + r / 100) ∷ []) ((48 + r / 10 % 10) ∷ (48 + r % 10) ∷ []) (digits-one (r / 100) (omega arith))
           (digits-append ((48 + r / 10 % 10) ∷ []) ((48 + r % 10) ∷ []) (digits-one (r / 10 % 10) (omega arith)) (digits-one (r % 10) (omega arith)));
       short = omega arith;
-      val = nearest-exact ((((q * 10 + (48 + r / 100 - 48)) * 10 + (48 + r / 10 % 10 - 48)) * 10 + (48 + r % 10 - 48)) * 1000) 1000 (q * 1000 + r) (omega arith) (omega arith);
+      val = nearest-exact ((((q * 10 + (48 + r / 100 - 48)) * 10 + (48 + r / 10 % 10 - 48)) * 10 + (48 + r % 10 - 48)) * 1000) 1000 (q * 1000 + r)
+          (omega arith) (omega arith);
     }
 
 frac-is : (q r : ℕ) → r < 1000 → Frac q r (fraction r)
@@ -168,7 +170,8 @@ frac-is q r h =
     (λ t. rw t (frac-one q r h (eqb-true (r % 100) 0 t)))
     (λ t. rw t (cases (eqb (r % 10) 0) (λ s. rw s (frac-two q r h (eqb-true (r % 10) 0 s))) (λ s. rw s (frac-three q r h))))
 
-point-writes : (n q r : ℕ) (w f : List ℕ) → n ≤ 1000000000 → n ≡ q * 1000 + r → allDigits w ≡ true → value w ≡ q → length w ≤ 7 → Frac q r f → Writes n (w ++ (46 ∷ f))
+point-writes : (n q r : ℕ) (w f : List ℕ) → n ≤ 1000000000 → n ≡ q * 1000 + r → allDigits w ≡ true → value w ≡ q → length w ≤ 7 → Frac q r f
+    → Writes n (w ++ (46 ∷ f))
 point-writes n q r w f h e a b l x =
     let p : Plain (w ++ (46 ∷ f)) (w ++ f) f = plain-point w f a (x .is) in
     let k : allDigits f ≡ true = and-r (not (empty f)) (allDigits f) (x .is) in
@@ -182,7 +185,8 @@ point-writes n q r w f h e a b l x =
       val = t;
       exact = plain-exact (w ++ (46 ∷ f)) (w ++ f) f p (x .short);
       short = rw length-append (omega (arith, x .short));
-      comma = none-append (λ b. eqb b 44) w (46 ∷ f) (digits-none (λ b. eqb b 44) (digit-not 44 refl) w a) (digits-none (λ b. eqb b 44) (digit-not 44 refl) f k);
+      comma = none-append (λ b. eqb b 44) w (46 ∷ f) (digits-none (λ b. eqb b 44) (digit-not 44 refl) w a)
+          (digits-none (λ b. eqb b 44) (digit-not 44 refl) f k);
       semi = none-append (λ b. eqb b 59) w (46 ∷ f) (digits-none (λ b. eqb b 59) (digit-not 59 refl) w a) (digits-none (λ b. eqb b 59) (digit-not 59 refl) f k);
     }
   where
@@ -201,8 +205,10 @@ value-writes n h =
     cases (eqb (n % 1000) 0)
     (λ t. rw t (whole-writes n (n / 1000) h (omega (arith, eqb-true (n % 1000) 0 t))))
     (λ t. rw t (cases (eqb (n / 1000) 0)
-    (λ s. rw s (point-writes n (n / 1000) (n % 1000) [] (fraction (n % 1000)) h d (all-nil) (value-nil (n / 1000) (eqb-true (n / 1000) 0 s)) (omega arith) (frac-is (n / 1000) (n % 1000) (omega arith))))
-    (λ s. rw s (point-writes n (n / 1000) (n % 1000) (decimal (n / 1000)) (fraction (n % 1000)) h d (all-decimal (n / 1000)) (value-decimal (n / 1000)) (length-decimal (n / 1000) 6 (omega arith)) (frac-is (n / 1000) (n % 1000) (omega arith))))))
+    (λ s. rw s (point-writes n (n / 1000) (n % 1000) [] (fraction (n % 1000)) h d (all-nil) (value-nil (n / 1000) (eqb-true (n / 1000) 0 s)) (omega arith)
+    (frac-is (n / 1000) (n % 1000) (omega arith))))
+    (λ s. rw s (point-writes n (n / 1000) (n % 1000) (decimal (n / 1000)) (fraction (n % 1000)) h d (all-decimal (n / 1000)) (value-decimal (n / 1000))
+    (length-decimal (n / 1000) 6 (omega arith)) (frac-is (n / 1000) (n % 1000) (omega arith))))))
   where
     all-nil : allDigits [] ≡ true
     all-nil = unfold allDigits in refl

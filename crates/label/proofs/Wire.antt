@@ -122,7 +122,8 @@ words-forth (a ∷ b ∷ c ∷ d ∷ s) h e =
     let lc : c < 256 = ltb-true c 256 (and-l (ltb c 256) (ltb d 256 && allBytes s) h2) in
     let ld : d < 256 = ltb-true d 256 (and-l (ltb d 256) (allBytes s) h3) in
     let f : Four a b c d (a + 256 * b + 65536 * c + 16777216 * d) = four a b c d la lb lc in
-    let g : bitsOf (signed (a + 256 * b + 65536 * c + 16777216 * d)) ≡ a + 256 * b + 65536 * c + 16777216 * d = signed-forth (a + 256 * b + 65536 * c + 16777216 * d) (omega arith) in
+    let g : bitsOf (signed (a + 256 * b + 65536 * c + 16777216 * d)) ≡ a + 256 * b + 65536 * c + 16777216 * d = signed-forth
+    (a + 256 * b + 65536 * c + 16777216 * d) (omega arith) in
     rw (g, f .p, f .q, f .r, f .s, words-forth s (and-r (ltb d 256) (allBytes s) h3) e)
 
 pub words-whole : (zs : List ℤ) → wordBytes (fromWords zs) ≡ true
@@ -143,7 +144,8 @@ offset-32 : (z : ℤ) → leb (size z) 1000000000 ≡ true → in32 z ≡ true
 offset-32 (pos n) h = let l : n ≤ 1000000000 = leb-true n 1000000000 h in lt-ltb n 2147483648 (omega arith)
 offset-32 (negsuc n) h = let l : suc n ≤ 1000000000 = leb-true (suc n) 1000000000 h in lt-ltb n 2147483648 (omega arith)
 
-glyph-32 : (g : Glyph) (zs : List ℤ) → glyphFits g ≡ true → all32 zs ≡ true → all32 (indexNumber (g .index) ∷ advanceNumber (g .advance) ∷ g .u ∷ g .v ∷ zs) ≡ true
+glyph-32 : (g : Glyph) (zs : List ℤ) → glyphFits g ≡ true → all32 zs ≡ true
+    → all32 (indexNumber (g .index) ∷ advanceNumber (g .advance) ∷ g .u ∷ g .v ∷ zs) ≡ true
 glyph-32 g zs h k =
     let i = indexFits (g .index) in
     let a = advanceFits (g .advance) in
@@ -151,7 +153,13 @@ glyph-32 g zs h k =
     let v = leb (size (g .v)) 1000000000 in
     let h1 = and-l (i && a && u) v h in
     let h2 = and-l (i && a) u h1 in
-    rw (index-32 (g .index) (and-l i a h2), advance-32 (g .advance) (and-r i a h2), offset-32 (g .u) (and-r (i && a) u h1), offset-32 (g .v) (and-r (i && a && u) v h), k)
+    rw (
+      index-32 (g .index) (and-l i a h2),
+      advance-32 (g .advance) (and-r i a h2),
+      offset-32 (g .u) (and-r (i && a) u h1),
+      offset-32 (g .v) (and-r (i && a && u) v h),
+      k,
+    )
 
 pub glyphs-32 : (gs : List Glyph) (bare : Bool) (lack : ℕ) (us : List ℕ) (cs : List Cluster) → fits bare lack us cs gs ≡ true → all32 (flatGlyphs gs) ≡ true
 unfolding flatGlyphs

@@ -91,7 +91,13 @@ module _ (s : List ℕ) (i : ℕ) where
   next = suc i + further here behind
 
   pub resolve-good : i < length s → isGood here behind ≡ true → resolveFrom 0 i (drop i s) ≡ onto (gives here behind) (resolveFrom 0 next (drop next s))
-  resolve-good h g = rw (drop-cons s i 0 h, resolve-first i here behind, g, resolve-skip (further here behind) (suc i) behind, drop-drop (further here behind) (suc i) s)
+  resolve-good h g = rw (
+    drop-cons s i 0 h,
+    resolve-first i here behind,
+    g,
+    resolve-skip (further here behind) (suc i) behind,
+    drop-drop (further here behind) (suc i) s,
+  )
 
   pub resolve-bad : i < length s → isGood here behind ≡ false → resolveFrom 0 i (drop i s) ≡ no 23 i
   resolve-bad h g = rw (drop-cons s i 0 h, resolve-first i here behind, g)
@@ -184,7 +190,8 @@ module _ (b : ℕ) (bs : List ℕ) (g : isGood b bs ≡ true) where
   further-within =
       cases (eqb b 38)
       (λ e. rw e (closed-within bs (and-l (isClosed bs) (xmlChar (referred (body bs))) (reference-is e))))
-      (λ e. rw e (cases (eqb b 13 && eqb (getD bs 0 0) 10) (λ k. rw k (some bs (eqb-true (getD bs 0 0) 10 (and-r (eqb b 13) (eqb (getD bs 0 0) 10) k)))) (λ k. rw k (omega arith))))
+      (λ e. rw e (cases (eqb b 13 && eqb (getD bs 0 0) 10) (λ k. rw k (some bs (eqb-true (getD bs 0 0) 10 (and-r (eqb b 13) (eqb (getD bs 0 0) 10) k))))
+      (λ k. rw k (omega arith))))
     where
       some : (x : List ℕ) → getD x 0 0 ≡ 10 → 1 ≤ length x
       some [] k = omega arith
@@ -204,4 +211,11 @@ resolved-within (b ∷ bs) (suc k) at r h = omega (arith, resolved-within bs k (
 resolved-within (b ∷ bs) zero at r h =
     let (g, f) = need-ok (isGood b bs) 23 at _ r (sym (resolve-first at b bs) ∙ h) in
     let (s, e, q) = bind-ok (resolveFrom (further b bs) (suc at) bs) _ r f in
-    omega (arith, resolved-within bs (further b bs) (suc at) s e, gives-within b bs g, further-within b bs g, ap length (ok-path (gives b bs ++ s) r q), length-append (gives b bs) s)
+    omega (
+      arith,
+      resolved-within bs (further b bs) (suc at) s e,
+      gives-within b bs g,
+      further-within b bs g,
+      ap length (ok-path (gives b bs ++ s) r q),
+      length-append (gives b bs) s,
+    )

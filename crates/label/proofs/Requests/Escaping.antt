@@ -61,7 +61,14 @@ byte-stays : (b : ℕ) → odd b ≡ false → escapeByte b ≡ b ∷ []
 unfolding odd escapeByte
 byte-stays b h =
     let l : 40 ≤ b = ltb-false b 40 (or-l (ltb b 40) (eqb b 60) h) in
-    rw (ne-eqb b 38 (λ e. omega arith), or-r (ltb b 40) (eqb b 60) h, ne-eqb b 34 (λ e. omega arith), ne-eqb b 9 (λ e. omega arith), ne-eqb b 10 (λ e. omega arith), ne-eqb b 13 (λ e. omega arith))
+    rw (
+      ne-eqb b 38 (λ e. omega arith),
+      or-r (ltb b 40) (eqb b 60) h,
+      ne-eqb b 34 (λ e. omega arith),
+      ne-eqb b 9 (λ e. omega arith),
+      ne-eqb b 10 (λ e. omega arith),
+      ne-eqb b 13 (λ e. omega arith),
+    )
 
 escape-stays : (s : List ℕ) → none odd s ≡ true → escape s ≡ s
 unfolding escape
@@ -83,7 +90,14 @@ utf8-none c h =
     (λ a. rw (a, high (192 + c / 64) (omega arith), high (128 + c % 64) (omega arith)))
     (λ a. cases (leb c 65535)
     (λ b. rw (a, b, high (224 + c / 4096) (omega arith), high (128 + c / 64 % 64) (omega arith), high (128 + c % 64) (omega arith)))
-    (λ b. rw (a, b, high (240 + c / 262144) (omega arith), high (128 + c / 4096 % 64) (omega arith), high (128 + c / 64 % 64) (omega arith), high (128 + c % 64) (omega arith)))))
+    (λ b. rw (
+      a,
+      b,
+      high (240 + c / 262144) (omega arith),
+      high (128 + c / 4096 % 64) (omega arith),
+      high (128 + c / 64 % 64) (omega arith),
+      high (128 + c % 64) (omega arith),
+    ))))
   where
     high : (b : ℕ) → 128 ≤ b → odd b ≡ false
     high b k = odd-not b (omega arith) (λ e. omega arith)
@@ -168,7 +182,8 @@ value-none : (n : ℕ) → none odd (valueBytes n) ≡ true
 unfolding valueBytes
 value-none n =
     cases (eqb (n % 1000) 0) (λ a. rw a (decimal-none (n / 1000)))
-    (λ a. rw a (none-append odd (cond (eqb (n / 1000) 0) [] (decimal (n / 1000))) (46 ∷ fraction (n % 1000)) whole (unfold odd in (fraction-none (n % 1000) (omega arith)))))
+    (λ a. rw a (none-append odd (cond (eqb (n / 1000) 0) [] (decimal (n / 1000))) (46 ∷ fraction (n % 1000)) whole
+    (unfold odd in (fraction-none (n % 1000) (omega arith)))))
   where
     whole : none odd (cond (eqb (n / 1000) 0) [] (decimal (n / 1000))) ≡ true
     whole = cases (eqb (n / 1000) 0) (λ b. rw b) (λ b. rw b (decimal-none (n / 1000)))
@@ -187,7 +202,8 @@ map-none : (a b : ℕ) → none odd (mapBytes a b) ≡ true
 unfolding mapBytes
 map-none a b =
     cases (leb a 1 && eqb b 1) (λ t. rw t)
-    (λ t. rw t (unfold odd in (none-append odd (decimal a ++ cond (eqb b 1) [] (58 ∷ decimal b)) (41 ∷ []) (none-append odd (decimal a) (cond (eqb b 1) [] (58 ∷ decimal b)) (decimal-none a) behind) (unfold odd in refl))))
+    (λ t. rw t (unfold odd in (none-append odd (decimal a ++ cond (eqb b 1) [] (58 ∷ decimal b)) (41 ∷ [])
+    (none-append odd (decimal a) (cond (eqb b 1) [] (58 ∷ decimal b)) (decimal-none a) behind) (unfold odd in refl))))
   where
     behind : none odd (cond (eqb b 1) [] (58 ∷ decimal b)) ≡ true
     behind = cases (eqb b 1) (λ t. rw t) (λ t. rw t (unfold odd in (decimal-none b)))

@@ -68,7 +68,8 @@ walk-glyphs [] bare st p h = omega arith
 walk-glyphs (s ∷ ss) bare st p h =
     let x : Walked bare st s ss p = walk-ok bare st s ss p h in
     let r : length ss ≤ length (x .others .glyphs) = walk-glyphs ss bare (next bare st (x .first)) (x .others) (x .walked) in
-    subst (λ (q : Parts). suc (length ss) ≤ length (q .glyphs)) (x .is) (go (opens st) (cluster (takes bare st (x .first)) (x .first .glyphs)) (x .first .glyph) (x .others) r)
+    subst (λ (q : Parts). suc (length ss) ≤ length (q .glyphs)) (x .is)
+    (go (opens st) (cluster (takes bare st (x .first)) (x .first .glyphs)) (x .first .glyph) (x .others) r)
   where
     go : (o : Bool) (c : Cluster) (g : Glyph) (q : Parts) → length ss ≤ length (q .glyphs) → suc (length ss) ≤ length (addGlyph o c g q .glyphs)
     go true c g q r = omega arith
@@ -119,4 +120,5 @@ unfolding rounded indicesOf
 normal-exact r h =
     let f : fits (empty (r .units)) 0 (r .units) (r .clusters) (r .glyphs) ≡ true = sound-parts r h .fit in
     rw (entries-joined (entryList 0 (r .clusters) (r .glyphs)) (written-semi (r .glyphs) (empty (r .units)) (r .clusters) (r .units) 0 f))
-    (exact-trim (entryList 0 (r .clusters) (r .glyphs)) (written-each (λ s. roundedEntry s ≡ 0) entry-exact (r .glyphs) (empty (r .units)) (r .clusters) (r .units) 0 f))
+    (exact-trim (entryList 0 (r .clusters) (r .glyphs)) (written-each (λ s. roundedEntry s ≡ 0) entry-exact (r .glyphs) (empty (r .units)) (r .clusters)
+    (r .units) 0 f))

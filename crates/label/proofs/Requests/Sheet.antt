@@ -89,7 +89,12 @@ module _ (l : Label) (rest : List ℕ) where
     where
       taken : record { text = take (length (l .text)) (drop 6 here); indices = take (length (l .indices)) (drop (length (l .text)) (drop 6 here)) } ≡ l
       taken = unfold recordBytes fromHalves in
-          (rw (append-assoc (l .text) (l .indices) rest, take-append-seam (l .text) (l .indices ++ rest), drop-append-seam (l .text) (l .indices ++ rest), take-append-seam (l .indices) rest))
+          (rw (
+            append-assoc (l .text) (l .indices) rest,
+            take-append-seam (l .text) (l .indices ++ rest),
+            drop-append-seam (l .text) (l .indices ++ rest),
+            take-append-seam (l .indices) rest,
+          ))
 
 -- the records of a list of labels are read as that list
 records-back : (ls : List Label) (k : ℕ) → labelsFrom 0 k (recordsBytes ls) ≡ ok ls

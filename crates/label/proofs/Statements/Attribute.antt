@@ -51,7 +51,8 @@ unfolding resolveInto
 fixed room raw n p = given-is (resolveChecks room raw) n p (rawGives raw)
 
 memory : (raw old : List ℕ)
-    → Kept (resolveChecks (length old) raw) (rawGives raw) (λ s. s ∷ []) (resolveInto (length old) raw) (old ∷ []) (filledAfter (resolveInto (length old) raw) old ∷ [])
+    → Kept (resolveChecks (length old) raw) (rawGives raw) (λ s. s ∷ []) (resolveInto (length old) raw) (old ∷ [])
+    (filledAfter (resolveInto (length old) raw) old ∷ [])
 unfolding resolveInto filledAll
 memory raw old = kept (resolveChecks (length old) raw) (rawGives raw) (λ s. s ∷ []) (old ∷ []) (λ o. filledAfter o old ∷ []) refl (λ n p. refl)
 

@@ -61,10 +61,15 @@ into-read t i r room h =
     (a ∙ b18, subst (λ (q : Run). Roomy q room) (ok-path s r b18) m)
 
 -- a sound run is written where there is room, asked or not
-write-into : (asked : Bool) (z : Places) (room : Lengths) → sound z ≡ true → RoomyFor (saidLabel asked z) room → writeAsked asked room z ≡ ok (saidLabel asked z)
+write-into : (asked : Bool) (z : Places) (room : Lengths) → sound z ≡ true → RoomyFor (saidLabel asked z) room
+    → writeAsked asked room z ≡ ok (saidLabel asked z)
 write-into asked z room h m =
     write-steps asked room z
-    ∙ rw (h, le-leb (length (saidLabel asked z .text)) (room .text) (m .for-text), le-leb (length (saidLabel asked z .indices)) (room .indices) (m .for-indices))
+    ∙ rw (
+      h,
+      le-leb (length (saidLabel asked z .text)) (room .text) (m .for-text),
+      le-leb (length (saidLabel asked z .indices)) (room .indices) (m .for-indices),
+    )
 
 -- what is known of a writing
 record WasWritten (asked : Bool) (z : Places) (l : Label) (room : Lengths) : Type 0 where
@@ -79,7 +84,10 @@ into-write asked z l room h =
     let (f, b20) = need-ok (leb (length (k .text)) (room .text)) 20 _ _ l b in
     let (g, b21) = need-ok (leb (length (k .indices)) (room .indices)) 21 _ _ l b20 in
     let q : k ≡ l = ok-path k l b21 in
-    let m : RoomyFor k room = record { for-text = leb-true (length (k .text)) (room .text) f; for-indices = leb-true (length (k .indices)) (room .indices) g } in
+    let m : RoomyFor k room = record {
+      for-text = leb-true (length (k .text)) (room .text) f;
+      for-indices = leb-true (length (k .indices)) (room .indices) g;
+    } in
     record { sound-is = s; is = sym q; has-room = subst (λ (j : Label). RoomyFor j room) q m }
 
 -- a run handed in is written exactly when it is readable, and then in the normal writing of the run that was read, as it is asked for
@@ -98,7 +106,8 @@ written-from asked z room w m =
     write-into asked z room (readable-sound z w) (subst (λ (r : Run). RoomyFor (askedFor asked (normal r)) room) (sym q) m)
     ∙ ap (λ (r : Run). ok (askedFor asked (normal r))) q
 
-pub written-as : (asked : Bool) (z : Places) (l : Label) (room : Lengths) (w : Readable z) → writeAsked asked room z ≡ ok l → l ≡ askedFor asked (normal (w .run))
+pub written-as : (asked : Bool) (z : Places) (l : Label) (room : Lengths) (w : Readable z) → writeAsked asked room z ≡ ok l
+    → l ≡ askedFor asked (normal (w .run))
 written-as asked z l room w h = into-write asked z l room h .is ∙ ap (λ (r : Run). askedFor asked (normal r)) (readable-run z w)
 
 -- a run that was read, handed in as its places
@@ -199,7 +208,8 @@ pub demand-2 : Demand2
 demand-2 =
     record {
       reads = λ t i r. decided (labelChecks t i) (saidRun t i) (read t i) (unfold read in refl) r;
-      map-length = λ t i r h. map-sum 0 (r .clusters) ∙ fits-units (r .glyphs) (empty (r .units)) (r .clusters) (r .units) 0 (sound-parts r (read-sound t i r h) .fit);
+      map-length = λ t i r h. map-sum 0 (r .clusters)
+          ∙ fits-units (r .glyphs) (empty (r .units)) (r .clusters) (r .units) 0 (sound-parts r (read-sound t i r h) .fit);
       map-entry = λ t i r j k h x. map-at (r .clusters) 0 j k x ∙ omega arith;
       accepts = λ room t i r. decided (readChecks room t i) (saidRun t i) (readInto room t i) (unfold readInto in refl) r;
       refused = λ room t i h. decided-no (readChecks room t i) (saidRun t i) (readInto room t i) (unfold readInto in refl) h;
@@ -237,13 +247,15 @@ passed-is t i r us cs gs room h m n =
     rw (
       read-into t i r (roomOf us cs gs) h m,
       held (fromHalves (r .units)) us (2 * length (r .units)) (length-halves (r .units)),
-      held (fromWords (flatClusters (r .clusters))) cs (8 * length (r .clusters)) (length-words (flatClusters (r .clusters)) ∙ omega (arith, length-clusters (r .clusters))),
+      held (fromWords (flatClusters (r .clusters))) cs (8 * length (r .clusters))
+          (length-words (flatClusters (r .clusters)) ∙ omega (arith, length-clusters (r .clusters))),
       held (fromWords (flatGlyphs (r .glyphs))) gs (16 * length (r .glyphs)) (length-words (flatGlyphs (r .glyphs)) ∙ omega (arith, length-glyphs (r .glyphs))),
     )
     (written-from false (placesOf r) room (own t i r h) n)
 
 -- what is in the outputs when the normal writing was given
-passed : (r : Run) (o : Outcome Run) (w : Outcome Label) (tx ix : List ℕ) → soundRun r ≡ true → o ≡ ok r → w ≡ ok (normal r) → RoomyFor (normal r) (outputs tx ix) → Passed r o w tx ix
+passed : (r : Run) (o : Outcome Run) (w : Outcome Label) (tx ix : List ℕ) → soundRun r ≡ true → o ≡ ok r → w ≡ ok (normal r)
+    → RoomyFor (normal r) (outputs tx ix) → Passed r o w tx ix
 passed r o w tx ix s eo ew n =
     record {
       counts-are = rw eo;

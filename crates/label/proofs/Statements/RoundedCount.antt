@@ -12,7 +12,8 @@ use Rattle.label.specs.Statements.RoundedCount.{RoundedCount}
 use Rattle.label.proofs.Sound.{read-sound}
 use Rattle.label.proofs.Requests.RoundedCount.{rounded-most, whole-reads, normal-exact}
 
-exact : (m f : ℕ) (down : Bool) (e : ℕ) → (isWhole m f down e ≡ true) ↔ (scaled m f down e * cond down (10 ^ (f + e)) (10 ^ f) ≡ cond down (m * 10 ^ 3) (m * 10 ^ (e + 3)))
+exact : (m f : ℕ) (down : Bool) (e : ℕ) → (isWhole m f down e ≡ true) ↔
+    (scaled m f down e * cond down (10 ^ (f + e)) (10 ^ f) ≡ cond down (m * 10 ^ 3) (m * 10 ^ (e + 3)))
 exact m f true e = (
   λ h. eqb-true (scaled m f true e * 10 ^ (f + e)) (m * 10 ^ 3) (sym (whole-reads m f true e) ∙ h),
   λ h. whole-reads m f true e ∙ eq-eqb (scaled m f true e * 10 ^ (f + e)) (m * 10 ^ 3) h,

@@ -57,7 +57,8 @@ length-bytes n m h k =
       lt-ltb (m / 16777216) 256 (omega arith),
     )
 
-record-bytes : (l : Label) → length (l .text) < 65536 → length (l .indices) < 4294967296 → allBytes (l .text) ≡ true → allBytes (l .indices) ≡ true → allBytes (recordBytes l) ≡ true
+record-bytes : (l : Label) → length (l .text) < 65536 → length (l .indices) < 4294967296 → allBytes (l .text) ≡ true → allBytes (l .indices) ≡ true
+    → allBytes (recordBytes l) ≡ true
 unfolding recordBytes fromHalves
 record-bytes l h k t i =
     bytes-append (fromHalves (length (l .text) ∷ []) ++ fourBytes (length (l .indices))) (l .text ++ l .indices)
@@ -114,7 +115,8 @@ memory : (file old : List ℕ)
     → Kept (sheetChecks (length old / 4) file) (answers (saidLabels file)) (λ zs. fromWords zs ∷ []) (sheetInto (length old / 4) file) (old ∷ [])
     (numbersAfter (sheetInto (length old / 4) file) old ∷ [])
 unfolding sheetInto filledAll
-memory file old = kept (sheetChecks (length old / 4) file) (answers (saidLabels file)) (λ zs. fromWords zs ∷ []) (old ∷ []) (λ o. numbersAfter o old ∷ []) refl (λ n p. refl)
+memory file old = kept (sheetChecks (length old / 4) file) (answers (saidLabels file)) (λ zs. fromWords zs ∷ []) (old ∷ []) (λ o. numbersAfter o old ∷ []) refl
+    (λ n p. refl)
 
 -- ── the answer at a place ──
 
@@ -150,7 +152,8 @@ module _ (old : List ℕ) (room : ℕ) where
   abbrev behind : ℕ → List Label → List ℕ
   behind k ys = fromWords (answers ys) ++ drop (4 * (2 * (k + suc (length ys)))) old
 
-  around : (xs ys : List Label) (l : Label) → 2 * length (xs ++ (l ∷ ys)) ≤ room → now (xs ++ (l ∷ ys)) ≡ fromWords (answers xs) ++ (fromWords (answer l) ++ behind (length xs) ys)
+  around : (xs ys : List Label) (l : Label) → 2 * length (xs ++ (l ∷ ys)) ≤ room
+      → now (xs ++ (l ∷ ys)) ≡ fromWords (answers xs) ++ (fromWords (answer l) ++ behind (length xs) ys)
   unfolding answers
   around xs ys l h =
       let ls : List Label = xs ++ (l ∷ ys) in
@@ -158,7 +161,8 @@ module _ (old : List ℕ) (room : ℕ) where
       ap (λ (o : Outcome (List ℤ)). bufferAfter fromWords o old) (labels-into room (sheetFile ls) ls (back ls) h)
       ∙ ap (λ (k : ℕ). fromWords (answers ls) ++ drop k old) (length-all ls ∙ ap (λ (k : ℕ). 4 * (2 * k)) (length-append xs (l ∷ ys)))
       ∙ ap (λ (s : List ℕ). s ++ d)
-      (ap fromWords (answers-append xs (l ∷ ys)) ∙ words-append (answers xs) (answer l ++ answers ys) ∙ ap (λ (s : List ℕ). fromWords (answers xs) ++ s) (words-append (answer l) (answers ys)))
+      (ap fromWords (answers-append xs (l ∷ ys)) ∙ words-append (answers xs) (answer l ++ answers ys)
+      ∙ ap (λ (s : List ℕ). fromWords (answers xs) ++ s) (words-append (answer l) (answers ys)))
       ∙ append-assoc (fromWords (answers xs)) (fromWords (answer l) ++ fromWords (answers ys)) d
       ∙ ap (λ (s : List ℕ). fromWords (answers xs) ++ s) (append-assoc (fromWords (answer l)) (fromWords (answers ys)) d)
 
@@ -172,13 +176,15 @@ module _ (old : List ℕ) (room : ℕ) where
       ∙ take-at (fromWords (answer l)) b n (length-one l ∙ q)
 
   -- one label in place of another leaves what is before and behind its answer
-  others-stay : (xs ys : List Label) (l m : Label) (i n : ℕ) → 2 * length (xs ++ (l ∷ ys)) ≤ room → (i + n ≤ 4 * (2 * length xs)) ⊎ (4 * (2 * length xs) + 4 * 2 ≤ i)
+  others-stay : (xs ys : List Label) (l m : Label) (i n : ℕ) → 2 * length (xs ++ (l ∷ ys)) ≤ room
+      → (i + n ≤ 4 * (2 * length xs)) ⊎ (4 * (2 * length xs) + 4 * 2 ≤ i)
       → take n (drop i (now (xs ++ (l ∷ ys)))) ≡ take n (drop i (now (xs ++ (m ∷ ys))))
   others-stay xs ys l m i n h a =
       let b : List ℕ = behind (length xs) ys in
       let k : 2 * length (xs ++ (m ∷ ys)) ≤ room = omega (arith, h, length-append xs (l ∷ ys), length-append xs (m ∷ ys)) in
       ap (λ (s : List ℕ). take n (drop i s)) (around xs ys l h)
-      ∙ part-stays (fromWords (answers xs)) (fromWords (answer l)) (fromWords (answer m)) b n i (length-one l ∙ sym (length-one m)) (rw (length-all xs, length-one l) a)
+      ∙ part-stays (fromWords (answers xs)) (fromWords (answer l)) (fromWords (answer m)) b n i (length-one l ∙ sym (length-one m))
+      (rw (length-all xs, length-one l) a)
       ∙ sym (ap (λ (s : List ℕ). take n (drop i s)) (around xs ys m k))
 
 -- ── the answers are those of single readings ──
