@@ -35,7 +35,8 @@ pushed base v w d h e =
     grows v zero h = absurd (omega arith)
     grows v (suc k) h = omega (arith, mul-suc v k)
 
-pushed-all : (base : ℕ) (ds : List ℕ) (v w : ℕ) → 1 ≤ base → min v beyond ≡ min w beyond → min (valueBehind base v ds) beyond ≡ min (valueBehind base w ds) beyond
+pushed-all : (base : ℕ) (ds : List ℕ) (v w : ℕ) → 1 ≤ base → min v beyond ≡ min w beyond
+    → min (valueBehind base v ds) beyond ≡ min (valueBehind base w ds) beyond
 unfolding valueBehind
 pushed-all base [] v w h e = e
 pushed-all base (b ∷ ds) v w h e = pushed-all base ds (v * base + digitValue b) (w * base + digitValue b) h (pushed base v w (digitValue b) h e)

@@ -27,13 +27,15 @@ shuffle false q r = and-false q
 begins-is : (w t : List ℕ) → none (λ b. eqb b 59) w ≡ true → begins (w ++ (59 ∷ [])) t ≡ (isClosed t && sameBytes (body t) w)
 unfolding begins sameBytes
 begins-is [] [] h = rw closed-none
-begins-is [] (b ∷ t) h = cases (eqb b 59) (λ e. rw (e, closed-here b t e, body-here b t e)) (λ e. rw (e, closed-further b t e, body-further b t e) (sym (and-false (isClosed t))))
+begins-is [] (b ∷ t) h = cases (eqb b 59) (λ e. rw (e, closed-here b t e, body-here b t e))
+    (λ e. rw (e, closed-further b t e, body-further b t e) (sym (and-false (isClosed t))))
 begins-is (c ∷ w) [] h = rw closed-none
 begins-is (c ∷ w) (b ∷ t) h =
     let n : eqb c 59 ≡ false = not-true (eqb c 59) (and-l (not (eqb c 59)) (none (λ x. eqb x 59) w) h) in
     cases (eqb b 59)
     (λ e. rw (closed-here b t e, body-here b t e, ne-eqb b c (λ k. clash (eqb c 59) (rw k at e) n)))
-    (λ e. rw (closed-further b t e, body-further b t e, begins-is w t (and-r (not (eqb c 59)) (none (λ x. eqb x 59) w) h)) (shuffle (isClosed t) (eqb b c) (sameBytes (body t) w)))
+    (λ e. rw (closed-further b t e, body-further b t e, begins-is w t (and-r (not (eqb c 59)) (none (λ x. eqb x 59) w) h))
+    (shuffle (isClosed t) (eqb b c) (sameBytes (body t) w)))
 
 same-is : (x y : List ℕ) → sameBytes x y ≡ true → x ≡ y
 unfolding sameBytes
@@ -48,7 +50,8 @@ module _ (s : List ℕ) (at : ℕ) where
   name = body (drop at s)
 
   -- the name w stands there, and its character is c
-  is-named : (w : List ℕ) (c : ℕ) → (isClosed (drop at s) && sameBytes name w) ≡ true → predefined w ≡ c → xmlChar c ≡ true → To c (at + (length w + 1)) ≡ referenceBy predefined s at
+  is-named : (w : List ℕ) (c : ℕ) → (isClosed (drop at s) && sameBytes name w) ≡ true → predefined w ≡ c → xmlChar c ≡ true
+      → To c (at + (length w + 1)) ≡ referenceBy predefined s at
   unfolding referenceBy
   is-named w c h n x =
       let e : name ≡ w = same-is name w (and-r (isClosed (drop at s)) (sameBytes name w) h) in
@@ -69,7 +72,8 @@ module _ (s : List ℕ) (at : ℕ) where
     miss k h = rw k at (sym (begins-is w (drop at s) f) ∙ sym e ∙ h)
 
   -- the code found none
-  module _ {a l g q p : Bool} (ea : a ≡ begins (ascii "amp;") (drop at s)) (el : l ≡ begins (ascii "lt;") (drop at s)) (eg : g ≡ begins (ascii "gt;") (drop at s))
+  module _ {a l g q p : Bool} (ea : a ≡ begins (ascii "amp;") (drop at s)) (el : l ≡ begins (ascii "lt;") (drop at s))
+      (eg : g ≡ begins (ascii "gt;") (drop at s))
       (eq : q ≡ begins (ascii "quot;") (drop at s)) (ep : p ≡ begins (ascii "apos;") (drop at s)) where
     pub missed : a ≡ false → l ≡ false → g ≡ false → q ≡ false → p ≡ false → Bad ≡ referenceBy predefined s at
     unfolding ascii
@@ -84,6 +88,7 @@ module _ (s : List ℕ) (at : ℕ) where
         )))
         (λ k. unfold referenceBy in rw k)
 
-pub names : (predefined (ascii "amp") ≡ 38) × (predefined (ascii "lt") ≡ 60) × (predefined (ascii "gt") ≡ 62) × (predefined (ascii "quot") ≡ 34) × (predefined (ascii "apos") ≡ 39)
+pub names : (predefined (ascii "amp") ≡ 38) × (predefined (ascii "lt") ≡ 60) × (predefined (ascii "gt") ≡ 62) × (predefined (ascii "quot") ≡ 34) × (predefined
+    (ascii "apos") ≡ 39)
 unfolding predefined sameBytes ascii
 names = (refl, refl, refl, refl, refl)

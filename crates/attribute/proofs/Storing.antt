@@ -85,11 +85,15 @@ module _ {raw old new : List ℕ} {i n : ℕ} (g : Reached raw old i n new) wher
     bad : isGood here behind ≡ false → Stores raw old (S.Bad i) new
     bad k = g .far ∙ rw (resolve-bad raw i h k)
 
-    good : isGood here behind ≡ true → {m j : ℕ} {new′ : List ℕ} → Put new n (gives here behind) m new′ → suc i + further here behind ≡ j → Reached raw old j m new′
+    good : isGood here behind ≡ true → {m j : ℕ} {new′ : List ℕ} → Put new n (gives here behind) m new′ → suc i + further here behind ≡ j
+        → Reached raw old j m new′
     good k {m} {j} {new′} f e =
         record {
           w = g .w ++ gives here behind;
-          far = g .far ∙ rw (resolve-good raw i h k, ← e) (onto-onto (g .w) (gives here behind) (resolveFrom 0 (suc i + further here behind) (drop (suc i + further here behind) raw)));
+          far = g .far ∙ rw (
+            resolve-good raw i h k,
+            ← e,
+          ) (onto-onto (g .w) (gives here behind) (resolveFrom 0 (suc i + further here behind) (drop (suc i + further here behind) raw)));
           put = then (g .put) f;
           few = let b = f .behind in omega (arith, g .few, gives-within here behind k);
           same = ap length (f .is) ∙ puts-length new n (gives here behind) ∙ g .same;
@@ -136,7 +140,8 @@ module _ {raw old new : List ℕ} {i n : ℕ} (g : Reached raw old i n new) wher
         told = refers referred raw (i + 1) (sym e ∙ k)
 
         pub small : c < 2097152
-        small = ⊎-elim (λ q. omega arith) (λ q. omega (arith, q .1)) (xml-range c (rw (told .code) (and-r (isClosed (drop (i + 1) raw)) (xmlChar (referred (body (drop (i + 1) raw)))) (told .holds))))
+        small = ⊎-elim (λ q. omega arith) (λ q. omega (arith, q .1)) (xml-range c
+            (rw (told .code) (and-r (isClosed (drop (i + 1) raw)) (xmlChar (referred (body (drop (i + 1) raw)))) (told .holds))))
 
         pub ahead : i < j
         ahead = omega (arith, told .next)

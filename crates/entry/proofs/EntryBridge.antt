@@ -159,14 +159,18 @@ one-is g s p r' r (fb.wrong o w) = rw o (stuck-both g s (fieldOf r .ok) (drop (f
 
 first-is : (g : List ℕ → Bool) → Stuck g → (p r' r : List ℕ) → Fielded p r' r → first g r ≡ (isAdvance p && g r')
 first-is g s p r' r (fb.good o k d v m z) = rw (advance-field p, k, d, o, m)
-first-is g s p r' r (fb.wrong o w) = rw (advance-field p, o) (drops (fieldOf r .ok) (not (fieldOf r .negative)) (g (drop (fieldOf r .used) r)) (stuck-both g s (fieldOf r .ok) (drop (fieldOf r .used) r) w))
+first-is g s p r' r (fb.wrong o w) = rw (
+  advance-field p,
+  o,
+) (drops (fieldOf r .ok) (not (fieldOf r .negative)) (g (drop (fieldOf r .used) r)) (stuck-both g s (fieldOf r .ok) (drop (fieldOf r .used) r) w))
   where
     drops : (a b c : Bool) → (a && c) ≡ false → ((a && b) && c) ≡ false
     drops true true c h = h
     drops true false c h = refl
     drops false b c h = refl
 
-head-test : (g : List ℕ → Bool) → Stuck g → (p r t : List ℕ) → Headed p r t → (frontOk (mapOf t) (indexAt t) && g (drop (mapOf t .used + length (indexAt t)) t)) ≡ (isIndexPart p && g r)
+head-test : (g : List ℕ → Bool) → Stuck g → (p r t : List ℕ) → Headed p r t
+    → (frontOk (mapOf t) (indexAt t) && g (drop (mapOf t .used + length (indexAt t)) t)) ≡ (isIndexPart p && g r)
 head-test g s p r t (mb.good i o d m a b x) = rw (i, o, d)
 head-test g s p r t (mb.wrong i w) = rw i (stuck-both g s (frontOk (mapOf t) (indexAt t)) (drop (mapOf t .used + length (indexAt t)) t) w)
 
@@ -196,57 +200,59 @@ scan-test t =
     (regroup (frontOk (mapOf t) (indexAt t)) (P .x .ok && not (P .x .negative)) (P .y .ok) (P .z .ok) (ends isSemi (drop (P .used) t)))
 
 -- the four parts of an entry en with r0 behind it, and what is left behind them
-module _ (t en r0 : List ℕ) (te : t ≡ en ++ r0) (k0 : ends isSemi r0 ≡ true) (c : Comma en) (x : Next (c .r) r0) (y : Next (x .r') r0) (z : Next (y .r') r0) where
-  headed : Headed (c .p) (c .r ++ r0) t
-  headed =
-      subst (λ (s : List ℕ). Headed (c .p) (c .r ++ r0) s) (sym (te ∙ ap (λ (v : List ℕ). v ++ r0) (c .is) ∙ append-assoc (c .p) (c .r) r0))
-      (head-is (c .p) (c .r ++ r0) (c .free) (ends-both (c .r) r0 (c .end) k0))
+module _ (t en r0 : List ℕ) (te : t ≡ en ++ r0) (k0 : ends isSemi r0 ≡ true) (c : Comma en) (x : Next (c .r) r0) (y : Next (x .r') r0) (z : Next (y .r') r0)
+  where
+    headed : Headed (c .p) (c .r ++ r0) t
+    headed =
+        subst (λ (s : List ℕ). Headed (c .p) (c .r ++ r0) s) (sym (te ∙ ap (λ (v : List ℕ). v ++ r0) (c .is) ∙ append-assoc (c .p) (c .r) r0))
+        (head-is (c .p) (c .r ++ r0) (c .free) (ends-both (c .r) r0 (c .end) k0))
 
-  part-0 : entryPart 0 en ≡ c .p
-  part-0 = rw (c .parts)
+    part-0 : entryPart 0 en ≡ c .p
+    part-0 = rw (c .parts)
 
-  part-1 : entryPart 1 en ≡ x .p
-  part-1 = rw (c .parts) (x .first)
+    part-1 : entryPart 1 en ≡ x .p
+    part-1 = rw (c .parts) (x .first)
 
-  part-2 : entryPart 2 en ≡ y .p
-  part-2 = rw (c .parts) (x .others 0 ∙ y .first)
+    part-2 : entryPart 2 en ≡ y .p
+    part-2 = rw (c .parts) (x .others 0 ∙ y .first)
 
-  part-3 : entryPart 3 en ≡ z .p
-  part-3 = rw (c .parts) (x .others 1 ∙ y .others 0 ∙ z .first)
+    part-3 : entryPart 3 en ≡ z .p
+    part-3 = rw (c .parts) (x .others 1 ∙ y .others 0 ∙ z .first)
 
-  no-more : leb (length (split 44 en)) 4 ≡ empty (z .r')
-  no-more = rw (c .parts) (leb-suc (length (tails (c .r))) 3 ∙ x .count 2 ∙ y .count 1 ∙ z .count 0 ∙ at-end (z .r') (z .semi))
-    where
-      at-end : (r : List ℕ) → none isSemi r ≡ true → leb (length (tails r)) 0 ≡ empty r
-      at-end [] h = refl
-      at-end (b ∷ w) h =
-          let v : Comma w = comma w (and-r (not (isSemi b)) (none isSemi w) h) in
-          rw (v .parts) (lt-leb (suc (length (tails (v .r)))) 0 (omega arith))
+    no-more : leb (length (split 44 en)) 4 ≡ empty (z .r')
+    no-more = rw (c .parts) (leb-suc (length (tails (c .r))) 3 ∙ x .count 2 ∙ y .count 1 ∙ z .count 0 ∙ at-end (z .r') (z .semi))
+      where
+        at-end : (r : List ℕ) → none isSemi r ≡ true → leb (length (tails r)) 0 ≡ empty r
+        at-end [] h = refl
+        at-end (b ∷ w) h =
+            let v : Comma w = comma w (and-r (not (isSemi b)) (none isSemi w) h) in
+            rw (v .parts) (lt-leb (suc (length (tails (v .r)))) 0 (omega arith))
 
-  no-rest : ends isSemi (z .r' ++ r0) ≡ empty (z .r')
-  no-rest = go (z .r') (z .end)
-    where
-      go : (r : List ℕ) → ends isComma r ≡ true → ends isSemi (r ++ r0) ≡ empty r
-      go [] h = k0
-      go (b ∷ r) h = rw (eqb-true b 44 h)
+    no-rest : ends isSemi (z .r' ++ r0) ≡ empty (z .r')
+    no-rest = go (z .r') (z .end)
+      where
+        go : (r : List ℕ) → ends isComma r ≡ true → ends isSemi (r ++ r0) ≡ empty r
+        go [] h = k0
+        go (b ∷ r) h = rw (eqb-true b 44 h)
 
-  well-same : wellParted (partsOf t) t ≡ wellFormed en
-  unfolding wellFormed
-  well-same =
-      scan-test t
-      ∙ head-test (first (one (one (ends isSemi)))) (stuck-first (one (one (ends isSemi))) (stuck-one (one (ends isSemi)) (stuck-one (ends isSemi) stuck-end))) (c .p) (c .r ++ r0) t headed
-      ∙ rw (
-        first-is (one (one (ends isSemi))) (stuck-one (one (ends isSemi)) (stuck-one (ends isSemi) stuck-end)) (x .p) (x .r' ++ r0) (c .r ++ r0) (x .fld),
-        one-is (one (ends isSemi)) (stuck-one (ends isSemi) stuck-end) (y .p) (y .r' ++ r0) (x .r' ++ r0) (y .fld),
-        one-is (ends isSemi) stuck-end (z .p) (z .r' ++ r0) (y .r' ++ r0) (z .fld),
-        part-0,
-        part-1,
-        part-2,
-        part-3,
-        no-more,
-        no-rest,
-      )
-      (sym (reorder (empty (z .r')) (isIndexPart (c .p)) (isAdvance (x .p)) (isOffset (y .p)) (isOffset (z .p))))
+    well-same : wellParted (partsOf t) t ≡ wellFormed en
+    unfolding wellFormed
+    well-same =
+        scan-test t
+        ∙ head-test (first (one (one (ends isSemi)))) (stuck-first (one (one (ends isSemi))) (stuck-one (one (ends isSemi)) (stuck-one (ends isSemi) stuck-end)))
+        (c .p) (c .r ++ r0) t headed
+        ∙ rw (
+          first-is (one (one (ends isSemi))) (stuck-one (one (ends isSemi)) (stuck-one (ends isSemi) stuck-end)) (x .p) (x .r' ++ r0) (c .r ++ r0) (x .fld),
+          one-is (one (ends isSemi)) (stuck-one (ends isSemi) stuck-end) (y .p) (y .r' ++ r0) (x .r' ++ r0) (y .fld),
+          one-is (ends isSemi) stuck-end (z .p) (z .r' ++ r0) (y .r' ++ r0) (z .fld),
+          part-0,
+          part-1,
+          part-2,
+          part-3,
+          no-more,
+          no-rest,
+        )
+        (sym (reorder (empty (z .r')) (isIndexPart (c .p)) (isAdvance (x .p)) (isOffset (y .p)) (isOffset (z .p))))
 
 -- ── what a well-formed entry says ──
 
@@ -325,7 +331,8 @@ definedBy p0 p1 p2 p3 =
 
 answer : (n k : ℕ) (p0 p1 p2 p3 : List ℕ)
     → entryRead n (roundedBy (fieldSize p1) + roundedBy (fieldSize p2) + roundedBy (fieldSize p3))
-    (checked k (leb (value (indexDigits p0)) maxIndex) (numberWithin (fieldSize p1) && numberWithin (fieldSize p2) && numberWithin (fieldSize p3)) (scannedBy p0 p1 p2 p3))
+    (checked k (leb (value (indexDigits p0)) maxIndex) (numberWithin (fieldSize p1) && numberWithin (fieldSize p2) && numberWithin (fieldSize p3))
+    (scannedBy p0 p1 p2 p3))
     ≡ entryRead n (roundedField p1 + roundedField p2 + roundedField p3)
     (checked k (leb (value (indexDigits p0)) maxIndex) (fieldFits p1 && fieldFits p2 && fieldFits p3) (definedBy p0 p1 p2 p3))
 unfolding indexOf
@@ -338,12 +345,19 @@ answer n k p0 p1 p2 p3 =
     rw (advance-is p1 a, offset-is p2 b, offset-is p3 d, rounded-is p1 a, rounded-is p2 b, rounded-is p3 d))
     (λ m. cases (leb (value (indexDigits p0)) maxIndex) (λ l. rw (l, m)) (λ l. rw l)))
 
-module _ (k : ℕ) (t en r0 : List ℕ) (te : t ≡ en ++ r0) (k0 : ends isSemi r0 ≡ true) (c : Comma en) (x : Next (c .r) r0) (y : Next (x .r') r0) (z : Next (y .r') r0)
+module _ (k : ℕ) (t en r0 : List ℕ) (te : t ≡ en ++ r0) (k0 : ends isSemi r0 ≡ true) (c : Comma en) (x : Next (c .r) r0) (y : Next (x .r') r0)
+    (z : Next (y .r') r0)
     (bound : partsOf t .used ≤ length t) where
   module _ (e : wellFormed en ≡ true) where
     tests : (empty (z .r') && isIndexPart (c .p) && isAdvance (x .p) && isOffset (y .p) && isOffset (z .p)) ≡ true
     unfolding wellFormed
-    tests = rw (no-more t en r0 te k0 c x y z, part-0 t en r0 te k0 c x y z, part-1 t en r0 te k0 c x y z, part-2 t en r0 te k0 c x y z, part-3 t en r0 te k0 c x y z) at e
+    tests = rw (
+      no-more t en r0 te k0 c x y z,
+      part-0 t en r0 te k0 c x y z,
+      part-1 t en r0 te k0 c x y z,
+      part-2 t en r0 te k0 c x y z,
+      part-3 t en r0 te k0 c x y z,
+    ) at e
 
     test-3 : (empty (z .r') && isIndexPart (c .p) && isAdvance (x .p) && isOffset (y .p)) ≡ true
     test-3 = and-l (empty (z .r') && isIndexPart (c .p) && isAdvance (x .p) && isOffset (y .p)) (isOffset (z .p)) tests
@@ -360,13 +374,15 @@ module _ (k : ℕ) (t en r0 : List ℕ) (te : t ≡ en ++ r0) (k0 : ends isSemi 
     xs : FieldSays (x .p) (x .r' ++ r0) (c .r ++ r0)
     xs =
         field-says (x .p) (x .r' ++ r0) (c .r ++ r0)
-        (and-l (isOffset (x .p)) (not (minus (x .p))) (rw (advance-field (x .p)) at (and-r (empty (z .r') && isIndexPart (c .p)) (isAdvance (x .p)) test-2))) (x .fld)
+        (and-l (isOffset (x .p)) (not (minus (x .p))) (rw (advance-field (x .p)) at (and-r (empty (z .r') && isIndexPart (c .p)) (isAdvance (x .p)) test-2)))
+        (x .fld)
 
     ys : FieldSays (y .p) (y .r' ++ r0) (x .r' ++ r0)
     ys = field-says (y .p) (y .r' ++ r0) (x .r' ++ r0) (and-r (empty (z .r') && isIndexPart (c .p) && isAdvance (x .p)) (isOffset (y .p)) test-3) (y .fld)
 
     zs : FieldSays (z .p) (z .r' ++ r0) (y .r' ++ r0)
-    zs = field-says (z .p) (z .r' ++ r0) (y .r' ++ r0) (and-r (empty (z .r') && isIndexPart (c .p) && isAdvance (x .p) && isOffset (y .p)) (isOffset (z .p)) tests) (z .fld)
+    zs = field-says (z .p) (z .r' ++ r0) (y .r' ++ r0) (and-r (empty (z .r') && isIndexPart (c .p) && isAdvance (x .p) && isOffset (y .p)) (isOffset (z .p))
+        tests) (z .fld)
 
     x-is : partsOf t .x ≡ fieldOf (c .r ++ r0)
     unfolding partsOf
@@ -457,5 +473,7 @@ unfolding here
 bridge k t b = go (cutting isSemi t)
   where
     go : Cutting isSemi t → entryRead (partsOf t .used) (roundedParts (partsOf t)) (scanned k t) ≡ entryHere k t
-    go (whole n c) = subst (λ (v : Cut). entryRead (partsOf t .used) (roundedParts (partsOf t)) (scanned k t) ≡ entryRead (length (v .before)) (roundedEntry (v .before)) (entry k (v .before))) (sym c) (bridge-entry k t t [] (sym (append-nil t)) n refl b)
-    go (parted u s w q n e c) = subst (λ (v : Cut). entryRead (partsOf t .used) (roundedParts (partsOf t)) (scanned k t) ≡ entryRead (length (v .before)) (roundedEntry (v .before)) (entry k (v .before))) (sym c) (bridge-entry k t u (s ∷ w) q n e b)
+    go (whole n c) = subst (λ (v : Cut). entryRead (partsOf t .used) (roundedParts (partsOf t)) (scanned k t) ≡ entryRead (length (v .before))
+        (roundedEntry (v .before)) (entry k (v .before))) (sym c) (bridge-entry k t t [] (sym (append-nil t)) n refl b)
+    go (parted u s w q n e c) = subst (λ (v : Cut). entryRead (partsOf t .used) (roundedParts (partsOf t)) (scanned k t) ≡ entryRead (length (v .before))
+        (roundedEntry (v .before)) (entry k (v .before))) (sym c) (bridge-entry k t u (s ∷ w) q n e b)

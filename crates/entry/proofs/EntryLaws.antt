@@ -50,9 +50,11 @@ module _ (s : List ℕ) (p : headOf s ≡ 40) (r : Digits) (e : r ≡ digitsFrom
   pub code-odd : (headOf (drop (1 + r .count) s) ≡ 41 → ⊥) → (headOf (drop (1 + r .count) s) ≡ 58 → ⊥) → cutMap badMap ≡ cutMap (mapOf s)
   code-odd h k = rw (map-some s p, ne-eqb _ _ (rw e at h), ne-eqb _ _ (rw e at k))
 
-  module _ (h : headOf (drop (1 + r .count) s) ≡ 41 → ⊥) (k : headOf (drop (1 + r .count) s) ≡ 58) (q : Digits) (f : q ≡ digitsFrom 0 (drop (1 + (r .count + 1)) s)) where
+  module _ (h : headOf (drop (1 + r .count) s) ≡ 41 → ⊥) (k : headOf (drop (1 + r .count) s) ≡ 58) (q : Digits)
+      (f : q ≡ digitsFrom 0 (drop (1 + (r .count + 1)) s)) where
     pub code-two : headOf (drop (1 + (r .count + 1) + q .count) s) ≡ 41 → (ok : Bool) → ok ≡ (ltb 0 (r .count) && ltb 0 (q .count))
-        → _≡_ {A = MapPart} (record { ok = ok; used = 1 + (r .count + 1) + q .count + 1; mapped = true; units = r .value; glyphs = q .value }) (cutMap (mapOf s))
+        → _≡_ {A = MapPart} (record { ok = ok; used = 1 + (r .count + 1) + q .count + 1; mapped = true; units = r .value; glyphs = q .value })
+        (cutMap (mapOf s))
     code-two l ok eo = rw (map-some s p, ne-eqb _ _ (rw e at h), eq-eqb _ _ (rw e at k), eq-eqb _ _ (rw (f, e) at l), eo, f, e)
 
     pub code-open : (headOf (drop (1 + (r .count + 1) + q .count) s) ≡ 41 → ⊥) → cutMap badMap ≡ cutMap (mapOf s)
@@ -71,13 +73,23 @@ map-unused s m em h =
     ap (λ (x : MapPart). x .used) em
     ∙ cases (eqb (headOf s) 40)
     (λ e. clash (mapOf s .mapped)
-    (ap (λ (x : Map). x .mapped) (map-some s (eqb-true (headOf s) 40 e)) ∙ by-mapped (headAt (1 + length ds) s) (headAt (1 + (length ds + 1) + length es) s) ds es) none)
+    (ap (λ (x : Map). x .mapped) (map-some s (eqb-true (headOf s) 40 e))
+    ∙ by-mapped (headAt (1 + length ds) s) (headAt (1 + (length ds + 1) + length es) s) ds es) none)
     (λ e. ap (λ (x : Map). x .used) (map-none s (eqb-false (headOf s) 40 e)))
 
 -- ── map and index ──
 
-pub code-front : (s : List ℕ) (m : MapPart) → m ≡ cutMap (mapOf s) → (d : Digits) → d ≡ digitsFrom 0 (drop (m .used) s) → (q o : Bool) → q ≡ (ltb 0 (d .count) || not (m .mapped)) → o ≡ (m .ok && q)
-    → _≡_ {A = Front} (record { ok = o; used = m .used + d .count; mapped = m .mapped; units = m .units; glyphs = m .glyphs; named = ltb 0 (d .count); index = d .value }) (frontOf s)
+pub code-front : (s : List ℕ) (m : MapPart) → m ≡ cutMap (mapOf s) → (d : Digits) → d ≡ digitsFrom 0 (drop (m .used) s) → (q o : Bool)
+    → q ≡ (ltb 0 (d .count) || not (m .mapped)) → o ≡ (m .ok && q)
+    → _≡_ {A = Front} (record {
+      ok = o;
+      used = m .used + d .count;
+      mapped = m .mapped;
+      units = m .units;
+      glyphs = m .glyphs;
+      named = ltb 0 (d .count);
+      index = d .value;
+    }) (frontOf s)
 unfolding frontOf
 code-front s m em d ed q o eq eo = rw (eo, eq, ed, em)
 
@@ -98,7 +110,8 @@ module _ (s : List ℕ) (at : ℕ) (p : headOf (drop at s) ≡ 44) where
   pub code-empty : ends isBreak (drop (at + 1) s) ≡ true → notGiven 1 ≡ fieldOf (drop at s)
   code-empty h = rw (field-some (drop at s) p, drop-drop 1 at s, h)
 
-  pub code-given : (b : ℕ) → b ≡ headOf (drop (at + 1) s) → ends isBreak (drop (at + 1) s) ≡ false → (k : ℕ) → k ≡ signLength b → (n : Number) → n ≡ numberOf (drop (at + (1 + k)) s)
+  pub code-given : (b : ℕ) → b ≡ headOf (drop (at + 1) s) → ends isBreak (drop (at + 1) s) ≡ false → (k : ℕ) → k ≡ signLength b → (n : Number)
+      → n ≡ numberOf (drop (at + (1 + k)) s)
       → givenBy b (1 + k) n ≡ fieldOf (drop at s)
   code-given b eb h k ek n en = rw (field-some (drop at s) p, drop-drop 1 at s, h, ← eb, ← ek, drop-drop, ← en)
 
@@ -179,7 +192,8 @@ module _ (k : ℕ) (s : List ℕ) (f : Front) (x y z : Field) (p : Parted s f x 
 
       pub code-read : Fit (x .size) (y .size) (z .size) ≡ true
           → (i : Index) → i ≡ indexChoice (f .named) (f .index) → (a : Advance) → a ≡ advanceChoice (x .given) (x .size)
-          → (u v : ℤ) → u ≡ offsetBy (y .negative) (y .size) → v ≡ offsetBy (z .negative) (z .size) → (n : ℕ) → n ≡ roundedBy (x .size) + roundedBy (y .size) + roundedBy (z .size)
+          → (u v : ℤ) → u ≡ offsetBy (y .negative) (y .size) → v ≡ offsetBy (z .negative) (z .size) → (n : ℕ)
+          → n ≡ roundedBy (x .size) + roundedBy (y .size) + roundedBy (z .size)
           → Read (record {
             mapped = f .mapped;
             units = f .units;
@@ -240,7 +254,8 @@ module _ (k : ℕ) (s : List ℕ) (f : Front) (x : Field) (ef : f ≡ frontOf s)
       unfolding Fit
       one-limit n = code-limits k s f x (notGiven 0) (notGiven 0) one-parted (one-well ∙ w) l (rw n)
 
-      pub one-read : numberWithin (x .size) ≡ true → (i : Index) → i ≡ indexChoice (f .named) (f .index) → (a : Advance) → a ≡ advanceChoice (x .given) (x .size) → (n : ℕ) → n ≡ roundedBy (x .size)
+      pub one-read : numberWithin (x .size) ≡ true → (i : Index) → i ≡ indexChoice (f .named) (f .index) → (a : Advance)
+          → a ≡ advanceChoice (x .given) (x .size) → (n : ℕ) → n ≡ roundedBy (x .size)
           → Read (record {
             mapped = f .mapped;
             units = f .units;
@@ -265,7 +280,8 @@ no-comma : (t : List ℕ) → ends isSemi t ≡ true → headOf t ≡ 44 → ⊥
 no-comma [] w h = omega (arith, h)
 no-comma (b ∷ t) w h = omega (arith, h, eqb-true b 59 w)
 
-index-alone : (t : List ℕ) (d : Digits) → d ≡ digitsFrom 0 t → d .count ≤ length t → 0 < d .count → d .value ≤ maxIndex → ends isSemi (drop (d .count) t) ≡ true → IsIndex t d
+index-alone : (t : List ℕ) (d : Digits) → d ≡ digitsFrom 0 t → d .count ≤ length t → 0 < d .count → d .value ≤ maxIndex
+    → ends isSemi (drop (d .count) t) ≡ true → IsIndex t d
 unfolding OneWell
 index-alone t d ed bound some l w =
     let n : ℕ = d .count in
@@ -275,7 +291,8 @@ index-alone t d ed bound some l w =
     let ef : f ≡ frontOf t = rw (zero-add n) at (code-front t (cutMap noMap) (ap cutMap (sym plain)) d ed true true (sym (or-true (ltb 0 n))) refl) in
     let i : Named (d .value) ≡ indexChoice (ltb 0 n) (d .value) = ap (λ (b : Bool). indexChoice b (d .value)) (sym (lt-ltb 0 n some)) in (
       l,
-      λ k. sym (rw z at (one-read k t f (notGiven 0) ef (code-absent t n (no-comma (drop n t) w)) (rw z (no-comma (drop n t) w)) (rw z bound) (rw z w) l refl (Named (d .value)) i Own refl 0 refl)),
+      λ k. sym (rw z at (one-read k t f (notGiven 0) ef (code-absent t n (no-comma (drop n t) w)) (rw z (no-comma (drop n t) w)) (rw z bound) (rw z w) l refl
+          (Named (d .value)) i Own refl 0 refl)),
     )
 
 -- two flags put together
@@ -291,4 +308,5 @@ index-told s at d ed b e h =
     let t : (index && end) ≡ true = sym e ∙ h in
     let i : index ≡ true = and-l index end t in
     index-alone (drop at s) d ed (omega (arith, b, length-drop at s)) (ltb-true 0 (d .count) (and-l (ltb 0 (d .count)) (leb (d .value) maxIndex) i))
-    (leb-true (d .value) maxIndex (and-r (ltb 0 (d .count)) (leb (d .value) maxIndex) i)) (ap (λ (y : List ℕ). ends isSemi y) (drop-drop (d .count) at s) ∙ and-r index end t)
+    (leb-true (d .value) maxIndex (and-r (ltb 0 (d .count)) (leb (d .value) maxIndex) i))
+    (ap (λ (y : List ℕ). ends isSemi y) (drop-drop (d .count) at s) ∙ and-r index end t)

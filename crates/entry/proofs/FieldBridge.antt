@@ -51,8 +51,10 @@ field-is (b ∷ x) r n h = go (number-is (unsigned (b ∷ x)) r (none-unsigned (
     is : fieldOf (44 ∷ (b ∷ (x ++ r))) ≡ givenBy b (1 + signLength b) (numberOf (unsigned (b ∷ x) ++ r))
     is = rw (break, skip)
 
-    gone : drop (1 + signLength b + numberOf (unsigned (b ∷ x) ++ r) .used) (44 ∷ (b ∷ (x ++ r))) ≡ drop (numberOf (unsigned (b ∷ x) ++ r) .used) (unsigned (b ∷ x) ++ r)
-    gone = sym (drop-drop (numberOf (unsigned (b ∷ x) ++ r) .used) (1 + signLength b) (44 ∷ (b ∷ (x ++ r)))) ∙ ap (λ (y : List ℕ). drop (numberOf (unsigned (b ∷ x) ++ r) .used) y) skip
+    gone : drop (1 + signLength b + numberOf (unsigned (b ∷ x) ++ r) .used) (44 ∷ (b ∷ (x ++ r))) ≡ drop (numberOf (unsigned (b ∷ x) ++ r) .used)
+        (unsigned (b ∷ x) ++ r)
+    gone = sym (drop-drop (numberOf (unsigned (b ∷ x) ++ r) .used) (1 + signLength b) (44 ∷ (b ∷ (x ++ r))))
+        ∙ ap (λ (y : List ℕ). drop (numberOf (unsigned (b ∷ x) ++ r) .used) y) skip
 
     go : Numbered (unsigned (b ∷ x)) r (unsigned (b ∷ x) ++ r) → Fielded (b ∷ x) r (44 ∷ ((b ∷ x) ++ r))
     go (nb.good m o d s) = good m (rw is o) (rw (is, gone) d) (rw is) (rw is) (rw is s)

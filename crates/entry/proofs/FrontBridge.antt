@@ -39,7 +39,8 @@ head-plain x r t q n h p m = go (front x r (at-break r h (λ b. isDigit b ≡ fa
     yes false = refl
 
     go : Front x r → Headed x r t
-    go (full a l f) = good (rw (p, a)) (rw m (yes (ltb 0 (length (lead t))))) (rw (m, q, zero-add (length (lead (x ++ r)))) f) (rw (m, p)) (rw (m, p)) (rw (m, p)) (rw (m, p, q) l)
+    go (full a l f) = good (rw (p, a)) (rw m (yes (ltb 0 (length (lead t))))) (rw (m, q, zero-add (length (lead (x ++ r)))) f) (rw (m, p)) (rw (m, p))
+        (rw (m, p)) (rw (m, p, q) l)
     go (odd a b y f g) = wrong (rw (p, a)) (rw (m, q, zero-add (length (lead (x ++ r))), f, g isBreak n, and-false))
 
 -- ── a map ──
@@ -69,7 +70,8 @@ assoc true b c = refl
 assoc false b c = refl
 
 -- behind a map M there is w, and then the rest
-mapped : (x r t w : List ℕ) (M : Map) → mapOf t ≡ M → M .mapped ≡ true → drop (M .used) t ≡ w ++ r → isIndexPart x ≡ (digits w && M .ok) → hasMap x ≡ true → indexDigits x ≡ w
+mapped : (x r t w : List ℕ) (M : Map) → mapOf t ≡ M → M .mapped ≡ true → drop (M .used) t ≡ w ++ r → isIndexPart x ≡ (digits w && M .ok) → hasMap x ≡ true
+    → indexDigits x ≡ w
     → (M .ok ≡ true → M .units ≡ mapUnits x) → (M .ok ≡ true → M .glyphs ≡ mapGlyphs x) → none isBreak w ≡ true → ends isBreak r ≡ true → Headed x r t
 mapped x r t w M m p d i hm ix ua ub n h = go w refl (M .ok) refl (front w r (at-break r h (λ b. isDigit b ≡ false) refl refl refl))
   where
@@ -120,7 +122,8 @@ module _ (y r : List ℕ) (h : ends isBreak r ≡ true) where
           ∙ inside a b p (none-left isClose a (58 ∷ b) n') (none-right isClose a (58 ∷ b) n') (front a (58 ∷ (b ++ r)) refl)
         where
           inside : (a b : List ℕ) → none isColon a ≡ true → none isClose a ≡ true → none isClose b ≡ true → Front a (58 ∷ (b ++ r))
-              → mapBy (headOf (after (a ++ (58 ∷ (b ++ r))))) (headOf (after (drop 1 (after (a ++ (58 ∷ (b ++ r))))))) (lead (a ++ (58 ∷ (b ++ r)))) (lead (drop 1 (after (a ++ (58 ∷ (b ++ r))))))
+              → mapBy (headOf (after (a ++ (58 ∷ (b ++ r))))) (headOf (after (drop 1 (after (a ++ (58 ∷ (b ++ r))))))) (lead (a ++ (58 ∷ (b ++ r))))
+              (lead (drop 1 (after (a ++ (58 ∷ (b ++ r))))))
               ≡ badMap
           inside a b p na nb (full i l f) = rw (f, not-head isClose b r nb rest-digit rest-close)
           inside a b p na nb (odd i c v f g) = rw (f, g isClose na, g isColon p)
@@ -133,7 +136,8 @@ unfolding isIndexPart indexDigits mapUnits mapGlyphs
 closed-one a w r x na ca nw h hm ar inn = go (front a (41 ∷ (w ++ r)) refl)
   where
     go : Front a (41 ∷ (w ++ r)) → Headed x r (40 ∷ (a ++ (41 ∷ (w ++ r))))
-    go (odd i b y f g) = ill x r (40 ∷ (a ++ (41 ∷ (w ++ r)))) (map-is (a ++ (41 ∷ (w ++ r))) ∙ rw (f, g isClose na, g isColon ca)) (rw (hm, inn, i, and-false, and-false))
+    go (odd i b y f g) = ill x r (40 ∷ (a ++ (41 ∷ (w ++ r)))) (map-is (a ++ (41 ∷ (w ++ r))) ∙ rw (f, g isClose na, g isColon ca))
+        (rw (hm, inn, i, and-false, and-false))
     go (full i l f) =
         mapped x r (40 ∷ (a ++ (41 ∷ (w ++ r)))) w (oneMap a) (map-is (a ++ (41 ∷ (w ++ r))) ∙ rw (f, l)) refl
         (behind-one (a ++ (41 ∷ (w ++ r))) (length a) ∙ rw (sym (ap length l)) (rw f))
@@ -157,7 +161,8 @@ closed-two a b w r x na ca nb nw h hm af aw inn = outer (front a (58 ∷ (b ++ (
         (λ o. rw (hm, inn)) (λ o. rw (hm, inn)) nw h
 
     outer : Front a (58 ∷ (b ++ (41 ∷ (w ++ r)))) → Headed x r (40 ∷ (a ++ (58 ∷ (b ++ (41 ∷ (w ++ r))))))
-    outer (odd i c y f g) = ill x r (40 ∷ (a ++ (58 ∷ (b ++ (41 ∷ (w ++ r)))))) (map-is (a ++ (58 ∷ (b ++ (41 ∷ (w ++ r))))) ∙ rw (f, g isClose na, g isColon ca)) (rw (hm, inn, i, and-false, and-false))
+    outer (odd i c y f g) = ill x r (40 ∷ (a ++ (58 ∷ (b ++ (41 ∷ (w ++ r))))))
+        (map-is (a ++ (58 ∷ (b ++ (41 ∷ (w ++ r))))) ∙ rw (f, g isClose na, g isColon ca)) (rw (hm, inn, i, and-false, and-false))
     outer (full i l f) = deep (map-is (a ++ (58 ∷ (b ++ (41 ∷ (w ++ r))))) ∙ rw (f, l)) f l i (front b (41 ∷ (w ++ r)) refl)
 
 -- ── the front of an entry ──

@@ -130,7 +130,8 @@ pub fields-uv : (u v : ℤ) {b : Bool} → b ≡ empty (trim (partsUV u v)) → 
 unfolding partsUV
 fields-uv u v e k = fields-more (offsetBytes u) (partsV v) e k
 
-pub fields-auv : (a u v : ℤ) {b : Bool} → b ≡ empty (trim (partsAUV a u v)) → b ≡ false → (44 ∷ []) ++ (advanceBytes (numberAdvance a) ++ fields (partsUV u v)) ≡ fields (partsAUV a u v)
+pub fields-auv : (a u v : ℤ) {b : Bool} → b ≡ empty (trim (partsAUV a u v)) → b ≡ false
+    → (44 ∷ []) ++ (advanceBytes (numberAdvance a) ++ fields (partsUV u v)) ≡ fields (partsAUV a u v)
 unfolding partsAUV
 fields-auv a u v e k = fields-more (advanceBytes (numberAdvance a)) (partsUV u v) e k
 

@@ -123,7 +123,8 @@ raw-placed k (b ∷ bs) zero at h =
 resolve-placed : (room : ℕ) (raw : List ℕ) → Placed 24 (length raw) (resolveInto room raw)
 resolve-placed room raw =
     rw (resolve-into-steps room raw) (bind-placed 24 (length raw) (resolve raw) _ (raw-placed (length raw) raw 0 0 (omega arith))
-    (λ s e. need-placed 24 (length raw) (leb (length s) room) 24 (length s) _ (omega arith, omega arith) (omega (arith, resolved-within raw 0 0 s e)) (λ _. fine)))
+    (λ s e. need-placed 24 (length raw) (leb (length s) room) 24 (length s) _ (omega arith, omega arith) (omega (arith, resolved-within raw 0 0 s e))
+    (λ _. fine)))
 
 pub filled-fits : (room : ℕ) (raw : List ℕ) → FilledFits (filledCount (resolveInto room raw))
 filled-fits room raw = of (resolveInto room raw) (resolve-placed room raw)
@@ -138,7 +139,8 @@ need-fits : {A : Type 0} (t : Bool) (n p : ℕ) (o : Outcome (List A)) → Small
 need-fits true n p o a f = f
 need-fits false n p o a f = a
 
-then-fits : {A B : Type 0} (o : Outcome (List A)) (f : List A → Outcome (List B)) → FilledFits (filledCount o) → ((ls : List A) → FilledFits (filledCount (f ls)))
+then-fits : {A B : Type 0} (o : Outcome (List A)) (f : List A → Outcome (List B)) → FilledFits (filledCount o)
+    → ((ls : List A) → FilledFits (filledCount (f ls)))
     → FilledFits (filledCount (o >>= f))
 then-fits (ok ls) f a b = b ls
 then-fits (no n p) f a b = a
@@ -179,8 +181,10 @@ pick-fits true true x h = h refl
 
 pub stretch-fits : (turn : Bool) (us cs gs : List ℕ) (first end : ℕ) → StretchFits (pickAlong turn (places us cs gs) first end)
 stretch-fits false us cs gs first end =
-    rw (units-steps (places us cs gs) first end) (pick-fits (sound (places us cs gs)) (inside first end (length (glyphsOf (words gs)))) (touched first end (clustersOf (words cs)))
+    rw (units-steps (places us cs gs) first end) (pick-fits (sound (places us cs gs)) (inside first end (length (glyphsOf (words gs))))
+    (touched first end (clustersOf (words cs)))
     (λ s. touched-fits first end (clustersOf (words cs)) (let e = units-add-up us cs gs s in omega (arith, few-units us cs gs s))))
 stretch-fits true us cs gs first end =
-    rw (glyphs-steps (places us cs gs) first end) (pick-fits (sound (places us cs gs)) (inside first end (length (halves us))) (touched first end (turned (clustersOf (words cs))))
+    rw (glyphs-steps (places us cs gs) first end) (pick-fits (sound (places us cs gs)) (inside first end (length (halves us)))
+    (touched first end (turned (clustersOf (words cs))))
     (λ s. touched-fits first end (turned (clustersOf (words cs))) (let e = glyphs-add-up us cs gs s in omega (arith, few-glyphs us cs gs s))))

@@ -90,7 +90,8 @@ module _ (t i us cs gs : List ℕ) (a : GlyphLabelReading) (us′ cs′ gs′ : 
     λ r. holds-run (r .0) (read-into t i (r .0) (roomOf us cs gs) (r .1) (r .2)) .number,
   )
     where
-      go : (o : Outcome Run) → readInto (roomOf us cs gs) t i ≡ o → Placed 18 262145 o → a .number ≡ 0 → (r : Run) × (read t i ≡ ok r) × Roomy r (roomOf us cs gs)
+      go : (o : Outcome Run) → readInto (roomOf us cs gs) t i ≡ o → Placed 18 262145 o → a .number ≡ 0
+          → (r : Run) × (read t i ≡ ok r) × Roomy r (roomOf us cs gs)
       go (ok r) e x z = let (h, m) = into-read t i r (roomOf us cs gs) e in (r, h, m)
       go (no n p) e x z = not-ok x (sym (number-of n p e .0) ∙ z)
 
@@ -168,7 +169,8 @@ module _ (asked : Bool) (z : Places) (tx ix : List ℕ) (a : GlyphLabelWriting) 
 -- ── a pick ──
 
 -- number 0 is that of a pick of which neither 19 nor 22 holds
-picked : (s q : Bool) (x : Stretch) (o : Outcome Stretch) (a : GlyphLabelStretch) → o ≡ (need s 19 0 >> (need q 22 0 >> ok x)) → a ≡ stretchAnswer o → a .number ≡ 0
+picked : (s q : Bool) (x : Stretch) (o : Outcome Stretch) (a : GlyphLabelStretch) → o ≡ (need s 19 0 >> (need q 22 0 >> ok x)) → a ≡ stretchAnswer o
+    → a .number ≡ 0
     → (s ≡ true) × (q ≡ true)
 picked true true x o a e h k = (refl, refl)
 picked true false x o a e h k =
@@ -196,7 +198,8 @@ module _ (z : Places) (first end : ℕ) (a : GlyphLabelStretch) where
   units-inside : (v : Readable z) → inside first end (length (runOf z .glyphs)) ≡ true → (first < end) × (end ≤ length (v .run .glyphs))
   units-inside v q = inside-is first end (length (runOf z .glyphs)) (length (v .run .glyphs)) q (ap (λ (r : Run). length (r .glyphs)) (demand-2 .run-is z v))
 
-  units-of : inBytes z ≡ true → a ≡ stretchAnswer (pickUnits z first end) → (a .number ≡ 0) ↔ ((v : Readable z) × (first < end) × (end ≤ length (v .run .glyphs)))
+  units-of : inBytes z ≡ true → a ≡ stretchAnswer (pickUnits z first end)
+      → (a .number ≡ 0) ↔ ((v : Readable z) × (first < end) × (end ≤ length (v .run .glyphs)))
   units-of b h = (
     λ k. let (s, q) = units-sound h k in
         let v : Readable z = demand-2 .sound-is z b .0 s in
@@ -211,12 +214,14 @@ module _ (z : Places) (first end : ℕ) (a : GlyphLabelStretch) where
       answer-whole _ _ first end _ a h (demand-2 .to-units z first end v x y) .1
 
   glyphs-sound : a ≡ stretchAnswer (pickGlyphs z first end) → a .number ≡ 0 → (sound z ≡ true) × (inside first end (length (runOf z .units)) ≡ true)
-  glyphs-sound h k = picked (sound z) (inside first end (length (runOf z .units))) (touched first end (turned (runOf z .clusters))) _ a (glyphs-steps z first end) h k
+  glyphs-sound h k = picked (sound z) (inside first end (length (runOf z .units))) (touched first end (turned (runOf z .clusters))) _ a
+      (glyphs-steps z first end) h k
 
   glyphs-inside : (v : Readable z) → inside first end (length (runOf z .units)) ≡ true → (first < end) × (end ≤ length (v .run .units))
   glyphs-inside v q = inside-is first end (length (runOf z .units)) (length (v .run .units)) q (ap (λ (r : Run). length (r .units)) (demand-2 .run-is z v))
 
-  glyphs-of : inBytes z ≡ true → a ≡ stretchAnswer (pickGlyphs z first end) → (a .number ≡ 0) ↔ ((v : Readable z) × (first < end) × (end ≤ length (v .run .units)))
+  glyphs-of : inBytes z ≡ true → a ≡ stretchAnswer (pickGlyphs z first end)
+      → (a .number ≡ 0) ↔ ((v : Readable z) × (first < end) × (end ≤ length (v .run .units)))
   glyphs-of b h = (
     λ k. let (s, q) = glyphs-sound h k in
         let v : Readable z = demand-2 .sound-is z b .0 s in
@@ -248,7 +253,8 @@ passed t i us cs gs tx ix r a us′ cs′ gs′ w tx′ ix′ h p =
     let x : HoldsRun r us cs gs a us′ cs′ gs′ = holds-run t i us cs gs a us′ cs′ gs′ (p .reads) r e in
     let z : Places = places (take (2 * a .units) us′) (take (8 * a .clusters) cs′) (take (16 * a .glyphs) gs′) in
     let k : writeAsked false (outputs tx ix) z ≡ ok (normal r) =
-    rw (x .unit-count, x .cluster-count, x .glyph-count, p .reads .units, p .reads .clusters, p .reads .glyphs) (passed-is t i r us cs gs (outputs tx ix) (h .is) (h .buffers) (h .out)) in
+    rw (x .unit-count, x .cluster-count, x .glyph-count, p .reads .units, p .reads .clusters, p .reads .glyphs)
+    (passed-is t i r us cs gs (outputs tx ix) (h .is) (h .buffers) (h .out)) in
     let y : HoldsLabel (normal r) tx ix w tx′ ix′ = holds-label false z tx ix w tx′ ix′ (p .writes) (normal r) k in
     record {
       read-number = x .number;
@@ -262,7 +268,8 @@ same : (A B : Run) (aA aB : GlyphLabelReading) (wA wB : GlyphLabelWriting) (txA 
     → (A ≡ B) ↔ ((take (wA .text) txA ≡ take (wB .text) txB) × (take (wA .indices) ixA ≡ take (wB .indices) ixB))
 same A B aA aB wA wB txA ixA txB ixB tA iA tB iB hA hB x y =
     rw (x .text, x .indices, y .text, y .indices)
-    (demand-3 .same tA iA tB iB A B (normal A) (normal B) (just A) (just B) hA hB (demand-3 .normally tA iA A (just A) hA (has-room A)) (demand-3 .normally tB iB B (just B) hB (has-room B)))
+    (demand-3 .same tA iA tB iB A B (normal A) (normal B) (just A) (just B) hA hB (demand-3 .normally tA iA A (just A) hA (has-room A))
+    (demand-3 .normally tB iB B (just B) hB (has-room B)))
   where
     just : Run → Lengths
     just r = record { text = length (normal r .text); indices = length (normal r .indices) }

@@ -106,5 +106,8 @@ module _ {s : List ℕ} {at start i v : ℕ} (g : Scanned s at start i v) where
   pub scan-stop : lead (drop i s) ≡ [] → _≡_ {A = Digits} (record { count = i - at; value = v }) (digitsFrom start (drop at s))
   scan-stop l =
       let n : i - at ≡ length (lead (drop at s)) = omega (arith, ap length l, g .counts) in
-      let w : v ≡ min (valueFrom start (lead (drop at s))) cap = omega (arith, sym (ap (λ (ds : List ℕ). min (valueFrom v ds) cap) l ∙ ap (λ (n : ℕ). min n cap) (value-none v)) ∙ g .values) in
+      let w : v ≡ min (valueFrom start (lead (drop at s))) cap = omega (
+        arith,
+        sym (ap (λ (ds : List ℕ). min (valueFrom v ds) cap) l ∙ ap (λ (n : ℕ). min n cap) (value-none v)) ∙ g .values,
+      ) in
       λ k. record { count = n k; value = w k }

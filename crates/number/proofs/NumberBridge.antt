@@ -26,7 +26,8 @@ use Rattle.number.proofs.Scan.{after, Front, full, odd, front, Cutting,
 abbrev isTail : ℕ → Bool
 isTail b = isBreak b || isE b
 
-tail-head : (s : List ℕ) → ends isTail s ≡ true → (t : ℕ → Bool) → t 44 ≡ false → t 59 ≡ false → t 101 ≡ false → t 69 ≡ false → t 0 ≡ false → t (headOf s) ≡ false
+tail-head : (s : List ℕ) → ends isTail s ≡ true → (t : ℕ → Bool) → t 44 ≡ false → t 59 ≡ false → t 101 ≡ false → t 69 ≡ false → t 0 ≡ false
+    → t (headOf s) ≡ false
 tail-head [] h t p k q r z = z
 tail-head (b ∷ s) h t p k q r z =
     cases (eqb b 44) (λ e. rw (eqb-true b 44 e) p)
@@ -74,7 +75,8 @@ mant-pointed-part d f s p nd nf h u c = outer (front d (46 ∷ (f ++ s)) refl)
     rest : drop (length d + 1 + length (lead (f ++ s))) (d ++ (46 ∷ (f ++ s))) ≡ after (f ++ s)
     rest = sym (drop-drop (length (lead (f ++ s))) (length d + 1) (d ++ (46 ∷ (f ++ s)))) ∙ ap (λ (y : List ℕ). drop (length (lead (f ++ s))) y) seam
 
-    inner : mantissaOf (d ++ (46 ∷ (f ++ s))) ≡ pointed d (lead (f ++ s)) → allDigits d ≡ true → (v : List ℕ) → f ≡ v → Front f s → Manted u s (d ++ (46 ∷ (f ++ s)))
+    inner : mantissaOf (d ++ (46 ∷ (f ++ s))) ≡ pointed d (lead (f ++ s)) → allDigits d ≡ true → (v : List ℕ) → f ≡ v → Front f s
+        → Manted u s (d ++ (46 ∷ (f ++ s)))
     inner m a [] e (full b l g) = wrong (rw (c, e, and-false)) (rw (m, l, e))
     inner m a (b ∷ v) e (full b' l g) =
         good (rw (c, a, b', e)) (length d + 1 + length f)
@@ -134,7 +136,8 @@ cond-three true true c z = refl
 cond-three true false c z = refl
 cond-three false b c z = refl
 
-size-same : (x : List ℕ) (m : Mant) (e : Expo) → m .digits ≡ mantissaDigits x → m .behind ≡ length (fractionDigits x) → e .negative ≡ minus (atExponent x .after) → e .digits ≡ exponentDigits x
+size-same : (x : List ℕ) (m : Mant) (e : Expo) → m .digits ≡ mantissaDigits x → m .behind ≡ length (fractionDigits x)
+    → e .negative ≡ minus (atExponent x .after) → e .digits ≡ exponentDigits x
     → sizeOf m e ≡ sizedAs x
 unfolding numberFits thousandths isExact
 size-same x m e d b n p =
@@ -163,7 +166,8 @@ unfolding numberOf
 mant-wrong t h = go (mantissaOf t .ok) refl (drop (mantissaOf t .used) t) refl
   where
     go : (o : Bool) → mantissaOf t .ok ≡ o → (y : List ℕ) → drop (mantissaOf t .used) t ≡ y
-        → ((mantissaOf t .ok && exponentOf (drop (mantissaOf t .used) t) .ok) && ends isBreak (drop (mantissaOf t .used + exponentOf (drop (mantissaOf t .used) t) .used) t)) ≡ false
+        → ((mantissaOf t .ok && exponentOf (drop (mantissaOf t .used) t) .ok) && ends isBreak
+        (drop (mantissaOf t .used + exponentOf (drop (mantissaOf t .used) t) .used) t)) ≡ false
     go false e y f = rw e
     go true e [] f = clash true refl (rw (e, f) at h)
     go true e (b ∷ y) f =
@@ -181,7 +185,8 @@ number-whole x r n h e c = go (mant x r (none-or isBreak isE x n e) (comma-tail 
     go (wrong d w) = wrong (rw (c, d)) (mant-wrong (x ++ r) w)
     go (good d k m f) =
         let o : exponentOf r ≡ unraised = expo-none r (at-break r h (λ b. isE b ≡ false) refl refl refl) in
-        good (rw (c, d)) (rw (m, f, o)) (rw (m, f, o, add-zero k) f) (rw (m, f, o) (size-same x (cutMant x k) unraised (rw c) (rw (fractionDigits, c)) (rw c) (rw c)))
+        good (rw (c, d)) (rw (m, f, o)) (rw (m, f, o, add-zero k) f) (rw (m, f, o)
+        (size-same x (cutMant x k) unraised (rw c) (rw (fractionDigits, c)) (rw c) (rw c)))
 
 number-parted : (u w : List ℕ) (e : ℕ) (r : List ℕ) → none isBreak u ≡ true → none isBreak w ≡ true → ends isBreak r ≡ true → none isE u ≡ true → isE e ≡ true
     → (x : List ℕ) → cut isE x ≡ record { before = u; found = true; after = w } → Numbered x r (u ++ (e ∷ (w ++ r)))
@@ -214,7 +219,8 @@ number-parted u w e r nu nw h ne k x c = go (mant u (e ∷ (w ++ r)) (none-or is
         inner (b ∷ v) q (full a l g) =
             let o : ltb 0 (length (unsigned w)) ≡ true = ap (λ (y : List ℕ). ltb 0 (length y)) q ∙ some-is (b ∷ v) in
             good (rw (c, d, a, q)) (rw (m, f, power-is, l, o)) (rw (m, f, power-is, gone n f) g)
-            (rw (m, f, power-is) (size-same x (cutMant u n) (raised (headOf (w ++ r)) (1 + signLength (headOf (w ++ r))) (lead (unsigned w ++ r))) (rw c) (rw (fractionDigits, c)) (rw c (sg .minus-is)) (rw c l)))
+            (rw (m, f, power-is) (size-same x (cutMant u n) (raised (headOf (w ++ r)) (1 + signLength (headOf (w ++ r))) (lead (unsigned w ++ r))) (rw c)
+            (rw (fractionDigits, c)) (rw c (sg .minus-is)) (rw c l)))
         inner v q (odd a b y g i) = wrong (rw (c, d, a, and-false)) (rw (m, f, power-is, gone n f, g, i isBreak (none-unsigned w nw), and-false))
 
 pub number-is : (x r : List ℕ) → none isBreak x ≡ true → ends isBreak r ≡ true → Numbered x r (x ++ r)

@@ -37,7 +37,8 @@ value-small (b ∷ t) v = go (isDigit b) refl (value-small t (v * 10 + (b - 48))
   where
     go : (d : Bool) → isDigit b ≡ d → valueFrom (v * 10 + (b - 48)) (lead t) < (v * 10 + (b - 48) + 1) * 10 ^ length (lead t)
         → valueFrom v (lead (b ∷ t)) < (v + 1) * 10 ^ length (lead (b ∷ t))
-    go true e ih = rw (lead-yes b t e, pow-suc 10 (length (lead t))) (step-small v (b - 48) (10 ^ length (lead t)) (valueFrom (v * 10 + (b - 48)) (lead t)) (omega (arith, digit-high b e)) ih)
+    go true e ih = rw (lead-yes b t e, pow-suc 10 (length (lead t)))
+        (step-small v (b - 48) (10 ^ length (lead t)) (valueFrom (v * 10 + (b - 48)) (lead t)) (omega (arith, digit-high b e)) ih)
     go false e ih = rw (lead-no b t e) (omega arith)
 
 lead-small : (t : List ℕ) → value (lead t) < 10 ^ length (lead t)
@@ -56,7 +57,8 @@ mant-small : (t : List ℕ) → value (mantissaOf t .digits) < 10 ^ length (mant
 unfolding mantissaOf
 mant-small t = go (eqb (headOf (drop (length (lead t)) t)) 46)
   where
-    go : (p : Bool) → let m : Mant = cond p (pointed (lead t) (lead (drop (length (lead t) + 1) t))) (plain (lead t)) in value (m .digits) < 10 ^ length (m .digits)
+    go : (p : Bool) → let m : Mant = cond p (pointed (lead t) (lead (drop (length (lead t) + 1) t))) (plain (lead t)) in value (m .digits) < 10 ^ length
+        (m .digits)
     go true = leads-small t (drop (length (lead t) + 1) t)
     go false = lead-small t
 
@@ -84,7 +86,8 @@ module _ (m : Mant) (x : Expo) where
   size-far h k = rw (le-leb (length (m .digits)) 18 h, lt-leb (length (x .digits)) 2 k)
 
   size-is : length (m .digits) ≤ 18 → length (x .digits) ≤ 2
-      → sizeOf m x ≡ sized (scaled (value (m .digits)) (m .behind) (x .negative) (value (x .digits))) (isWhole (value (m .digits)) (m .behind) (x .negative) (value (x .digits)))
+      → sizeOf m x ≡ sized (scaled (value (m .digits)) (m .behind) (x .negative) (value (x .digits)))
+      (isWhole (value (m .digits)) (m .behind) (x .negative) (value (x .digits)))
   size-is h k = rw (le-leb (length (m .digits)) 18 h, le-leb (length (x .digits)) 2 k)
 
 mant-pointed : (t : List ℕ) → headOf (drop (length (lead t)) t) ≡ 46 → mantissaOf t ≡ pointed (lead t) (lead (drop (length (lead t) + 1) t))
@@ -101,13 +104,15 @@ cut-append a b = rw (value-append 0 a b) (cut-from b (min (value a) cap) (value 
 -- what the code makes of two runs of digits
 module _ (s : List ℕ) (at : ℕ) (r : Digits) (e : r ≡ digitsFrom 0 (drop at s)) where
   pub code-pointed : (q : Digits) → q ≡ digitsFrom (r .value) (drop (at + (r .count + 1)) s) → headOf (drop (at + r .count) s) ≡ 46
-      → _≡_ {A = Mantissa} (record { ok = ltb 0 (q .count); used = r .count + 1 + q .count; count = r .count + q .count; value = q .value; behind = q .count }) (cutMantissa (mantissaOf (drop at s)))
+      → _≡_ {A = Mantissa} (record { ok = ltb 0 (q .count); used = r .count + 1 + q .count; count = r .count + q .count; value = q .value; behind = q .count })
+      (cutMantissa (mantissaOf (drop at s)))
   code-pointed q f h =
       let g : headOf (drop (length (lead (drop at s))) (drop at s)) ≡ 46 = rw drop-drop (rw e at h) in
       rw (mant-pointed (drop at s) g, f, e, drop-drop, length-append, ← cut-append)
 
   pub code-plain : (headOf (drop (at + r .count) s) ≡ 46 → ⊥)
-      → _≡_ {A = Mantissa} (record { ok = ltb 0 (r .count); used = r .count; count = r .count; value = r .value; behind = 0 }) (cutMantissa (mantissaOf (drop at s)))
+      → _≡_ {A = Mantissa} (record { ok = ltb 0 (r .count); used = r .count; count = r .count; value = r .value; behind = 0 })
+      (cutMantissa (mantissaOf (drop at s)))
   code-plain h =
       let g : headOf (drop (length (lead (drop at s))) (drop at s)) ≡ 46 → ⊥ = rw drop-drop (rw e at h) in
       rw (mant-plain (drop at s) g, e)
@@ -150,8 +155,10 @@ pub expo-some : (t : List ℕ) → isE (headOf t) ≡ true → exponentOf t ≡ 
 unfolding exponentOf
 expo-some t h = rw h
 
-pub code-raised : (s : List ℕ) (at b k : ℕ) (r : Digits) → b ≡ headOf (drop (at + 1) s) → k ≡ signLength b → r ≡ digitsFrom 0 (drop (at + (1 + k)) s) → isE (headOf (drop at s)) ≡ true
-    → _≡_ {A = Exponent} (record { ok = ltb 0 (r .count); used = 1 + k + r .count; negative = eqb b 45; count = r .count; value = r .value }) (cutExponent (exponentOf (drop at s)))
+pub code-raised : (s : List ℕ) (at b k : ℕ) (r : Digits) → b ≡ headOf (drop (at + 1) s) → k ≡ signLength b → r ≡ digitsFrom 0 (drop (at + (1 + k)) s)
+    → isE (headOf (drop at s)) ≡ true
+    → _≡_ {A = Exponent} (record { ok = ltb 0 (r .count); used = 1 + k + r .count; negative = eqb b 45; count = r .count; value = r .value })
+    (cutExponent (exponentOf (drop at s)))
 code-raised s at b k r eb ek er h = rw (expo-some (drop at s) h, drop-drop 1 at s, ← eb, ← ek, drop-drop, er)
 
 -- a value within the digits' limits is exact, and within what the code asks of it
@@ -194,7 +201,8 @@ module _ (s : List ℕ) (at : ℕ) (m : Mantissa) (em : m ≡ cutMantissa (manti
   pub code-far : m .count ≤ 18 → 2 < x .count → _≡_ {A = Number} (record { ok = ok; used = m .used + x .used; size = Over }) (numberOf (drop at s))
   code-far h k = code-number Over (sym (size-far (mantissaOf (drop at s)) (exponentOf (drop (at + m .used) s)) (rw em at h) (rw ex at k)))
 
-  pub code-sized : m .count ≤ 18 → x .count ≤ 2 → (z : Thousandths) → z ≡ sized (scaled (m .value) (m .behind) (x .negative) (x .value)) (isWhole (m .value) (m .behind) (x .negative) (x .value))
+  pub code-sized : m .count ≤ 18 → x .count ≤ 2 → (z : Thousandths)
+      → z ≡ sized (scaled (m .value) (m .behind) (x .negative) (x .value)) (isWhole (m .value) (m .behind) (x .negative) (x .value))
       → _≡_ {A = Number} (record { ok = ok; used = m .used + x .used; size = z }) (numberOf (drop at s))
   code-sized h k z e =
       code-number z
@@ -214,7 +222,8 @@ size-small : (m : Mant) (x : Expo) → Small (sizeOf m x)
 size-small m x = go (leb (length (m .digits)) 18 && leb (length (x .digits)) 2) refl
   where
     go : (b : Bool) → (leb (length (m .digits)) 18 && leb (length (x .digits)) 2) ≡ b → Small (sizeOf m x)
-    go true e = rw e (sized-small (scaled (value (m .digits)) (m .behind) (x .negative) (value (x .digits))) (isWhole (value (m .digits)) (m .behind) (x .negative) (value (x .digits))))
+    go true e = rw e (sized-small (scaled (value (m .digits)) (m .behind) (x .negative) (value (x .digits)))
+        (isWhole (value (m .digits)) (m .behind) (x .negative) (value (x .digits))))
     go false e = rw e tt
 
 pub number-small : (t : List ℕ) → Small (numberOf t .size)

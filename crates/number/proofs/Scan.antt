@@ -44,7 +44,8 @@ front (b ∷ w) r h = go (isDigit b) refl (front w r h)
 -- a part, whole or cut at the first byte of a kind
 pub data Cutting (t : ℕ → Bool) (x : List ℕ) : Type 0 where
   whole : none t x ≡ true → cut t x ≡ record { before = x; found = false; after = [] } → Cutting t x
-  parted : (u : List ℕ) (c : ℕ) (w : List ℕ) → x ≡ u ++ (c ∷ w) → none t u ≡ true → t c ≡ true → cut t x ≡ record { before = u; found = true; after = w } → Cutting t x
+  parted : (u : List ℕ) (c : ℕ) (w : List ℕ) → x ≡ u ++ (c ∷ w) → none t u ≡ true → t c ≡ true → cut t x ≡ record { before = u; found = true; after = w }
+      → Cutting t x
 
 pub cutting : (t : ℕ → Bool) (x : List ℕ) → Cutting t x
 cutting t [] = whole refl (cut-none t [] refl)

@@ -39,7 +39,8 @@ Above (suc n) k = Above n k × (k ≡ n → ⊥)
 -- the last arm of a match over 0, 1, ..
 pub last-key : (n k : ℕ) → k < suc n → Above n k → k ≡ n
 last-key zero k h a = omega arith
-last-key (suc n) k h a = cases (ltb k (suc n)) (λ e. absurd (a .1 (last-key n k (ltb-true k (suc n) e) (a .0)))) (λ e. let l : suc n ≤ k = ltb-false k (suc n) e in omega arith)
+last-key (suc n) k h a = cases (ltb k (suc n)) (λ e. absurd (a .1 (last-key n k (ltb-true k (suc n) e) (a .0))))
+    (λ e. let l : suc n ≤ k = ltb-false k (suc n) e in omega arith)
 
 -- ── rounding ──
 
@@ -76,7 +77,8 @@ twice-small m k h = omega (arith, mod-lt m (ten-pos k), ten-mono k 18 h)
 -- ── one shift ──
 
 pub scale-grow : (m up down : ℕ) → down ≤ up → nearest (m * 10 ^ up) (10 ^ down) ≡ m * 10 ^ (up - down)
-scale-grow m up down h = rw (ten-split up down h, ← mul-assoc m (10 ^ (up - down)) (10 ^ down)) (nearest-exact (m * 10 ^ (up - down) * 10 ^ down) (10 ^ down) (m * 10 ^ (up - down)) (ten-pos down) refl)
+scale-grow m up down h = rw (ten-split up down h, ← mul-assoc m (10 ^ (up - down)) (10 ^ down))
+    (nearest-exact (m * 10 ^ (up - down) * 10 ^ down) (10 ^ down) (m * 10 ^ (up - down)) (ten-pos down) refl)
 
 pub scale-shrink : (m up down : ℕ) → up ≤ down → nearest (m * 10 ^ up) (10 ^ down) ≡ nearest m (10 ^ (down - up))
 scale-shrink m up down h = rw (ten-split down up h) (nearest-cancel m (10 ^ (down - up)) (10 ^ up) (ten-pos (down - up)) (ten-pos up))

@@ -39,7 +39,8 @@ module _ (turn : Bool) (cs : List ℤ) (i : ℕ) where
   unfolding way turned clusterAt
   way-at h = rw (clusters-at cs i h) (by turn)
     where
-      by : (t : Bool) → way t (clusterAt cs i ∷ clustersOf (drop (i + 2) cs)) ≡ cluster (cond t (nat (place cs (i + 1))) (nat (place cs i))) (cond (not t) (nat (place cs (i + 1))) (nat (place cs i))) ∷ way t (clustersOf (drop (i + 2) cs))
+      by : (t : Bool) → way t (clusterAt cs i ∷ clustersOf (drop (i + 2) cs)) ≡ cluster (cond t (nat (place cs (i + 1))) (nat (place cs i)))
+          (cond (not t) (nat (place cs (i + 1))) (nat (place cs i))) ∷ way t (clustersOf (drop (i + 2) cs))
       by true = refl
       by false = refl
 
@@ -116,13 +117,16 @@ module _ (turn : Bool) (cs : List ℤ) (first end : ℕ) where
       here = p ∙ rw (way-at turn cs i h)
 
       pub walk-stop : first < end → n < end → end ≤ n + a → stretch s′ (u + b) ≡ w
-      walk-stop f l e = sym (here ∙ rw (es, eb) (touched-stop first end (cluster (added turn cs i) (counted turn cs i)) (way turn (clustersOf (drop (i + 2) cs))) n u s f l (rw ea at e)))
+      walk-stop f l e = sym (here ∙ rw (es, eb) (touched-stop first end (cluster (added turn cs i) (counted turn cs i))
+          (way turn (clustersOf (drop (i + 2) cs))) n u s f l (rw ea at e)))
 
       pub walk-on : n + a < end → w ≡ touchedAt (n + a) (u + b) s′ (i + 2)
       unfolding touchedAt
-      walk-on e = here ∙ rw (es, ea, eb) (touched-on first end (cluster (added turn cs i) (counted turn cs i)) (way turn (clustersOf (drop (i + 2) cs))) n u s (rw ea at e))
+      walk-on e = here ∙ rw (es, ea, eb) (touched-on first end (cluster (added turn cs i) (counted turn cs i)) (way turn (clustersOf (drop (i + 2) cs))) n u s
+          (rw ea at e))
 
-  pub sum-at : (i : ℕ) {b : ℕ} → b ≡ added turn cs i → 2 ≤ length cs - i → unitSum (way turn (clustersOf (drop i cs))) ≡ b + unitSum (way turn (clustersOf (drop (i + 2) cs)))
+  pub sum-at : (i : ℕ) {b : ℕ} → b ≡ added turn cs i → 2 ≤ length cs - i
+      → unitSum (way turn (clustersOf (drop i cs))) ≡ b + unitSum (way turn (clustersOf (drop (i + 2) cs)))
   unfolding unitSum
   sum-at i e h = rw (way-at turn cs i h, e)
 
@@ -136,12 +140,14 @@ module _ (turn : Bool) (us cs gs : List ℕ) (first end : ℕ) where
   abbrev z : Places
   z = places us cs gs
 
-  pick-is : pickAlong turn z first end ≡ (need (sound z) 19 0 >> (need (inside first end count) 22 0 >> ok (touched first end (way turn (clustersOf (words cs))))))
+  pick-is : pickAlong turn z first end ≡ (need (sound z) 19 0 >>
+      (need (inside first end count) 22 0 >> ok (touched first end (way turn (clustersOf (words cs))))))
   unfolding way
   pick-is = by turn
     where
       by : (t : Bool) → pickAlong t z first end
-          ≡ (need (sound z) 19 0 >> (need (inside first end (cond t (length (halves us)) (length (glyphsOf (words gs))))) 22 0 >> ok (touched first end (way t (clustersOf (words cs))))))
+          ≡ (need (sound z) 19 0 >> (need (inside first end (cond t (length (halves us)) (length (glyphsOf (words gs))))) 22 0 >> ok
+          (touched first end (way t (clustersOf (words cs))))))
       by true = glyphs-steps z first end
       by false = units-steps z first end
 

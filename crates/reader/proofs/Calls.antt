@@ -46,9 +46,11 @@ walk-even [] bare st p h =
 walk-even (s ∷ ss) bare st p h =
     let x : Walked bare st s ss p = walk-ok bare st s ss p h in
     let r : length (x .others .clusters) ≤ length (x .others .glyphs) = walk-even ss bare (next bare st (x .first)) (x .others) (x .walked) in
-    subst (λ (q : Parts). length (q .clusters) ≤ length (q .glyphs)) (x .is) (go (opens st) (cluster (takes bare st (x .first)) (x .first .glyphs)) (x .first .glyph) (x .others) r)
+    subst (λ (q : Parts). length (q .clusters) ≤ length (q .glyphs)) (x .is)
+    (go (opens st) (cluster (takes bare st (x .first)) (x .first .glyphs)) (x .first .glyph) (x .others) r)
   where
-    go : (o : Bool) (c : Cluster) (g : Glyph) (q : Parts) → length (q .clusters) ≤ length (q .glyphs) → length (addGlyph o c g q .clusters) ≤ length (addGlyph o c g q .glyphs)
+    go : (o : Bool) (c : Cluster) (g : Glyph) (q : Parts) → length (q .clusters) ≤ length (q .glyphs)
+        → length (addGlyph o c g q .clusters) ≤ length (addGlyph o c g q .glyphs)
     go true c g q r = omega arith
     go false c g q r = omega arith
 
@@ -137,7 +139,8 @@ module _ {t : List ℕ} {b : ℕ} {s : List ℕ} {m u c g : ℕ} (p : Fillable t
 -- the five clauses of a reading: its answer, how many fields were rounded, and what its three buffers hold
 abbrev pub Reads : Outcome Run → ℕ → Reading → List ℕ → List ℕ → List ℕ → List ℕ → List ℕ → List ℕ → Type 0
 Reads o k r units₀ units clusters₀ clusters glyphs₀ glyphs =
-    (readingOutcome r ≡ counted o) × ((readingRounded r ≡ beside k o) × ((units ≡ unitsAfter o units₀) × ((clusters ≡ clustersAfter o clusters₀) × (glyphs ≡ glyphsAfter o glyphs₀))))
+    (readingOutcome r ≡ counted o) × ((readingRounded r ≡ beside k
+    o) × ((units ≡ unitsAfter o units₀) × ((clusters ≡ clustersAfter o clusters₀) × (glyphs ≡ glyphsAfter o glyphs₀))))
 
 module _ (t s : List ℕ) (m : Counts) where
   pub into-refused : (r : Reading) (x : Refusal) → readingOutcome r ≡ counted (read t s) → r ≡ Refused x → readInto m t s ≡ no (x .number) (x .place)
@@ -145,7 +148,8 @@ module _ (t s : List ℕ) (m : Counts) where
     where
       go : (o : Outcome Run) → no (x .number) (x .place) ≡ counted o
           → (o >>= (λ r. need (leb (length (r .units)) (m .units)) 16 (length (r .units))
-          >> (need (leb (length (r .clusters)) (m .clusters)) 17 (length (r .clusters)) >> (need (leb (length (r .glyphs)) (m .glyphs)) 18 (length (r .glyphs)) >> ok r))))
+          >> (need (leb (length (r .clusters)) (m .clusters)) 17 (length (r .clusters)) >>
+          (need (leb (length (r .glyphs)) (m .glyphs)) 18 (length (r .glyphs)) >> ok r))))
           ≡ no (x .number) (x .place)
       go (ok r) q = no-ok (x .number) (x .place) (counts r) q
       go (no i p) q = cc
@@ -159,11 +163,27 @@ module _ (t s : List ℕ) (m : Counts) where
 
     pub into-18 : n .units ≤ m .units → n .clusters ≤ m .clusters → m .glyphs < n .glyphs → readInto m t s ≡ no 18 (n .glyphs)
     into-18 h k l =
-        into-steps m t s ∙ rw (f .is, ← f .text .count, le-leb (n .units) (m .units) h, f .clusters-are, le-leb (n .clusters) (m .clusters) k, f .glyphs-are, lt-leb (n .glyphs) (m .glyphs) l)
+        into-steps m t s ∙ rw (
+          f .is,
+          ← f .text .count,
+          le-leb (n .units) (m .units) h,
+          f .clusters-are,
+          le-leb (n .clusters) (m .clusters) k,
+          f .glyphs-are,
+          lt-leb (n .glyphs) (m .glyphs) l,
+        )
 
     pub into-run : n .units ≤ m .units → n .clusters ≤ m .clusters → n .glyphs ≤ m .glyphs → readInto m t s ≡ read t s
     into-run h k l =
-        into-steps m t s ∙ rw (f .is, ← f .text .count, le-leb (n .units) (m .units) h, f .clusters-are, le-leb (n .clusters) (m .clusters) k, f .glyphs-are, le-leb (n .glyphs) (m .glyphs) l)
+        into-steps m t s ∙ rw (
+          f .is,
+          ← f .text .count,
+          le-leb (n .units) (m .units) h,
+          f .clusters-are,
+          le-leb (n .clusters) (m .clusters) k,
+          f .glyphs-are,
+          le-leb (n .glyphs) (m .glyphs) l,
+        )
 
 -- a refusal: the answer, and nothing changed
 pub nothing-read : (o : Outcome Run) (k : ℕ) (r : Reading) (n p : ℕ) (units : List ℕ) (clusters glyphs : List ℕ) → o ≡ no n p → r ≡ Refused (refusal n p)
@@ -171,8 +191,10 @@ pub nothing-read : (o : Outcome Run) (k : ℕ) (r : Reading) (n p : ℕ) (units 
 nothing-read o k r n p units clusters glyphs e h = rw (e, h) (refl, (refl, (refl, (refl, refl))))
 
 -- the run: its counts, and the buffers filled
-pub run-read : (t s : List ℕ) (o : Outcome Run) (k : ℕ) (r : Reading) (n : Counts) (m : ℕ) (units₀ units : List ℕ) (clusters₀ clusters glyphs₀ glyphs : List ℕ) → o ≡ read t s
-    → readingOutcome r ≡ counted (read t s) → readingRounded r ≡ beside k (read t s) → r ≡ Read n m → units ≡ unitsAfter (read t s) units₀ → clusters ≡ clustersAfter (read t s) clusters₀ → glyphs ≡ glyphsAfter (read t s) glyphs₀
+pub run-read : (t s : List ℕ) (o : Outcome Run) (k : ℕ) (r : Reading) (n : Counts) (m : ℕ) (units₀ units : List ℕ) (clusters₀ clusters glyphs₀ glyphs : List ℕ)
+    → o ≡ read t s
+    → readingOutcome r ≡ counted (read t s) → readingRounded r ≡ beside k (read t s) → r ≡ Read n m → units ≡ unitsAfter (read t s) units₀
+    → clusters ≡ clustersAfter (read t s) clusters₀ → glyphs ≡ glyphsAfter (read t s) glyphs₀
     → Reads o k (Read n m) units₀ units clusters₀ clusters glyphs₀ glyphs
 run-read t s o k r n m units₀ units clusters₀ clusters glyphs₀ glyphs e h l q a b d =
     rw e (ap readingOutcome (sym q) ∙ h, (ap readingRounded (sym q) ∙ l, (a, (b, d))))

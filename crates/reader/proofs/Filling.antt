@@ -67,7 +67,8 @@ clusters-listed = record { flattens = clusters-flatten; joins = λ p q. refl }
 glyphs-listed : Listed (λ (p : Parts). p .glyphs) glyphBytes glyphPlaces 16
 glyphs-listed = record { flattens = glyphs-flatten; joins = λ p q. refl }
 
-module _ {A : Type 0} (of : Parts → List A) (flat : List A → List ℕ) (one : A → List ℕ) (w : ℕ) (l : Listed of flat one w) (all pre : Parts) (n : ℕ) (en : length (of pre) ≡ n) where
+module _ {A : Type 0} (of : Parts → List A) (flat : List A → List ℕ) (one : A → List ℕ) (w : ℕ) (l : Listed of flat one w) (all pre : Parts) (n : ℕ)
+    (en : length (of pre) ≡ n) where
   -- parts in the middle, whose numbers are vs
   module _ (more others : Parts) (is : joined (joined pre more) others ≡ all) (vs : List ℕ) (ev : flat (of more) ≡ vs) where
     listed-inside : length (of pre ++ of more) ≤ length (of all)
@@ -96,7 +97,8 @@ module _ {A : Type 0} (of : Parts → List A) (flat : List A → List ℕ) (one 
         → out′ ≡ filled (flat (of all)) old
     end-filled old out out′ s q r =
         let e : length (of pre ++ of more) ≤ length (of all) = rw (← all-listed) (omega arith) in
-        let g : w * n + length (flat (of more)) ≤ w * length (of all) = room-more flat one w (l .flattens) (of pre) (of more) (flat (of more)) n en refl (length (of all)) e in
+        let g : w * n + length (flat (of more)) ≤ w * length (of all) = room-more flat one w (l .flattens) (of pre) (of more) (flat (of more)) n en refl
+        (length (of all)) e in
         rw all-listed (flat-stored flat one w (l .flattens) (of pre) (of more) (flat (of more)) n en refl old out out′ s q (omega arith) .is)
 
 -- ── an accepted walk, whose parts are `all` ──
@@ -174,7 +176,8 @@ module _ (us s : List ℕ) (all : Parts) (good : walk (empty us) (startState us)
 
     few-glyphs : eqb (c .lack) 0 ≡ true → w .e .glyphs ≤ 262146
     few-glyphs h =
-        let l : w .lack′ ≤ length (leftFrom s (d .place)) = walk-lack (leftFrom s (d .place)) (empty us) (stateOf us d (w .lack′)) (then .others) (then .rest) in
+        let l : w .lack′ ≤ length (leftFrom s (d .place)) = walk-lack (leftFrom s (d .place)) (empty us) (stateOf us d (w .lack′)) (then .others)
+        (then .rest) in
         let m : w .lack′ ≡ w .e .glyphs - 1 = w .lacks ∙ rw (w .opened, h) in
         omega (arith, left-few s (d .place), w .ready .few-bytes)
 
@@ -213,7 +216,8 @@ module _ (us s : List ℕ) (all : Parts) (good : walk (empty us) (startState us)
       glyphs-stored = listed-stored _ _ _ _ glyphs-listed all pre (c .entry) (st .glyphs-are) more (then .others) (then .is) _ glyph-is old out out′
 
   -- an entry x that was read can be stored, and then the walk stands behind it
-  module _ (c₀ g₀ cs gs : List ℕ) (c : Cursor) (l : Filled us s c₀ g₀ cs gs c) (hi : c .place ≤ length s) (hc : 8 * length (all .clusters) ≤ length c₀) (hg : 16 * length (all .glyphs) ≤ length g₀)
+  module _ (c₀ g₀ cs gs : List ℕ) (c : Cursor) (l : Filled us s c₀ g₀ cs gs c) (hi : c .place ≤ length s) (hc : 8 * length (all .clusters) ≤ length c₀)
+      (hg : 16 * length (all .glyphs) ≤ length g₀)
       (n : ℕ) (en : n ≡ length us) (x : Item) (h : entryAt s c ≡ Read x) where
     abbrev units : ℕ
     units = takenBy n (c .lack) (x .units)

@@ -37,7 +37,8 @@ pub room-pair : (lack n a b m : ℕ) → lack ≡ 0 → 8 * n + 7 < m → 8 * n 
 unfolding clusterPlaces
 room-pair lack n a b m h r = rw (opened-yes lack a b h) (omega arith)
 
-pub pair-stored : (out o₁ o₂ : List ℕ) (lack n a b : ℕ) → lack ≡ 0 → o₁ ≡ puts out (4 * (2 * n)) (fourBytes a) → o₂ ≡ puts o₁ (4 * (2 * n + 1)) (fourBytes b) → o₂ ≡ sets out (8 * n) (clusterBytes (openedHere lack a b))
+pub pair-stored : (out o₁ o₂ : List ℕ) (lack n a b : ℕ) → lack ≡ 0 → o₁ ≡ puts out (4 * (2 * n)) (fourBytes a) → o₂ ≡ puts o₁ (4 * (2 * n + 1)) (fourBytes b)
+    → o₂ ≡ sets out (8 * n) (clusterBytes (openedHere lack a b))
 unfolding puts clusterPlaces
 pair-stored out o₁ o₂ lack n a b h e₁ e₂ =
     let p0 : 4 * (2 * n) ≡ 8 * n = omega arith in
@@ -46,8 +47,10 @@ pair-stored out o₁ o₂ lack n a b h e₁ e₂ =
 
 -- ── a glyph ──
 
-pub four-stored : (out o₁ o₂ o₃ o₄ : List ℕ) (k : ℕ) (g : Glyph) (i a : ℕ) (u v : ℤ) → i ≡ bitsOf (indexNumber (g .index)) → a ≡ bitsOf (advanceNumber (g .advance)) → u ≡ g .u → v ≡ g .v
-    → o₁ ≡ puts out (4 * (4 * k)) (fourBytes i) → o₂ ≡ puts o₁ (4 * (4 * k + 1)) (fourBytes a) → o₃ ≡ puts o₂ (4 * (4 * k + 2)) (fourBytes (bitsOf u)) → o₄ ≡ puts o₃ (4 * (4 * k + 3)) (fourBytes (bitsOf v))
+pub four-stored : (out o₁ o₂ o₃ o₄ : List ℕ) (k : ℕ) (g : Glyph) (i a : ℕ) (u v : ℤ) → i ≡ bitsOf (indexNumber (g .index))
+    → a ≡ bitsOf (advanceNumber (g .advance)) → u ≡ g .u → v ≡ g .v
+    → o₁ ≡ puts out (4 * (4 * k)) (fourBytes i) → o₂ ≡ puts o₁ (4 * (4 * k + 1)) (fourBytes a) → o₃ ≡ puts o₂ (4 * (4 * k + 2)) (fourBytes (bitsOf u))
+    → o₄ ≡ puts o₃ (4 * (4 * k + 3)) (fourBytes (bitsOf v))
     → o₄ ≡ sets out (16 * k) (glyphPlaces g)
 unfolding puts glyphPlaces
 four-stored out o₁ o₂ o₃ o₄ k g i a u v ei ea eu ev e₁ e₂ e₃ e₄ =
@@ -67,7 +70,8 @@ pub record Stored (old out pre : List ℕ) : Type 0 where
 pub stored-start : (old : List ℕ) → Stored old old []
 stored-start old = record { same = refl; is = refl }
 
-stored-more : (old out out′ pre vs : List ℕ) (n : ℕ) → Stored old out pre → out′ ≡ sets out n vs → length pre ≡ n → n + length vs ≤ length old → Stored old out′ (pre ++ vs)
+stored-more : (old out out′ pre vs : List ℕ) (n : ℕ) → Stored old out pre → out′ ≡ sets out n vs → length pre ≡ n → n + length vs ≤ length old
+    → Stored old out′ (pre ++ vs)
 stored-more old out out′ pre vs n s q e h =
     let l : n + length vs ≡ length (pre ++ vs) = rw (length-append, e) in
     record {
@@ -132,6 +136,7 @@ module _ {A : Type 0} (flat : List A → List ℕ) (one : A → List ℕ) (w : �
         rw (length-append pre more, en, mul-add w n (length more)) (ap (λ (m : ℕ). w * n + m) (sym (ap length ev) ∙ flat-length more)) in
         rw l (mul-le-mul-left w h)
 
-    pub flat-stored : (old out out′ : List ℕ) → Stored old out (flat pre) → out′ ≡ sets out (w * n) vs → w * n + length vs ≤ length old → Stored old out′ (flat (pre ++ more))
+    pub flat-stored : (old out out′ : List ℕ) → Stored old out (flat pre) → out′ ≡ sets out (w * n) vs → w * n + length vs ≤ length old
+        → Stored old out′ (flat (pre ++ more))
     flat-stored old out out′ s q h =
         rw (flat-append pre more, ev) (stored-more old out out′ (flat pre) vs (w * n) s q (flat-length pre ∙ ap (λ (m : ℕ). w * m) en) h)

@@ -37,7 +37,8 @@ pub record Storing (us : List ℕ) (c₀ g₀ : List ℕ) (n k : ℕ) (cs gs : L
   pub clusters : sets cs (8 * c) (clusterBytes (tail (drop j us) .clusters)) ≡ sets c₀ (8 * n) (clusterBytes (tail us .clusters))
   pub glyphs : sets gs (16 * g) (glyphBytes (tail (drop j us) .glyphs)) ≡ sets g₀ (16 * k) (glyphBytes (tail us .glyphs))
 
-pub storing-start : (us : List ℕ) (c₀ g₀ : List ℕ) (n k : ℕ) → 8 * (n + length (tail us .clusters)) ≤ length c₀ → 16 * (k + length (tail us .glyphs)) ≤ length g₀
+pub storing-start : (us : List ℕ) (c₀ g₀ : List ℕ) (n k : ℕ) → 8 * (n + length (tail us .clusters)) ≤ length c₀
+    → 16 * (k + length (tail us .glyphs)) ≤ length g₀
     → Storing us c₀ g₀ n k c₀ g₀ 0 n k
 storing-start us c₀ g₀ n k hc hg =
     record { inside = omega arith; same-clusters = refl; same-glyphs = refl; room-clusters = hc; room-glyphs = hg; clusters = refl; glyphs = refl }
@@ -96,9 +97,14 @@ module _ (us : List ℕ) (c₀ g₀ : List ℕ) (n k : ℕ) (cs gs : List ℕ) (
       )
 
 -- the bytes of the units behind unit j, of n that were filled
-pub units-left : (us old out : List ℕ) (n j : ℕ) → n ≡ length us → j ≤ n → out ≡ filled (fromHalves us) old → halves (take (2 * n - 2 * j) (drop (2 * j) out)) ≡ drop j us
+pub units-left : (us old out : List ℕ) (n j : ℕ) → n ≡ length us → j ≤ n → out ≡ filled (fromHalves us) old
+    → halves (take (2 * n - 2 * j) (drop (2 * j) out)) ≡ drop j us
 units-left us old out n j e h f =
     let l : length (fromHalves us) ≡ 2 * length us = length-halves us in
     let t : length (drop (2 * j) (fromHalves us)) ≡ 2 * n - 2 * j = length-drop (2 * j) (fromHalves us) ∙ omega arith in
-    rw (f, drop-append-le (2 * j) (fromHalves us) (drop (length (fromHalves us)) old) (omega arith), take-at (drop (2 * j) (fromHalves us)) (drop (length (fromHalves us)) old) (2 * n - 2 * j) t)
+    rw (
+      f,
+      drop-append-le (2 * j) (fromHalves us) (drop (length (fromHalves us)) old) (omega arith),
+      take-at (drop (2 * j) (fromHalves us)) (drop (length (fromHalves us)) old) (2 * n - 2 * j) t,
+    )
     (sym (halves-drop j (fromHalves us)) ∙ ap (drop j) (halves-back us))

@@ -16,7 +16,8 @@ advance-fits : (z : ℤ) → leb (nat z) maxThousandths ≡ advanceFits (numberA
 advance-fits (pos n) = refl
 advance-fits (negsuc n) = refl
 
-pub limits-are : (i a u v : ℤ) {x y z w : ℕ} {p q r : Bool} → x ≡ nat i → y ≡ nat a → z ≡ size u → w ≡ size v → p ≡ (leb x maxIndex && leb y maxThousandths) → q ≡ (p && leb z maxThousandths)
+pub limits-are : (i a u v : ℤ) {x y z w : ℕ} {p q r : Bool} → x ≡ nat i → y ≡ nat a → z ≡ size u → w ≡ size v → p ≡ (leb x maxIndex && leb y maxThousandths)
+    → q ≡ (p && leb z maxThousandths)
     → r ≡ (q && leb w maxThousandths) → r ≡ glyphFits (glyphOf i a u v)
 unfolding glyphOf
 limits-are i a u v ex ey ez ew ep eq er = er ∙ rw (eq, ep, ex, ey, ez, ew, index-fits i, advance-fits a)

@@ -154,7 +154,8 @@ module _ (file : List ℕ) {old : List ℕ} where
       pub two-places : k + 1 < length new / 4
       two-places = omega (arith, few, s .laid .count, s .laid .same, ap length eight-more)
 
-      pub stored-next : {m l : List ℕ} → m ≡ puts new (4 * k) (fourBytes (bitsOf n)) → l ≡ puts m (4 * (k + 1)) (fourBytes (bitsOf p)) → Stored file old l (k + 2) (x .end)
+      pub stored-next : {m l : List ℕ} → m ≡ puts new (4 * k) (fourBytes (bitsOf n)) → l ≡ puts m (4 * (k + 1)) (fourBytes (bitsOf p))
+          → Stored file old l (k + 2) (x .end)
       stored-next e f =
           let i : 4 * (k + 1) ≡ 4 * k + 4 = omega arith in
           let j : 4 * (k + 2) ≡ 4 * (k + 1) + 4 = omega arith in

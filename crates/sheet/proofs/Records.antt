@@ -153,7 +153,8 @@ counted-start file h =
     }
 
 -- one record more
-raised-next : (n : ℕ) (l : Label) (o : Outcome (List Label)) → raised n (filledCount (o >>= (λ (ls : List Label). ok (l ∷ ls)))) ≡ raised (n + 1) (filledCount o)
+raised-next : (n : ℕ) (l : Label) (o : Outcome (List Label))
+    → raised n (filledCount (o >>= (λ (ls : List Label). ok (l ∷ ls)))) ≡ raised (n + 1) (filledCount o)
 raised-next n l (ok ls) = ap ok (omega arith)
 raised-next n l (no i p) = refl
 
@@ -197,14 +198,16 @@ fitted-is room (ok ls) = cases (leb (2 * length ls) room) (λ t. rw t (ap ok (le
 -- the file's labels are counted
 sheet-counts : (room : ℕ) (file : List ℕ) {o : Outcome ℕ} → begins header file ≡ true → filledCount (labelsFrom 0 0 (drop 5 file)) ≡ o
     → (o >>= fitted room) ≡ filledCount (sheetInto room file)
-sheet-counts room file h e = rw (sheet-steps room file, file-steps file, h) (sym (fitted-is room (labelsFrom 0 0 (drop 5 file)) ∙ ap (λ (o : Outcome ℕ). o >>= fitted room) e))
+sheet-counts room file h e = rw (sheet-steps room file, file-steps file, h)
+    (sym (fitted-is room (labelsFrom 0 0 (drop 5 file)) ∙ ap (λ (o : Outcome ℕ). o >>= fitted room) e))
 
 module _ (room : ℕ) (file : List ℕ) where
   pub judged-25 : {r : Filling} → r ≡ Refused (refusal 25 0) → begins header file ≡ false → fillingOutcome r ≡ filledCount (sheetInto room file)
   judged-25 e h = rw (e, sheet-steps room file, file-steps file, h)
 
   module _ {n at : ℕ} (h : begins header file ≡ true) (f : Counted file n at) where
-    pub judged-26 : {r : Filling} → r ≡ Refused (refusal 26 n) → at < length file → isRecord (drop at file) ≡ false → fillingOutcome r ≡ filledCount (sheetInto room file)
+    pub judged-26 : {r : Filling} → r ≡ Refused (refusal 26 n) → at < length file → isRecord (drop at file) ≡ false
+        → fillingOutcome r ≡ filledCount (sheetInto room file)
     judged-26 e l c = rw e (sheet-counts room file h (counted-cut file n at f l c))
 
     pub judged-27 : {r : Filling} → r ≡ Refused (refusal 27 n) → length file ≤ at → room / 2 < n → fillingOutcome r ≡ filledCount (sheetInto room file)

@@ -49,7 +49,8 @@ whole-clusters-short (a ∷ b ∷ l) h = absurd (omega arith)
 pub none-left : {A : Type 0} (l : List A) (k : ℕ) → k ≤ length l → eqb (length (drop k l)) 0 ≡ eqb k (length l)
 none-left l k h =
     rw (length-drop)
-    (cases (eqb k (length l)) (λ e. let z = eqb-true k (length l) e in eq-eqb (length l - k) 0 (omega arith) ∙ sym e) (λ e. ne-eqb (length l - k) 0 (λ d. eqb-false k (length l) e (omega arith)) ∙ sym e))
+    (cases (eqb k (length l)) (λ e. let z = eqb-true k (length l) e in eq-eqb (length l - k) 0 (omega arith) ∙ sym e)
+    (λ e. ne-eqb (length l - k) 0 (λ d. eqb-false k (length l) e (omega arith)) ∙ sym e))
 
 module _ (s : List ℤ) (k : ℕ) where
   left : length (drop k s) ≡ length s - k

@@ -45,7 +45,8 @@ unfolding opensAt owes allFont
 opens-is true us at a b g gs = bare (eqb a 0 && eqb b 1) (named (g .index)) (eqb a 1 && eqb b 1) (allFont gs)
 opens-is false us at a b g gs =
     rw (length-drop at us, getD-drop at us a 0)
-    (stands (leb 1 a && leb 1 b && leb a (length us - at) && not (isLow (getD us (at + a) 0))) (named (g .index) || (eqb a 1 && eqb b 1)) (eqb a 2 && eqb b 1 && isPair (drop at us)) (isFont g) (allFont gs))
+    (stands (leb 1 a && leb 1 b && leb a (length us - at) && not (isLow (getD us (at + a) 0))) (named (g .index) || (eqb a 1 && eqb b 1))
+    (eqb a 2 && eqb b 1 && isPair (drop at us)) (isFont g) (allFont gs))
 
 opens-within : (b₀ : Bool) (us : List ℕ) (at a b : ℕ) (n f : Bool) → at ≤ length us → opensAt b₀ us at a b n f ≡ true → at + a ≤ length us
 unfolding opensAt
@@ -80,20 +81,29 @@ module _ (b₀ : Bool) (us : List ℕ) (cs gs : List ℤ) where
     unfolding wellAt okAt fits allFont glyphOk glyphOf glyphAt
     turn-further l = rw (glyphs-at gs k h, whole-glyphs-at gs k h) (by lack l)
       where
-        by : (n : ℕ) → 0 < n → (wholeClusters (drop i cs) && ((c && wholeGlyphs (drop (k + 4) gs)) && ((not t || (isFont g && allFont (glyphsOf (drop (k + 4) gs)))) && fits b₀ n (drop at us) (clustersOf (drop i cs)) (g ∷ glyphsOf (drop (k + 4) gs))))) ≡ (okAt t k && (named (g .index) && wellAt t (n - 1) at i (k + 4)))
+        by : (n : ℕ) → 0 < n → (wholeClusters (drop i cs) && ((c && wholeGlyphs
+            (drop (k + 4) gs)) && ((not t || (isFont g && allFont (glyphsOf (drop (k + 4) gs)))) && fits b₀ n (drop at us) (clustersOf (drop i cs))
+            (g ∷ glyphsOf (drop (k + 4) gs))))) ≡ (okAt t k && (named (g .index) && wellAt t (n - 1) at i (k + 4)))
         by zero l = absurd (omega arith)
-        by (suc n) l = rw (pred-suc n) (further (wholeClusters (drop i cs)) c (wholeGlyphs (drop (k + 4) gs)) t (isFont g) (allFont (glyphsOf (drop (k + 4) gs))) (glyphFits g) (named (g .index)) (fits b₀ n (drop at us) (clustersOf (drop i cs)) (glyphsOf (drop (k + 4) gs))))
+        by (suc n) l = rw (pred-suc n) (further (wholeClusters (drop i cs)) c (wholeGlyphs (drop (k + 4) gs)) t (isFont g)
+            (allFont (glyphsOf (drop (k + 4) gs))) (glyphFits g) (named (g .index))
+            (fits b₀ n (drop at us) (clustersOf (drop i cs)) (glyphsOf (drop (k + 4) gs))))
 
     turn-none : lack ≡ 0 → length cs - i < 2 → here ≡ false
     unfolding wellAt fits
     turn-none l e = rw (glyphs-at gs k h, clusters-end cs i e, l, fits) (simp and-false)
 
     turn-opens : lack ≡ 0 → 2 ≤ length cs - i
-        → here ≡ (okAt t k && ((natural (place cs i) && natural (place cs (i + 1)) && opensAt b₀ us at (nat (place cs i)) (nat (place cs (i + 1))) (named (g .index)) (isFont g)) && wellAt (t || owes (named (g .index)) (nat (place cs i)) (nat (place cs (i + 1)))) (nat (place cs (i + 1)) - 1) (at + nat (place cs i)) (i + 2) (k + 4)))
+        → here ≡ (okAt t k && ((natural (place cs i) && natural (place cs (i + 1)) && opensAt b₀ us at (nat (place cs i)) (nat (place cs (i + 1)))
+        (named (g .index)) (isFont g)) && wellAt (t || owes (named (g .index)) (nat (place cs i)) (nat (place cs (i + 1)))) (nat (place cs (i + 1)) - 1)
+        (at + nat (place cs i)) (i + 2) (k + 4)))
     unfolding wellAt okAt fits allFont glyphOk glyphOf glyphAt clusterAt
     turn-opens l e =
         rw (glyphs-at gs k h, whole-glyphs-at gs k h, clusters-at cs i e, whole-clusters-at cs i e, l, fits, opens-is, drop-drop)
-        (opening (natural (place cs i) && natural (place cs (i + 1))) (wholeClusters (drop (i + 2) cs)) c (wholeGlyphs (drop (k + 4) gs)) t (isFont g) (allFont (glyphsOf (drop (k + 4) gs))) (glyphFits g) (opensAt b₀ us at (nat (place cs i)) (nat (place cs (i + 1))) (named (g .index)) (isFont g)) (owes (named (g .index)) (nat (place cs i)) (nat (place cs (i + 1)))) (fits b₀ (nat (place cs (i + 1)) - 1) (drop (at + nat (place cs i)) us) (clustersOf (drop (i + 2) cs)) (glyphsOf (drop (k + 4) gs))))
+        (opening (natural (place cs i) && natural (place cs (i + 1))) (wholeClusters (drop (i + 2) cs)) c (wholeGlyphs (drop (k + 4) gs)) t (isFont g)
+        (allFont (glyphsOf (drop (k + 4) gs))) (glyphFits g) (opensAt b₀ us at (nat (place cs i)) (nat (place cs (i + 1))) (named (g .index)) (isFont g))
+        (owes (named (g .index)) (nat (place cs i)) (nat (place cs (i + 1))))
+        (fits b₀ (nat (place cs (i + 1)) - 1) (drop (at + nat (place cs i)) us) (clustersOf (drop (i + 2) cs)) (glyphsOf (drop (k + 4) gs))))
 
     turn-bad : okAt t k ≡ false → here ≡ false
     turn-bad b =
@@ -107,13 +117,16 @@ module _ (b₀ : Bool) (us : List ℕ) (cs gs : List ℤ) where
         not-none : (n : ℕ) → (n ≡ 0 → ⊥) → 0 < n
         not-none n e = omega arith
 
-  pub turn-end : (t : Bool) (lack at i k : ℕ) → length gs - k < 4 → at ≤ length us → i ≤ length cs → k ≤ length gs → wellAt t lack at i k ≡ (eqb i (length cs) && eqb k (length gs) && eqb lack 0 && eqb at (length us))
+  pub turn-end : (t : Bool) (lack at i k : ℕ) → length gs - k < 4 → at ≤ length us → i ≤ length cs → k ≤ length gs
+      → wellAt t lack at i k ≡ (eqb i (length cs) && eqb k (length gs) && eqb lack 0 && eqb at (length us))
   unfolding wellAt fits allFont
   turn-end t lack at i k h a b d =
       rw (glyphs-end gs k h, whole-glyphs-end gs k d h, fits, empty-drop at us a)
       (cases (leb 2 (length cs - i))
-      (λ e. let f = leb-true 2 (length cs - i) e in rw (clusters-at cs i f, ne-eqb i (length cs) (λ z. omega arith)) (unended (wholeClusters (drop i cs)) (eqb k (length gs)) t (eqb lack 0) (eqb at (length us))))
-      (λ e. let f = leb-false 2 (length cs - i) e in rw (clusters-end cs i f, whole-clusters-end cs i b f) (ended (eqb i (length cs)) (eqb k (length gs)) t (eqb lack 0) (eqb at (length us)))))
+      (λ e. let f = leb-true 2 (length cs - i) e in rw (clusters-at cs i f, ne-eqb i (length cs) (λ z. omega arith))
+      (unended (wholeClusters (drop i cs)) (eqb k (length gs)) t (eqb lack 0) (eqb at (length us))))
+      (λ e. let f = leb-false 2 (length cs - i) e in rw (clusters-end cs i f, whole-clusters-end cs i b f)
+      (ended (eqb i (length cs)) (eqb k (length gs)) t (eqb lack 0) (eqb at (length us)))))
 
 -- ── a turn of the walk ──
 
@@ -133,7 +146,8 @@ pub record Numbers (cs : List ℤ) (i p q : ℕ) : Type 0 where
   pub second : signed q ≡ place cs (i + 1)
 
 -- the code's flags: r, the glyph is allowed; n, it names an index
-module _ {W b₀ : Bool} {us : List ℕ} {cs gs : List ℤ} {t : Bool} {lack at i k x y z w : ℕ} (T : Turn W b₀ us cs gs t lack at i k x y z w) {r : Bool} (er : r ≡ glyphOk t (signed x) (signed y) (signed z) (signed w)) where
+module _ {W b₀ : Bool} {us : List ℕ} {cs gs : List ℤ} {t : Bool} {lack at i k x y z w : ℕ} (T : Turn W b₀ us cs gs t lack at i k x y z w) {r : Bool}
+    (er : r ≡ glyphOk t (signed x) (signed y) (signed z) (signed w)) where
   ok-is : r ≡ okAt b₀ us cs gs t k
   unfolding okAt
   ok-is = er ∙ rw (T .first, T .second, T .third, T .fourth)
@@ -159,8 +173,10 @@ module _ {W b₀ : Bool} {us : List ℕ} {cs gs : List ℤ} {t : Bool} {lack at 
     turn-named l e = goes _ _ (glyph-further l) refl name-is e
 
     -- a cluster of a units and b glyphs. The code's flags: f, its first glyph is wholly the font's; d and e, its numbers are natural; o, it may open
-    module _ {p q : ℕ} (C : Numbers cs i p q) (l : lack ≡ 0) {a b : ℕ} (ea : a ≡ nat (signed p)) (eb : b ≡ nat (signed q)) {f : Bool} (ef : f ≡ isFont (glyphOf (signed x) (signed y) (signed z) (signed w)))
-        {o : Bool} (eo : o ≡ opensAt b₀ us at a b n f) {d e m v : Bool} (ed : d ≡ natural (signed p)) (ee : e ≡ natural (signed q)) (em : m ≡ (d && e)) (ev : v ≡ (m && o)) where
+    module _ {p q : ℕ} (C : Numbers cs i p q) (l : lack ≡ 0) {a b : ℕ} (ea : a ≡ nat (signed p)) (eb : b ≡ nat (signed q)) {f : Bool}
+        (ef : f ≡ isFont (glyphOf (signed x) (signed y) (signed z) (signed w)))
+        {o : Bool} (eo : o ≡ opensAt b₀ us at a b n f) {d e m v : Bool} (ed : d ≡ natural (signed p)) (ee : e ≡ natural (signed q)) (em : m ≡ (d && e))
+        (ev : v ≡ (m && o)) where
       a-is : a ≡ nat (place cs i)
       a-is = ea ∙ ap nat (C .first)
 
@@ -208,8 +224,11 @@ word-is (a ∷ b ∷ c ∷ d ∷ s) = let e : suc (suc (suc (suc (length s)))) %
 whole-is : (us cs gs : List ℕ) → wholeBytes (length us) (length cs) (length gs) ≡ noLeftOver (places us cs gs)
 whole-is us cs gs = rw (even-is us, word-is cs, word-is gs)
 
-pub sound-is : (us cs gs : List ℕ) → sound (places us cs gs) ≡ (wholeBytes (length us) (length cs) (length gs) && limited (length (halves us)) (length (words gs) / 4) && (properUnits false (halves us) && wellRun (halves us) (words cs) (words gs)))
+pub sound-is : (us cs gs : List ℕ) → sound (places us cs gs) ≡ (wholeBytes (length us) (length cs) (length gs) && limited (length (halves us))
+    (length (words gs) / 4) && (properUnits false (halves us) && wellRun (halves us) (words cs) (words gs)))
 unfolding sound soundRun wellRun
 sound-is us cs gs =
     rw (whole-is us cs gs, ← glyph-count (words gs), ← empty-is (halves us), ← empty-is (glyphsOf (words gs)))
-    (regroup (noLeftOver (places us cs gs)) (wholeClusters (words cs)) (wholeGlyphs (words gs)) (properUnits false (halves us)) (leb (length (halves us)) maxUnits) (leb (length (glyphsOf (words gs))) maxGlyphs) (not (empty (halves us) && empty (glyphsOf (words gs)))) (fits (empty (halves us)) 0 (halves us) (clustersOf (words cs)) (glyphsOf (words gs))))
+    (regroup (noLeftOver (places us cs gs)) (wholeClusters (words cs)) (wholeGlyphs (words gs)) (properUnits false (halves us))
+    (leb (length (halves us)) maxUnits) (leb (length (glyphsOf (words gs))) maxGlyphs) (not (empty (halves us) && empty (glyphsOf (words gs))))
+    (fits (empty (halves us)) 0 (halves us) (clustersOf (words cs)) (glyphsOf (words gs))))

@@ -6,7 +6,8 @@ pub and-of : {r a b a′ b′ : Bool} → r ≡ (a && b) → a ≡ a′ → b �
 and-of e p q = cc
 
 -- a further glyph: clusters w, the glyph's numbers c, the glyphs behind g, the tail t, the font's f, all behind too a, limits l, named n, the rest r
-pub further : (w c g t f a l n r : Bool) → (w && ((c && g) && ((not t || (f && a)) && (l && n && r)))) ≡ ((c && l && (not t || f)) && (n && (w && (g && ((not t || a) && r)))))
+pub further : (w c g t f a l n r : Bool) → (w && ((c && g) && ((not t || (f && a)) && (l && n && r)))) ≡ ((c && l && (not t ||
+    f)) && (n && (w && (g && ((not t || a) && r)))))
 further false c g t f a l n r = simp and-false
 further true false g t f a l n r = refl
 further true true false t f a l n r = simp and-false
@@ -19,7 +20,8 @@ further true true true true true a true true true = refl
 
 -- a cluster opens: its numbers z before w, it may open m, its first glyph owes o
 pub opening : (z w c g t f a l m o r : Bool)
-    → ((z && w) && ((c && g) && ((not t || (f && a)) && (l && (m && (not o || a)) && r)))) ≡ ((c && l && (not t || f)) && ((z && m) && (w && (g && ((not (t || o) || a) && r)))))
+    → ((z && w) && ((c && g) && ((not t || (f && a)) && (l && (m && (not o || a)) && r)))) ≡ ((c && l && (not t ||
+    f)) && ((z && m) && (w && (g && ((not (t || o) || a) && r)))))
 opening false w c g t f a l m o r = simp and-false
 opening true false c g t f a l m o r = simp and-false
 opening true true false g t f a l m o r = refl

@@ -71,7 +71,12 @@ tail-counted us n u c g e = rw (e, tail-even us)
 counted-after : (n : ℕ) (pre q : Parts) → countedFrom n (length (pre .clusters)) (length (pre .glyphs)) (ok q) ≡ countedFrom n 0 0 (ok (joined pre q))
 unfolding countedFrom
 counted-after n pre q =
-    rw (length-append (pre .clusters) (q .clusters), length-append (pre .glyphs) (q .glyphs), zero-add (length (pre .clusters) + length (q .clusters)), zero-add (length (pre .glyphs) + length (q .glyphs)))
+    rw (
+      length-append (pre .clusters) (q .clusters),
+      length-append (pre .glyphs) (q .glyphs),
+      zero-add (length (pre .clusters) + length (q .clusters)),
+      zero-add (length (pre .glyphs) + length (q .glyphs)),
+    )
 
 module _ (us s : List ℕ) where
   abbrev runWith : Parts → Run
@@ -81,7 +86,8 @@ module _ (us s : List ℕ) where
   unfolding countedFrom
   run-counted h = rw (run-steps us s, h) (go (walk (empty us) (startState us) (entries s)))
     where
-      pick : (b : Bool) (p : Parts) → counted (need b 15 0 >> ok (runWith p)) ≡ (need b 15 0 >> ok (record { units = length us; clusters = length (p .clusters); glyphs = length (p .glyphs) }))
+      pick : (b : Bool) (p : Parts) → counted (need b 15 0 >> ok (runWith p)) ≡ (need b 15 0 >> ok
+          (record { units = length us; clusters = length (p .clusters); glyphs = length (p .glyphs) }))
       pick true p = refl
       pick false p = refl
 

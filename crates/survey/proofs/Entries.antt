@@ -33,7 +33,8 @@ empty-eqb (x ∷ l) = eqb·suc-zero (length l)
 -- ── the entry at a place ──
 
 -- the first part and the others
-split-head : (l : List ℕ) → split 59 l ≡ getD (split 59 l) 0 [] ∷ cond (leb (suc (length (getD (split 59 l) 0 []))) (length l)) (split 59 (drop (suc (length (getD (split 59 l) 0 []))) l)) []
+split-head : (l : List ℕ) → split 59 l ≡ getD (split 59 l) 0 [] ∷ cond (leb (suc (length (getD (split 59 l) 0 []))) (length l))
+    (split 59 (drop (suc (length (getD (split 59 l) 0 []))) l)) []
 split-head [] = rw (split-nil 59)
 split-head (b ∷ bs) =
     cases (eqb b 59)

@@ -82,7 +82,8 @@ module _ (bare : Bool) (text : List ℕ) (c : Cursor) (x : Item) where
   pub turn-opens : (r : Turn) → Opens text c (x .units) (x .glyphs) (c .place + x .used + 1) r → enough ≡ true → free ≡ true → Turns bare text c x r
   unfolding Turns Opens
   turn-opens (Took d k) o h f = rw (placed-steps bare (stateAt text c) (itemEntry x), h, f) (rw (o .0, o .1), o .2, o .3)
-  turn-opens (Stopped r) o h f = rw (placed-steps bare (stateAt text c) (itemEntry x), h, f) (go (leb (x .units) (length (unitsFrom text (c .byte)))) (keepsPair (x .units) (unitsFrom text (c .byte))) o)
+  turn-opens (Stopped r) o h f = rw (placed-steps bare (stateAt text c) (itemEntry x), h, f)
+      (go (leb (x .units) (length (unitsFrom text (c .byte)))) (keepsPair (x .units) (unitsFrom text (c .byte))) o)
     where
       go : (p q : Bool) → (need p 12 (c .entry) >> need q 13 (c .unit + x .units)) ≡ no (r .number) (r .place)
           → (need p 12 (c .entry) >> (need q 13 (c .unit + x .units) >> ok (itemEntry x))) ≡ no (r .number) (r .place)
@@ -90,26 +91,30 @@ module _ (bare : Bool) (text : List ℕ) (c : Cursor) (x : Item) where
       go true false o = cc
       go false q o = cc
 
-  pub turn-further : (d : Cursor) (n : ℕ) → d ≡ advanced c (c .byte) 0 (x .glyphs) (c .place + x .used + 1) → decode 0 (c .byte) (drop (c .byte) text) ≡ ok (unitsFrom text (c .byte))
+  pub turn-further : (d : Cursor) (n : ℕ) → d ≡ advanced c (c .byte) 0 (x .glyphs) (c .place + x .used + 1)
+      → decode 0 (c .byte) (drop (c .byte) text) ≡ ok (unitsFrom text (c .byte))
       → enough ≡ true → (free || plain) ≡ true → free ≡ false → Turns bare text c x (Took d n)
   unfolding Turns advanced
   turn-further d n q k h o f =
       let y : d .byte ≡ c .byte = ap (λ (z : Cursor). z .byte) q in
       let p : plain ≡ true = rw f at o in
-      rw (placed-steps bare (stateAt text c) (itemEntry x), h, f, p) (refl, subst (λ (k : ℕ). d ≡ advanced c k 0 (x .glyphs) (c .place + x .used + 1)) (sym y) q, rw y k)
+      rw (placed-steps bare (stateAt text c) (itemEntry x), h, f, p)
+      (refl, subst (λ (k : ℕ). d ≡ advanced c k 0 (x .glyphs) (c .place + x .used + 1)) (sym y) q, rw y k)
 
 -- an entry that was not taken brings nothing along
 pub stopped-carries : (r : Turn) (x : Refusal) (n : ℕ) → r ≡ Stopped x → Carries n r
 stopped-carries r x n e = rw e tt
 
 -- an index alone at a character of one byte, by the code's flags
-pub turn-plain : (bare : Bool) (text : List ℕ) (c : Cursor) (n : Digits) (d : Cursor) → (eqb (c .lack) 0 && not bare) ≡ true → Moves text (c .byte) 1 (To (c .byte + 1))
+pub turn-plain : (bare : Bool) (text : List ℕ) (c : Cursor) (n : Digits) (d : Cursor) → (eqb (c .lack) 0 && not bare) ≡ true
+    → Moves text (c .byte) 1 (To (c .byte + 1))
     → d ≡ advanced c (c .byte + 1) 1 1 (c .place + n .count + 1) → Turns bare text c (indexItem n) (Took d 0)
 turn-plain bare text c n d f m e =
     turn-opens bare text c (indexItem n) (Took d 0) (opens-to text c 1 1 (c .place + n .count + 1) (To (c .byte + 1)) (c .byte + 1) d 0 m refl e) refl f
 
 -- the flags of that put together
-pub plain-is : (free plain index : Bool) {both quick : Bool} → both ≡ (free && plain) → quick ≡ (both && index) → quick ≡ true → (free ≡ true) × (plain ≡ true) × (index ≡ true)
+pub plain-is : (free plain index : Bool) {both quick : Bool} → both ≡ (free && plain) → quick ≡ (both && index) → quick ≡ true
+    → (free ≡ true) × (plain ≡ true) × (index ≡ true)
 plain-is free plain index e f h =
     let t : (free && plain && index) ≡ true = rw (f, e) at h in
     let u = and-l (free && plain) index t in
@@ -144,7 +149,8 @@ over e (ok y) = ok e
 over e (no n p) = no n p
 
 -- cut counts change no check
-pub placed-cut : (bare : Bool) (st : State) (n r : ℕ) (e : Entry) → length (st .rest) ≤ 4096 → placed bare st e ≡ over e (placed bare st (itemEntry (cutItem n r e)))
+pub placed-cut : (bare : Bool) (st : State) (n r : ℕ) (e : Entry) → length (st .rest) ≤ 4096
+    → placed bare st e ≡ over e (placed bare st (itemEntry (cutItem n r e)))
 placed-cut bare st n r e few =
     rw (placed-steps bare st e, placed-steps bare st (itemEntry (cutItem n r e)), one-cut (e .units), one-cut (e .glyphs))
     (cases (eqb (st .lack) 0 && not bare)

@@ -55,7 +55,8 @@ rounding-on us s pre lack c d t x w hi n k e r =
     let ek : k ≡ roundedEntry head = e ∙ sym (ap (λ (y : Item). y .rounded) (w .item-is)) in
     let ed : d .place ≡ c .place + length head + 1 = w .place-is ∙ ap (λ (y : Item). c .place + y .used + 1) (sym (w .item-is)) in
     rw (ek, ed)
-    (add-assoc n (roundedEntry head) (roundedEntries (leftFrom s (c .place + length head + 1))) ∙ sym (ap (λ (ss : List (List ℕ)). n + roundedEntries ss) (left-is s (c .place) hi)) ∙ r)
+    (add-assoc n (roundedEntry head) (roundedEntries (leftFrom s (c .place + length head + 1)))
+    ∙ sym (ap (λ (ss : List (List ℕ)). n + roundedEntries ss) (left-is s (c .place) hi)) ∙ r)
 
 -- behind the last entry
 pub rounding-end : (s : List ℕ) (place n : ℕ) → Rounding s place n → length s < place → n ≡ rounded s
@@ -108,7 +109,8 @@ refuses t s at {x} e h = rw e (h, (go (read t s) h, tt))
     go (ok y) q = no-ok (x .number) (x .place) (counts y) q
     go (no i p) q = refl
 
-pub judges : (t s : List ℕ) (r : Reading) {at : ℕ} → readingOutcome r ≡ counted (read t s) → readingRounded r ≡ beside (rounded s) (readingOutcome r) → at ≡ unitsStart t
+pub judges : (t s : List ℕ) (r : Reading) {at : ℕ} → readingOutcome r ≡ counted (read t s) → readingRounded r ≡ beside (rounded s) (readingOutcome r)
+    → at ≡ unitsStart t
     → Surveys t s r at
 judges t s r {at} e h a = (e, (h ∙ ap (beside (rounded s)) e ∙ go (read t s), starts r))
   where

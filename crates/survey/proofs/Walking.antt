@@ -113,7 +113,8 @@ near-less k l m p q e =
     let b : k + 1 + (m - 1) ≡ k + m = omega arith in
     rw (a, b) e
 
-step-lack : (bare : Bool) (us s : List ℕ) (c : Cursor) (lack lack′ : ℕ) → eqb lack 0 ≡ eqb lack′ 0 → step bare (stateOf us c lack) s ≡ step bare (stateOf us c lack′) s
+step-lack : (bare : Bool) (us s : List ℕ) (c : Cursor) (lack lack′ : ℕ) → eqb lack 0 ≡ eqb lack′ 0
+    → step bare (stateOf us c lack) s ≡ step bare (stateOf us c lack′) s
 unfolding step placed placeChecks
 step-lack bare us s c lack lack′ h = rw h
 
@@ -220,7 +221,8 @@ module _ (us s : List ℕ) (pre : Parts) (lack : ℕ) (c : Cursor) (st : Stands 
             inside = inside-takes;
           }
 
-      pub turned : (d : Cursor) (x : Item) (t : ℕ) → cutItem (length (here (drop (c .place) s))) (roundedEntry (here (drop (c .place) s))) e ≡ x → taking ≡ t → d ≡ after-it → Turned us s pre lack c d t x
+      pub turned : (d : Cursor) (x : Item) (t : ℕ) → cutItem (length (here (drop (c .place) s))) (roundedEntry (here (drop (c .place) s))) e ≡ x → taking ≡ t
+          → d ≡ after-it → Turned us s pre lack c d t x
       turned d x t ex et ed =
           record {
             e = e;
@@ -280,7 +282,8 @@ refusing us s pre lack c st hi n p q =
     ∙ ap (λ (ss : List (List ℕ)). after pre (walk (empty us) (stateOf us c lack) ss)) (left-is s (c .place) hi)
     ∙ ap (after pre) (walk-bad (empty us) (stateOf us c lack) head (leftFrom s (c .place + length head + 1)) n p q)
 
-module _ (text us s : List ℕ) (pre : Parts) (lack : ℕ) (c : Cursor) (st : Stands us s pre lack c) (rd : Ready us s c) (at : At text us c) (hi : c .place ≤ length s) where
+module _ (text us s : List ℕ) (pre : Parts) (lack : ℕ) (c : Cursor) (st : Stands us s pre lack c) (rd : Ready us s c) (at : At text us c)
+    (hi : c .place ≤ length s) where
   abbrev head : List ℕ
   head = here (drop (c .place) s)
 
@@ -355,11 +358,13 @@ module _ (s : List ℕ) (c : Cursor) (o : EntryRead) (eo : o ≡ entryHere (c .e
   pub read-here : (q : EntryRead) → o ≡ q → entryAt s c ≡ q
   read-here q e = sym (eo ∙ ap (entryHere (c .entry)) (part-rest s (c .place))) ∙ e
 
-pub digits-here : (s : List ℕ) (i : ℕ) (d : Digits) → d ≡ digitsFrom 0 (drop i s) → i + d .count ≤ length s → (d ≡ digitsFrom 0 (handed s i)) × (d .count ≤ length (handed s i))
+pub digits-here : (s : List ℕ) (i : ℕ) (d : Digits) → d ≡ digitsFrom 0 (drop i s) → i + d .count ≤ length s
+    → (d ≡ digitsFrom 0 (handed s i)) × (d .count ≤ length (handed s i))
 digits-here s i d e b = rw (part-rest s i) (e, rw (length-drop i s) (omega (arith, b)))
 
 -- what was read, and what 10 to 13 say of it, is a step
-pub steps-read : (bare : Bool) (text s : List ℕ) (c : Cursor) (x : Item) (r : Turn) → entryAt s c ≡ Read x → Turns bare text c x r → Carries (x .rounded) r → Steps bare text s c r
+pub steps-read : (bare : Bool) (text s : List ℕ) (c : Cursor) (x : Item) (r : Turn) → entryAt s c ≡ Read x → Turns bare text c x r → Carries (x .rounded) r
+    → Steps bare text s c r
 unfolding Steps
 steps-read bare text s c x (Took d k) h t q = (x, h, t, q)
 steps-read bare text s c x (Stopped r) h t q = (Read x, h, t)

@@ -38,7 +38,8 @@ pub one-char : (out : List ℕ) (n u : ℕ) → puts out (2 * n) (u % 256 ∷ u 
 unfolding fromHalves puts
 one-char out n u = refl
 
-pub two-chars : (out o₁ o₂ : List ℕ) (n c : ℕ) (x y u v : ℕ) → unitsOf c ≡ u ∷ v ∷ [] → x ≡ u → y ≡ v → o₁ ≡ puts out (2 * n) (x % 256 ∷ x / 256 ∷ []) → o₂ ≡ puts o₁ (2 * (n + 1)) (y % 256 ∷ y / 256 ∷ [])
+pub two-chars : (out o₁ o₂ : List ℕ) (n c : ℕ) (x y u v : ℕ) → unitsOf c ≡ u ∷ v ∷ [] → x ≡ u → y ≡ v → o₁ ≡ puts out (2 * n) (x % 256 ∷ x / 256 ∷ [])
+    → o₂ ≡ puts o₁ (2 * (n + 1)) (y % 256 ∷ y / 256 ∷ [])
     → (n + 2 ≡ n + length (unitsOf c)) × (o₂ ≡ sets out (2 * n) (fromHalves (unitsOf c)))
 unfolding fromHalves puts
 two-chars out o₁ o₂ n c x y u v e ex ey e₁ e₂ = let p : 2 * (n + 1) ≡ suc (suc (2 * n)) = omega arith in rw e (refl, e₂ ∙ rw (e₁, ex, ey, p))
@@ -74,7 +75,8 @@ module _ {t old out : List ℕ} {from i n : ℕ} (f : Fill t old out from i n) w
           rest = y .others;
           here = y .next;
           count = omega (arith, f .count, length-append (unitsOf c) (y .others), ap length (y .is));
-          gives = rw (q, behind-is n c r p) (sets-append (fromHalves (unitsOf c)) (fromHalves (y .others)) out (2 * n) ∙ ap (sets out (2 * n)) (sym (halves-append (unitsOf c) (y .others)) ∙ ap fromHalves (y .is)) ∙ f .gives);
+          gives = rw (q, behind-is n c r p) (sets-append (fromHalves (unitsOf c)) (fromHalves (y .others)) out (2 * n)
+              ∙ ap (sets out (2 * n)) (sym (halves-append (unitsOf c) (y .others)) ∙ ap fromHalves (y .is)) ∙ f .gives);
           same = ap length q ∙ length-sets out (2 * n) (fromHalves (unitsOf c)) ∙ f .same;
         }
 
@@ -82,4 +84,5 @@ module _ {t old out : List ℕ} {from i n : ℕ} (f : Fill t old out from i n) w
   fill-end l h =
       let e : [] ≡ f .rest = ok-path [] (f .rest) (sym (decode-end t i l) ∙ f .here) in
       let w = fromHalves (unitsFrom t from) in
-      ap (sets out (2 * n)) (sym nothing ∙ ap fromHalves e) ∙ f .gives ∙ sets-eq w old 0 (omega (arith, length-halves (unitsFrom t from))) ∙ ap (λ (k : ℕ). w ++ drop k old) (zero-add (length w))
+      ap (sets out (2 * n)) (sym nothing ∙ ap fromHalves e) ∙ f .gives ∙ sets-eq w old 0 (omega (arith, length-halves (unitsFrom t from)))
+      ∙ ap (λ (k : ℕ). w ++ drop k old) (zero-add (length w))

@@ -40,7 +40,8 @@ left-rest s at count b a x = rw (← x .all, ← x .counts) (drop-append-add (x 
 
 left-unit : (s : List ℕ) (at count b a : ℕ) (x : Left s at count b a) → getD (unitsFrom s at) count 0 ≡ getD (x .r) a 0
 left-unit s at count b a x =
-    rw (← x .all, ← x .counts) (sym (getD-drop (length (x .passed)) (x .passed ++ x .r) a 0) ∙ ap (λ (l : List ℕ). getD l a 0) (drop-append-seam (x .passed) (x .r)))
+    rw (← x .all, ← x .counts) (sym (getD-drop (length (x .passed)) (x .passed ++ x .r) a 0)
+    ∙ ap (λ (l : List ℕ). getD l a 0) (drop-append-seam (x .passed) (x .r)))
 
 left-length : (s : List ℕ) (at count b a : ℕ) (x : Left s at count b a) → length (unitsFrom s at) ≡ length (x .passed) + length (x .r)
 left-length s at count b a x = rw (← x .all) (length-append (x .passed) (x .r))
@@ -58,7 +59,8 @@ here-good s b c j r h l g =
     record { others = q; next = p; is = ok-path (unitsOf c ++ q) r e; xml = char-stands s b l g .0 }
 
 -- past a character of k units
-pub left-next : (s : List ℕ) (at count b a k c j : ℕ) → Left s at count b a → b < length s → charAt s b ≡ Good c j → k ≡ length (unitsOf c) → k ≤ a → Left s at count j (a - k)
+pub left-next : (s : List ℕ) (at count b a k c j : ℕ) → Left s at count b a → b < length s → charAt s b ≡ Good c j → k ≡ length (unitsOf c) → k ≤ a
+    → Left s at count j (a - k)
 left-next s at count b a k c j x l g e m =
     let y : Here s b c j (x .r) = here-good s b c j (x .r) (x .here) l g in
     record {
@@ -73,11 +75,14 @@ left-half : (s : List ℕ) (at count b a c j : ℕ) → Left s at count b a → 
 left-half s at count b a c j x n l g k =
     let y : Here s b c j (x .r) = here-good s b c j (x .r) (x .here) l g in
     let e : (55296 + (c - 65536) / 1024) ∷ (56320 + (c - 65536) % 1024) ∷ y .others ≡ x .r = ap (λ (u : List ℕ). u ++ y .others) (sym (two-are c k)) ∙ y .is in
-    let w : isLow (56320 + (c - 65536) % 1024) ≡ true = within-is 56320 57343 (56320 + (c - 65536) % 1024) (omega arith) (omega arith) in
-    (le-leb count (length (unitsFrom s at)) (omega (arith, n, x .counts, left-length s at count b a x, ap length e)), rw (left-unit s at count b a x, n, ← e, w))
+    let w : isLow (56320 + (c - 65536) % 1024) ≡ true = within-is 56320 57343 (56320 + (c - 65536) % 1024) (omega arith) (omega arith) in (
+      le-leb count (length (unitsFrom s at)) (omega (arith, n, x .counts, left-length s at count b a x, ap length e)),
+      rw (left-unit s at count b a x, n, ← e, w),
+    )
 
 -- the units to pass end inside a character
-pub left-inside : (s : List ℕ) (at count b a k c j : ℕ) → Left s at count b a → (a ≡ 0 → ⊥) → b < length s → charAt s b ≡ Good c j → k ≡ length (unitsOf c) → a < k
+pub left-inside : (s : List ℕ) (at count b a k c j : ℕ) → Left s at count b a → (a ≡ 0 → ⊥) → b < length s → charAt s b ≡ Good c j → k ≡ length (unitsOf c)
+    → a < k
     → Moves s at count Half
 left-inside s at count b a k c j x n l g e m =
     cases (leb c 65535)
@@ -97,9 +102,11 @@ left-done s at count b a x n = (
 )
 
 -- past a character of U+0020 to U+007F
-pub left-plain : (s : List ℕ) (at : ℕ) → decode 0 at (drop at s) ≡ ok (unitsFrom s at) → at < length s → within 32 127 (getD s at 0) ≡ true → Moves s at 1 (To (at + 1))
+pub left-plain : (s : List ℕ) (at : ℕ) → decode 0 at (drop at s) ≡ ok (unitsFrom s at) → at < length s → within 32 127 (getD s at 0) ≡ true
+    → Moves s at 1 (To (at + 1))
 left-plain s at h l w =
-    left-done s at 1 (at + 1) 0 (left-next s at 1 at 1 1 (getD s at 0) (at + 1) (left-start s at 1 h) l (char-plain s at w) (plain-one (getD s at 0) w) (omega arith)) refl
+    left-done s at 1 (at + 1) 0 (left-next s at 1 at 1 1 (getD s at 0) (at + 1) (left-start s at 1 h) l (char-plain s at w) (plain-one (getD s at 0) w)
+    (omega arith)) refl
 
 -- in a text without a fault there is a character at each place that is reached
 pub no-ill : {A : Type 0} (s : List ℕ) (b : ℕ) (r : List ℕ) → decode 0 b (drop b s) ≡ ok r → b < length s → charAt s b ≡ Ill → A

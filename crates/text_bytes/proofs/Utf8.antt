@@ -117,7 +117,16 @@ unit-length u v h =
     (λ a. cases (isHigh u)
     (λ b.
     let l = leb-true 55296 u (and-l _ _ b) in
-    rw (a, b, utf-length (paired u v), lt-leb (paired u v) 127 (omega arith), lt-leb (paired u v) 2047 (omega arith), lt-leb (paired u v) 65535 (omega arith), lt-leb u 127 (omega arith), lt-leb u 2047 (omega arith)))
+    rw (
+      a,
+      b,
+      utf-length (paired u v),
+      lt-leb (paired u v) 127 (omega arith),
+      lt-leb (paired u v) 2047 (omega arith),
+      lt-leb (paired u v) 65535 (omega arith),
+      lt-leb u 127 (omega arith),
+      lt-leb u 2047 (omega arith),
+    ))
     (λ b. rw (a, b, utf-length u, le-leb u 65535 (omega arith))))
 
 asked-length : (e : Bool) (u v : ℕ) → u < 65536 → length (asAsked e (unitBytes u v)) ≡ askedLength e u

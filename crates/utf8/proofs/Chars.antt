@@ -139,20 +139,21 @@ module _ (s : List ℕ) (i : ℕ) (r : Trailing) (e : r ≡ lead (getD s i 0)) w
   unfolding charAt
   char-cut h = rw (by-lead {t = false} (rw (h, and-false (r .fits))))
 
-  module _ (c : ℕ) (f : r .fits ≡ true) (t : trail (r .more) (r .lo) (r .hi) (drop (i + 1) s) ≡ true) (q : c ≡ scalar (r .more) (getD s i 0) (drop (i + 1) s)) where
-    start : startsChar (getD s i 0) (drop (i + 1) s) ≡ true
-    start = by-lead (rw (f, t))
+  module _ (c : ℕ) (f : r .fits ≡ true) (t : trail (r .more) (r .lo) (r .hi) (drop (i + 1) s) ≡ true) (q : c ≡ scalar (r .more) (getD s i 0) (drop (i + 1) s))
+    where
+      start : startsChar (getD s i 0) (drop (i + 1) s) ≡ true
+      start = by-lead (rw (f, t))
 
-    more-is : following (getD s i 0) (drop (i + 1) s) ≡ r .more
-    more-is = following-is (getD s i 0) (drop (i + 1) s) start ∙ rw (← e)
+      more-is : following (getD s i 0) (drop (i + 1) s) ≡ r .more
+      more-is = following-is (getD s i 0) (drop (i + 1) s) start ∙ rw (← e)
 
-    pub char-good : xmlChar c ≡ true → Good c (i + 1 + r .more) ≡ charAt s i
-    unfolding charAt
-    char-good x = rw (start, more-is, ← q, x)
+      pub char-good : xmlChar c ≡ true → Good c (i + 1 + r .more) ≡ charAt s i
+      unfolding charAt
+      char-good x = rw (start, more-is, ← q, x)
 
-    pub char-outside : xmlChar c ≡ false → Outside ≡ charAt s i
-    unfolding charAt
-    char-outside x = rw (start, more-is, ← q, x)
+      pub char-outside : xmlChar c ≡ false → Outside ≡ charAt s i
+      unfolding charAt
+      char-outside x = rw (start, more-is, ← q, x)
 
 -- ── what the character at a place tells ──
 

@@ -79,7 +79,8 @@ trail-low s k l h i n p w = trail-bad s k l h i n p (rw (lt-leb l (getD s i 0) w
 pub trail-high : (s : List ℕ) (k l h i : ℕ) → (k ≡ 0 → ⊥) → i < length s → h < getD s i 0 → trail k l h (drop i s) ≡ false
 trail-high s k l h i n p w = trail-bad s k l h i n p (rw (lt-leb (getD s i 0) h w, and-false (leb l (getD s i 0))))
 
-pub trail-next : (s : List ℕ) (k l h i : ℕ) → (k ≡ 0 → ⊥) → i < length s → l ≤ getD s i 0 → getD s i 0 ≤ h → trail k l h (drop i s) ≡ trail (k - 1) 128 191 (drop (i + 1) s)
+pub trail-next : (s : List ℕ) (k l h i : ℕ) → (k ≡ 0 → ⊥) → i < length s → l ≤ getD s i 0 → getD s i 0 ≤ h
+    → trail k l h (drop i s) ≡ trail (k - 1) 128 191 (drop (i + 1) s)
 unfolding trail
 trail-next s zero l h i n p a b = absurd (n refl)
 trail-next s (suc k) l h i n p a b =
@@ -170,7 +171,8 @@ same (r ∷ rs) m o ts b bs =
     (λ w. let g : rowFits (r .bytes) (b ∷ bs) ≡ rowFits fs bs = fits-first r f fs e b bs w in
     cases (rowFits fs bs)
     (λ h. same-as (rw (i, w)) (alone r rs m (b ∷ bs) o (g ∙ h)) (found r f fs e (ts .0) bs h))
-    (λ h. same-as (rw (i, w)) (skips r rs (b ∷ bs) (g ∙ h) ∙ none-below rs (suc (f .hi)) b bs p (omega (arith, within-hi (f .lo) (f .hi) b w))) (not-found r f fs e (ts .0) bs h)))
+    (λ h. same-as (rw (i, w)) (skips r rs (b ∷ bs) (g ∙ h) ∙ none-below rs (suc (f .hi)) b bs p (omega (arith, within-hi (f .lo) (f .hi) b w)))
+    (not-found r f fs e (ts .0) bs h)))
     (λ w. same-as (rw (i, w)) (skips r rs (b ∷ bs) (unfit r f fs e b bs w)) (same rs (suc (f .hi)) p (ts .1) b bs))
 
 -- so a well-formed character starts where the bytes are those of the row chosen, and has as many bytes

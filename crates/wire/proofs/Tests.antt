@@ -28,7 +28,8 @@ module _ (n : ℕ) where
   choice-bits b = cases (ltb n 2147483648) (λ t. rw (t, low (ltb-true n 2147483648 t))) (λ t. rw (t, high (ltb-false n 2147483648 t)) last)
     where
       last : eqb n 4294967295 ≡ eqb (4294967295 - n) 0
-      last = cases (eqb n 4294967295) (λ e. let z = eqb-true n 4294967295 e in e ∙ sym (eq-eqb (4294967295 - n) 0 (omega arith))) (λ e. e ∙ sym (ne-eqb (4294967295 - n) 0 (λ d. eqb-false n 4294967295 e (omega arith))))
+      last = cases (eqb n 4294967295) (λ e. let z = eqb-true n 4294967295 e in e ∙ sym (eq-eqb (4294967295 - n) 0 (omega arith)))
+          (λ e. e ∙ sym (ne-eqb (4294967295 - n) 0 (λ d. eqb-false n 4294967295 e (omega arith))))
 
   pub size-low : n < 2147483648 → n ≡ size (signed n)
   size-low h = rw (low h)
@@ -51,7 +52,8 @@ given-is (pos n) = refl
 given-is (negsuc n) = refl
 
 -- the four tests of a glyph's numbers
-pub font-is : (i a u v : ℤ) {n m : Bool} {x y : ℕ} {p q r : Bool} → n ≡ natural i → m ≡ natural a → x ≡ size u → y ≡ size v → p ≡ (not n && not m) → q ≡ (p && eqb x 0)
+pub font-is : (i a u v : ℤ) {n m : Bool} {x y : ℕ} {p q r : Bool} → n ≡ natural i → m ≡ natural a → x ≡ size u → y ≡ size v → p ≡ (not n && not m)
+    → q ≡ (p && eqb x 0)
     → r ≡ (q && eqb y 0) → r ≡ isFont (glyphOf i a u v)
 unfolding glyphOf
 font-is i a u v en em ex ey ep eq er = er ∙ rw (eq, ep, en, em, ex, ey, named-is i, given-is a)

@@ -67,12 +67,21 @@ module _ (a : Bool) (us cs gs T I : List ℕ) {x : Bool} (e : x ≡ sound (place
         refuses-21 f l = refuses 21 m T I f is
           where
             is : W ≡ no 21 m
-            is = write-steps a (outputs T I) (places us cs gs) ∙ rw (yes, le-leb t (length T) (omega arith), asked-indices a (clustersOf (words cs)) (glyphsOf (words gs)), lt-leb i (length I) (omega arith), ei)
+            is = write-steps a (outputs T I) (places us cs gs)
+                ∙ rw (
+                  yes,
+                  le-leb t (length T) (omega arith),
+                  asked-indices a (clustersOf (words cs)) (glyphsOf (words gs)),
+                  lt-leb i (length I) (omega arith),
+                  ei,
+                )
 
         module _ (l : m ≤ length I) where
           accepts : W ≡ ok (record { text = asAsked a (textOf (halves us)); indices = indicesOf (clustersOf (words cs)) (glyphsOf (words gs)) })
-          accepts = write-steps a (outputs T I) (places us cs gs) ∙ rw (yes, le-leb t (length T) (omega arith), asked-indices a (clustersOf (words cs)) (glyphsOf (words gs)), le-leb i (length I) (omega arith))
+          accepts = write-steps a (outputs T I) (places us cs gs)
+              ∙ rw (yes, le-leb t (length T) (omega arith), asked-indices a (clustersOf (words cs)) (glyphsOf (words gs)), le-leb i (length I) (omega arith))
 
-          pub writes : {T′ I′ : List ℕ} {p q : ℕ} → Put T 0 (asAsked a (textOf (halves us))) p T′ → Put I 0 (indicesOf (clustersOf (words cs)) (glyphsOf (words gs))) q I′
+          pub writes : {T′ I′ : List ℕ} {p q : ℕ} → Put T 0 (asAsked a (textOf (halves us))) p T′
+              → Put I 0 (indicesOf (clustersOf (words cs)) (glyphsOf (words gs))) q I′
               → Answer W (Written (record { text = n; indices = m })) T T′ I I′
           writes b d = rw (accepts, et, ei) (refl, (put-room b (omega arith), put-room d (omega arith)))

@@ -101,11 +101,14 @@ module _ (cs gs : List ℤ) (n lack i k : ℕ) where
   unfolding writtenAt entryList owed
   rest-none h l e = rw (glyphs-at gs k h, clusters-end cs i e, l, entryList)
 
-  pub rest-further : 4 ≤ length gs - k → 0 < lack → rest ≡ led n (entryBytes 1 1 (glyphAt gs k)) ++ owed (owing n (entryBytes 1 1 (glyphAt gs k))) (writtenAt cs gs (lack - 1) i (k + 4))
+  pub rest-further : 4 ≤ length gs - k → 0 < lack
+      → rest ≡ led n (entryBytes 1 1 (glyphAt gs k)) ++ owed (owing n (entryBytes 1 1 (glyphAt gs k))) (writtenAt cs gs (lack - 1) i (k + 4))
   unfolding writtenAt entryList owed
   rest-further h l = rw (glyphs-at gs k h) (by lack l)
     where
-      by : (m : ℕ) → 0 < m → owed n (entryList m (clustersOf (drop i cs)) (glyphAt gs k ∷ glyphsOf (drop (k + 4) gs))) ≡ led n (entryBytes 1 1 (glyphAt gs k)) ++ owed (owing n (entryBytes 1 1 (glyphAt gs k))) (entryList (m - 1) (clustersOf (drop i cs)) (glyphsOf (drop (k + 4) gs)))
+      by : (m : ℕ) → 0 < m → owed n (entryList m (clustersOf (drop i cs)) (glyphAt gs k ∷ glyphsOf (drop (k + 4) gs))) ≡ led n
+          (entryBytes 1 1 (glyphAt gs k)) ++ owed (owing n (entryBytes 1 1 (glyphAt gs k)))
+          (entryList (m - 1) (clustersOf (drop i cs)) (glyphsOf (drop (k + 4) gs)))
       by zero l = absurd (omega arith)
       by (suc m) l = let e : suc m - 1 ≡ m = omega arith in rw e
 
@@ -121,7 +124,8 @@ unfolding led owing
 owes-is n at p [] e = rw (le-ltb at p (omega arith))
 owes-is n at p (a ∷ x) e = rw (lt-ltb at p (omega (arith, e, length-append (semis n) (a ∷ x))))
 
-pub entry-stored : (n : ℕ) (x : List ℕ) (ls : List (List ℕ)) {old whole l m s : List ℕ} {at p r : ℕ} → s ≡ led n x ++ owed (owing n x) ls → Left old whole l 0 at s
+pub entry-stored : (n : ℕ) (x : List ℕ) (ls : List (List ℕ)) {old whole l m s : List ℕ} {at p r : ℕ} → s ≡ led n x ++ owed (owing n x) ls
+    → Left old whole l 0 at s
     → Put l at (led n x) p m → r ≡ cond (ltb at p) 1 (n + 1) → Left old whole m 0 p (owed r ls)
 entry-stored n x ls {at = at} {p = p} e f g d =
     left-next (left-as (e ∙ ap (λ (z : ℕ). led n x ++ owed z ls) (sym (d ∙ owes-is n at p x (g .behind)))) f) g

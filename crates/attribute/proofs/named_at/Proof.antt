@@ -74,7 +74,19 @@ returns-5 c = hit _ _ (ascii "apos") refl (c .before .stands-at5 .ensures) 39 (n
 
 returns-6 : tie.Need-returns-6
 unfolding ascii
-returns-6 c = missed _ _ (c .before .before .before .before .before .before .before .before .before .before .before .before .before .stands-at .ensures) (c .before .before .before .before .before .before .before .before .before .before .stands-at2 .ensures) (c .before .before .before .before .before .before .before .stands-at3 .ensures) (c .before .before .before .before .stands-at4 .ensures) (c .before .stands-at5 .ensures) (c .before .before .before .before .before .before .before .before .before .before .before .before .if1 .left) (c .before .before .before .before .before .before .before .before .before .if2 .left) (c .before .before .before .before .before .before .if3 .left) (c .before .before .before .if4 .left) (c .if5 .left)
+returns-6 c =
+    let at-stands-at5 = c .before in
+    let at-if4 = at-stands-at5 .before .before in
+    let at-stands-at4 = at-if4 .before in
+    let at-if3 = at-stands-at4 .before .before in
+    let at-stands-at3 = at-if3 .before in
+    let at-if2 = at-stands-at3 .before .before in
+    let at-stands-at2 = at-if2 .before in
+    let at-if1 = at-stands-at2 .before .before in
+    let at-stands-at = at-if1 .before in
+    missed _ _ (at-stands-at .stands-at .ensures) (at-stands-at2 .stands-at2 .ensures) (at-stands-at3 .stands-at3 .ensures)
+    (at-stands-at4 .stands-at4 .ensures) (at-stands-at5 .stands-at5 .ensures) (at-if1 .if1 .left) (at-if2 .if2 .left) (at-if3 .if3 .left) (at-if4 .if4 .left)
+    (c .if5 .left)
 
 pub named-at-spec : {M : Type 1} → statement M
 named-at-spec =

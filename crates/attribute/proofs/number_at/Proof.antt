@@ -23,7 +23,13 @@ digit-value-requires : tie.Need-digit-value-requires Inv-loop μ-loop
 digit-value-requires c κs = search needs
 
 returns : tie.Need-returns Inv-loop μ-loop
-returns c = (scan-other (c .before .before .before .before .loop .inv) (c .before .digit-value .ensures .0) (c .before .before .before .loop-test .taken) (c .if1 .taken), (c .before .before .before .before .loop .inv .from, c .before .before .before .before .loop .inv .within))
+returns c =
+    let at-digit-value = c .before in
+    let at-loop-test = at-digit-value .before .before in
+    let at-loop = at-loop-test .before in (
+      scan-other (at-loop .loop .inv) (at-digit-value .digit-value .ensures .0) (at-loop-test .loop-test .taken) (c .if1 .taken),
+      (at-loop .loop .inv .from, at-loop .loop .inv .within),
+    )
 
 with-digit-requires : tie.Need-with-digit-requires Inv-loop μ-loop
 with-digit-requires c κs = (omega arith, omega arith, omega arith)
@@ -35,7 +41,14 @@ loop-less : tie.Need-loop-less Inv-loop μ-loop
 loop-less c = omega arith
 
 loop-again : tie.Need-loop-again Inv-loop μ-loop
-loop-again c = scan-step (c .before .before .before .before .before .loop .inv) (c .before .before .digit-value .ensures .0) (c .with-digit .ensures) (c .before .before .before .before .before .before .before .pre .1) (c .before .before .before .before .loop-test .taken) (c .before .if1 .left)
+loop-again c =
+    let at-if1 = c .before in
+    let at-digit-value = at-if1 .before in
+    let at-loop-test = at-digit-value .before .before in
+    let at-loop = at-loop-test .before in
+    let at-start = at-loop .before .before in
+    scan-step (at-loop .loop .inv) (at-digit-value .digit-value .ensures .0) (c .with-digit .ensures) (at-start .pre .1) (at-loop-test .loop-test .taken)
+    (at-if1 .if1 .left)
 
 returns-2 : tie.Need-returns-2 Inv-loop μ-loop
 returns-2 c = (scan-end (c .before .loop .inv) (c .loop-test .left), (c .before .loop .inv .from, c .before .loop .inv .within))

@@ -29,7 +29,9 @@ spaced-byte-requires : tie.Need-spaced-byte-requires Inv-loop μ-loop
 spaced-byte-requires c κs = search needs
 
 put-byte-requires : tie.Need-put-byte-requires Inv-loop μ-loop
-put-byte-requires c κs = omega (arith, c .before .before .before .before .before .before .loop .inv .few)
+put-byte-requires c κs =
+    let at-loop = c .before .before .before .before .before .before in
+    omega (arith, at-loop .loop .inv .few)
 
 width-at-requires : tie.Need-width-at-requires Inv-loop μ-loop
 width-at-requires c κs = search needs
@@ -41,7 +43,15 @@ loop-less : tie.Need-loop-less Inv-loop μ-loop
 loop-less c = omega arith
 
 loop-again : tie.Need-loop-again Inv-loop μ-loop
-loop-again c = plain (c .before .before .before .before .before .before .before .before .before .before .loop .inv) (c .before .before .before .before .before .before .before .before .before .loop-test .taken) (c .before .before .before .before .before .before .before .if1 .left) (c .before .before .before .before .before .before .if2 .taken) (c .before .before .before .before .spaced-byte .ensures) (c .before .before .before .put-byte .ensures .0) (c .width-at .ensures .0)
+loop-again c =
+    let at-put-byte = c .before .before .before in
+    let at-spaced-byte = at-put-byte .before in
+    let at-if2 = at-spaced-byte .before .before in
+    let at-if1 = at-if2 .before in
+    let at-loop-test = at-if1 .before .before in
+    let at-loop = at-loop-test .before in
+    plain (at-loop .loop .inv) (at-loop-test .loop-test .taken) (at-if1 .if1 .left) (at-if2 .if2 .taken) (at-spaced-byte .spaced-byte .ensures)
+    (at-put-byte .put-byte .ensures .0) (c .width-at .ensures .0)
 
 add-reference-at : tie.Need-add-reference-at Inv-loop μ-loop
 add-reference-at c = search needs
@@ -53,22 +63,56 @@ enum-known-code : tie.Need-enum-known-code Inv-loop μ-loop
 enum-known-code c = search needs
 
 put-utf8-requires : tie.Need-put-utf8-requires Inv-loop μ-loop
-put-utf8-requires c κs = (omega (arith, c .before .before .before .before .before .before .before .before .before .loop .inv .few), small (c .before .before .before .before .before .before .before .before .before .loop .inv) (c .before .before .before .before .before .before .before .before .loop-test .taken) (c .before .before .before .before .before .if2 .left) (c .before .before .before .before .reference-at .ensures) (c .before .before .code .given .1))
+put-utf8-requires c κs =
+    let at-code = c .before .before in
+    let at-reference-at = at-code .before .before in
+    let at-if2 = at-reference-at .before in
+    let at-loop-test = at-if2 .before .before .before in
+    let at-loop = at-loop-test .before in (
+      omega (arith, at-loop .loop .inv .few),
+      small (at-loop .loop .inv) (at-loop-test .loop-test .taken) (at-if2 .if2 .left)
+          (at-reference-at .reference-at .ensures) (at-code .code .given .1),
+    )
 
 loop-less-2 : tie.Need-loop-less-2 Inv-loop μ-loop
-loop-less-2 c = omega (arith, ahead (c .before .before .before .before .before .before .before .before .before .before .before .before .loop .inv) (c .before .before .before .before .before .before .before .before .before .before .before .loop-test .taken) (c .before .before .before .before .before .before .before .before .if2 .left) (c .before .before .before .before .before .before .before .reference-at .ensures) (c .before .before .before .before .before .code .given .1))
+loop-less-2 c =
+    let at-code = c .before .before .before .before .before in
+    let at-reference-at = at-code .before .before in
+    let at-if2 = at-reference-at .before in
+    let at-loop-test = at-if2 .before .before .before in
+    let at-loop = at-loop-test .before in
+    omega (
+      arith,
+      ahead (at-loop .loop .inv) (at-loop-test .loop-test .taken) (at-if2 .if2 .left) (at-reference-at .reference-at .ensures)
+          (at-code .code .given .1),
+    )
 
 loop-again-2 : tie.Need-loop-again-2 Inv-loop μ-loop
-loop-again-2 c = reference (c .before .before .before .before .before .before .before .before .before .before .before .before .loop .inv) (c .before .before .before .before .before .before .before .before .before .before .before .loop-test .taken) (c .before .before .before .before .before .before .before .before .if2 .left) (c .before .before .before .before .before .before .before .reference-at .ensures) (c .before .before .before .before .before .code .given .1) (c .before .before .put-utf8 .ensures .0)
+loop-again-2 c =
+    let at-put-utf8 = c .before .before in
+    let at-code = at-put-utf8 .before .before .before in
+    let at-reference-at = at-code .before .before in
+    let at-if2 = at-reference-at .before in
+    let at-loop-test = at-if2 .before .before .before in
+    let at-loop = at-loop-test .before in
+    reference (at-loop .loop .inv) (at-loop-test .loop-test .taken) (at-if2 .if2 .left) (at-reference-at .reference-at .ensures) (at-code .code .given .1)
+    (at-put-utf8 .put-utf8 .ensures .0)
 
 enum-told : tie.Need-enum-told Inv-loop μ-loop
 enum-told c = search needs
 
 same-length-2 : tie.Need-same-length-2 Inv-loop μ-loop
-same-length-2 c = c .before .before .before .before .before .before .before .loop .inv .same
+same-length-2 c =
+    let at-loop = c .before .before .before .before .before .before .before in
+    at-loop .loop .inv .same
 
 returns-2 : tie.Need-returns-2 Inv-loop μ-loop
-returns-2 c = bad-reference (c .before .before .before .before .before .before .before .loop .inv) (c .before .before .before .before .before .before .loop-test .taken) (c .before .before .before .if2 .left) (c .before .before .reference-at .ensures) (c .enum-told .given .1)
+returns-2 c =
+    let at-reference-at = c .before .before in
+    let at-if2 = at-reference-at .before in
+    let at-loop-test = at-if2 .before .before .before in
+    let at-loop = at-loop-test .before in
+    bad-reference (at-loop .loop .inv) (at-loop-test .loop-test .taken) (at-if2 .if2 .left) (at-reference-at .reference-at .ensures) (c .enum-told .given .1)
 
 same-length-3 : tie.Need-same-length-3 Inv-loop μ-loop
 same-length-3 c = c .before .loop .inv .same

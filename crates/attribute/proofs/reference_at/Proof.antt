@@ -25,19 +25,41 @@ add-numbered-at : tie.Need-add-numbered-at
 add-numbered-at c = search needs
 
 numbered-at-requires : tie.Need-numbered-at-requires
-numbered-at-requires c κs = (behind-in (c .before .before .before .before .before .args .s .now) _ (c .before .before .before .byte-or-zero .ensures) 35 (c .before .before .if1 .left) (omega arith) refl, omega arith, omega arith)
+numbered-at-requires c κs =
+    let at-if1 = c .before .before in
+    let at-byte-or-zero = at-if1 .before in
+    let at-start = at-byte-or-zero .before .before in
+    (behind-in (at-start .args .s .now) _ (at-byte-or-zero .byte-or-zero .ensures) 35 (at-if1 .if1 .left) (omega arith) refl, omega arith, omega arith)
 
 returns-2 : tie.Need-returns-2
-returns-2 c = c .numbered-at .ensures ∙ by-ten _ _ (c .before .before .before .before .byte-or-zero .ensures) (c .before .before .before .if1 .left) (c .before .before .byte-or-zero2 .ensures) (c .before .if2 .taken)
+returns-2 c =
+    let at-if2 = c .before in
+    let at-byte-or-zero2 = at-if2 .before in
+    let at-if1 = at-byte-or-zero2 .before in
+    let at-byte-or-zero = at-if1 .before in
+    c .numbered-at .ensures ∙ by-ten _ _ (at-byte-or-zero .byte-or-zero .ensures) (at-if1 .if1 .left) (at-byte-or-zero2 .byte-or-zero2 .ensures)
+    (at-if2 .if2 .taken)
 
 add-numbered-at-2 : tie.Need-add-numbered-at-2
 add-numbered-at-2 c = search needs
 
 numbered-at-requires-2 : tie.Need-numbered-at-requires-2
-numbered-at-requires-2 c κs = (omega (arith, behind-in (c .before .before .before .before .before .args .s .now) _ (c .before .byte-or-zero2 .ensures) 120 (c .if2 .left) (omega arith) refl), omega arith, omega arith)
+numbered-at-requires-2 c κs =
+    let at-if2 = c .before in
+    let at-shared-slice-known = at-if2 .before .before .before .before in (
+      omega (arith, behind-in (at-shared-slice-known .args .s .now) _ (at-if2 .byte-or-zero2 .ensures) 120 (c .if2 .left) (omega arith) refl),
+      omega arith,
+      omega arith,
+    )
 
 returns-3 : tie.Need-returns-3
-returns-3 c = c .numbered-at2 .ensures ∙ by-sixteen _ _ (c .before .before .before .before .byte-or-zero .ensures) (c .before .before .before .if1 .left) (c .before .before .byte-or-zero2 .ensures) (c .before .if2 .left)
+returns-3 c =
+    let at-if2 = c .before in
+    let at-byte-or-zero2 = at-if2 .before in
+    let at-if1 = at-byte-or-zero2 .before in
+    let at-byte-or-zero = at-if1 .before in
+    c .numbered-at2 .ensures ∙ by-sixteen _ _ (at-byte-or-zero .byte-or-zero .ensures) (at-if1 .if1 .left) (at-byte-or-zero2 .byte-or-zero2 .ensures)
+    (at-if2 .if2 .left)
 
 pub reference-at-spec : {M : Type 1} → statement M
 reference-at-spec =

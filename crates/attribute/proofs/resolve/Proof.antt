@@ -23,19 +23,37 @@ refused-requires-2 : tie.Need-refused-requires-2
 refused-requires-2 c κs = search needs
 
 returns : tie.Need-returns
-returns c = refuses-24 (c .before .before .before .before .before .before .before .before .before .before .args .raw .now) (c .before .before .before .before .before .before .before .before .before .before .args .out .now) _ _ _ (c .before .before .before .before .before .before .put-resolved .ensures) (c .before .before .before .n .given .1) (c .refused2 .ensures) (c .before .if1 .taken)
+returns c =
+    let at-if1 = c .before in
+    let at-n = at-if1 .before .before in
+    let at-put-resolved = at-n .before .before .before in
+    let at-start = at-put-resolved .before .before .before .before in
+    refuses-24 (at-start .args .raw .now) (at-start .args .out .now) _ _ _ (at-put-resolved .put-resolved .ensures) (at-n .n .given .1) (c .refused2 .ensures)
+    (at-if1 .if1 .taken)
 
 put-resolved-requires-2 : tie.Need-put-resolved-requires-2
 put-resolved-requires-2 c κs = search needs
 
 returns-2 : tie.Need-returns-2
-returns-2 c = refuses-23 (c .before .before .before .before .before .before .before .before .before .args .raw .now) (c .before .before .before .before .before .before .before .before .before .args .out .now) _ _ _ (c .before .before .before .before .before .put-resolved .ensures) (c .before .before .place .given .1) (c .refused .ensures)
+returns-2 c =
+    let at-place = c .before .before in
+    let at-put-resolved = at-place .before .before .before in
+    let at-start = at-put-resolved .before .before .before .before in
+    refuses-23 (at-start .args .raw .now) (at-start .args .out .now) _ _ _ (at-put-resolved .put-resolved .ensures) (at-place .place .given .1)
+    (c .refused .ensures)
 
 same-length : tie.Need-same-length
 same-length c = search needs
 
 returns-3 : tie.Need-returns-3
-returns-3 c = resolves (c .before .before .before .before .before .before .before .before .before .before .before .before .before .args .raw .now) (c .before .before .before .before .before .before .before .before .before .before .before .before .before .args .out .now) _ _ _ (c .before .before .before .before .before .before .before .before .before .put-resolved .ensures) (c .before .before .before .before .before .before .n .given .1) (c .before .before .before .before .if1 .left) (c .before .before .put-resolved2 .result) (c .before .before .put-resolved2 .ensures)
+returns-3 c =
+    let at-put-resolved2 = c .before .before in
+    let at-if1 = at-put-resolved2 .before .before in
+    let at-n = at-if1 .before .before in
+    let at-put-resolved = at-n .before .before .before in
+    let at-start = at-put-resolved .before .before .before .before in
+    resolves (at-start .args .raw .now) (at-start .args .out .now) _ _ _ (at-put-resolved .put-resolved .ensures) (at-n .n .given .1) (at-if1 .if1 .left)
+    (at-put-resolved2 .put-resolved2 .result) (at-put-resolved2 .put-resolved2 .ensures)
 
 pub resolve-spec : {M : Type 1} → statement M
 resolve-spec =

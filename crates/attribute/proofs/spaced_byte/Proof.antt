@@ -15,11 +15,19 @@ either-requires-2 c κs = search needs
 
 returns : tie.Need-returns
 unfolding spaced
-returns c = rw (ap (λ (x : Bool). x || eqb (c .before .before .before .args .b) 13) (sym (c .before .before .either .ensures)) ∙ sym (c .before .either2 .ensures) ∙ c .if1 .taken)
+returns c =
+    let at-either2 = c .before in
+    let at-either = at-either2 .before in
+    let at-start = at-either .before in
+    rw (ap (λ (x : Bool). x || eqb (at-start .args .b) 13) (sym (at-either .either .ensures)) ∙ sym (at-either2 .either2 .ensures) ∙ c .if1 .taken)
 
 returns-2 : tie.Need-returns-2
 unfolding spaced
-returns-2 c = rw (ap (λ (x : Bool). x || eqb (c .before .before .before .args .b) 13) (sym (c .before .before .either .ensures)) ∙ sym (c .before .either2 .ensures) ∙ c .if1 .left)
+returns-2 c =
+    let at-either2 = c .before in
+    let at-either = at-either2 .before in
+    let at-start = at-either .before in
+    rw (ap (λ (x : Bool). x || eqb (at-start .args .b) 13) (sym (at-either .either .ensures)) ∙ sym (at-either2 .either2 .ensures) ∙ c .if1 .left)
 
 pub spaced-byte-spec : {M : Type 1} → statement M
 spaced-byte-spec = tie.close (tie.spec either-requires either-requires-2 returns returns-2)

@@ -22,7 +22,10 @@ byte-or-zero-requires c κs = search needs
 
 returns-2 : tie.Need-returns-2
 unfolding widthAt
-returns-2 c = (rw (eq-eqb _ 13 (c .before .before .if1 .left), ne-eqb _ 10 (λ k. c .if2 .taken (c .before .byte-or-zero .ensures ∙ k))), (omega arith, omega arith))
+returns-2 c =
+    let at-byte-or-zero = c .before in
+    let at-if1 = at-byte-or-zero .before in
+    (rw (eq-eqb _ 13 (at-if1 .if1 .left), ne-eqb _ 10 (λ k. c .if2 .taken (at-byte-or-zero .byte-or-zero .ensures ∙ k))), (omega arith, omega arith))
 
 returns-3 : tie.Need-returns-3
 unfolding widthAt

@@ -16,7 +16,13 @@ not-given-requires : tie.Need-not-given-requires
 not-given-requires c κs = search needs
 
 returns : tie.Need-returns
-returns c = (c .not-given .ensures ∙ code-absent (c .before .before .before .before .args .s .now) (c .before .before .before .before .args .at) (λ h. c .before .if1 .taken (c .before .before .byte-at .ensures ∙ h)), rw (c .not-given .ensures) (omega arith))
+returns c =
+    let at-if1 = c .before in
+    let at-byte-at = at-if1 .before in
+    let at-start = at-byte-at .before .before in (
+      c .not-given .ensures ∙ code-absent (at-start .args .s .now) (at-start .args .at) (λ h. at-if1 .if1 .taken (at-byte-at .byte-at .ensures ∙ h)),
+      rw (c .not-given .ensures) (omega arith),
+    )
 
 add-breaks-at : tie.Need-add-breaks-at
 add-breaks-at c = search needs
@@ -28,7 +34,19 @@ not-given-requires-2 : tie.Need-not-given-requires-2
 not-given-requires-2 c κs = search needs
 
 returns-2 : tie.Need-returns-2
-returns-2 c = (c .not-given2 .ensures ∙ code-empty (c .before .before .before .before .before .before .args .s .now) (c .before .before .before .before .before .before .args .at) (sym (c .before .before .before .before .byte-at .ensures) ∙ c .before .before .before .if1 .left) (sym (c .before .before .breaks-at .ensures) ∙ c .before .if2 .taken), rw (c .not-given2 .ensures) (omega (arith, head-in (c .before .before .before .before .before .before .args .s .now) (c .before .before .before .before .before .before .args .at) 44 (sym (c .before .before .before .before .byte-at .ensures) ∙ c .before .before .before .if1 .left) (lit< tt))))
+returns-2 c =
+    let at-if2 = c .before in
+    let at-breaks-at = at-if2 .before in
+    let at-if1 = at-breaks-at .before in
+    let at-byte-at = at-if1 .before in
+    let at-start = at-byte-at .before .before in (
+      c .not-given2 .ensures ∙ code-empty (at-start .args .s .now) (at-start .args .at) (sym (at-byte-at .byte-at .ensures) ∙ at-if1 .if1 .left)
+          (sym (at-breaks-at .breaks-at .ensures) ∙ at-if2 .if2 .taken),
+      rw (c .not-given2 .ensures) (omega (
+        arith,
+        head-in (at-start .args .s .now) (at-start .args .at) 44 (sym (at-byte-at .byte-at .ensures) ∙ at-if1 .if1 .left) (lit< tt),
+      )),
+    )
 
 add-byte-at : tie.Need-add-byte-at
 add-byte-at c = search needs
@@ -46,13 +64,29 @@ add-number-at : tie.Need-add-number-at
 add-number-at c = search needs
 
 number-at-requires : tie.Need-number-at-requires
-number-at-requires c κs = signed-after _ _ _ _ (c .before .byte-at2 .ensures) (c .sign-length .ensures .0) (head-in _ _ _ (sym (c .before .before .before .before .before .byte-at .ensures) ∙ c .before .before .before .before .if1 .left) (lit< tt))
+number-at-requires c κs =
+    let at-byte-at2 = c .before in
+    let at-if1 = at-byte-at2 .before .before .before in
+    let at-byte-at = at-if1 .before in
+    signed-after _ _ _ _ (at-byte-at2 .byte-at2 .ensures) (c .sign-length .ensures .0)
+    (head-in _ _ _ (sym (at-byte-at .byte-at .ensures) ∙ at-if1 .if1 .left) (lit< tt))
 
 add-t10 : tie.Need-add-t10
 add-t10 c = search needs
 
 returns-3 : tie.Need-returns-3
-returns-3 c = (code-given _ _ (sym (c .before .before .before .before .before .before .before .byte-at .ensures) ∙ c .before .before .before .before .before .before .if1 .left) _ (c .before .before .before .byte-at2 .ensures) (sym (c .before .before .before .before .before .breaks-at .ensures) ∙ c .before .before .before .before .if2 .left) _ (c .before .before .sign-length .ensures .0) _ (c .before .number-at .ensures .0), omega arith)
+returns-3 c =
+    let at-number-at = c .before in
+    let at-sign-length = at-number-at .before in
+    let at-byte-at2 = at-sign-length .before in
+    let at-if2 = at-byte-at2 .before in
+    let at-breaks-at = at-if2 .before in
+    let at-if1 = at-breaks-at .before in
+    let at-byte-at = at-if1 .before in (
+      code-given _ _ (sym (at-byte-at .byte-at .ensures) ∙ at-if1 .if1 .left) _ (at-byte-at2 .byte-at2 .ensures)
+          (sym (at-breaks-at .breaks-at .ensures) ∙ at-if2 .if2 .left) _ (at-sign-length .sign-length .ensures .0) _ (at-number-at .number-at .ensures .0),
+      omega arith,
+    )
 
 pub field-at-spec : {M : Type 1} → statement M
 field-at-spec =

@@ -21,7 +21,14 @@ add-t9 : tie.Need-add-t9
 add-t9 c = search needs
 
 returns : tie.Need-returns
-returns c = (code-front _ _ (c .before .before .before .before .before .before .before .map-of .ensures .0) _ (c .before .before .before .before .before .before .index-digits .ensures .0) _ _ (c .before .before .before .either .ensures) (c .before .before .both .ensures), omega arith)
+returns c =
+    let at-both = c .before .before in
+    let at-either = at-both .before in
+    let at-index-digits = at-either .before .before .before in
+    let at-map-of = at-index-digits .before in (
+      code-front _ _ (at-map-of .map-of .ensures .0) _ (at-index-digits .index-digits .ensures .0) _ _ (at-either .either .ensures) (at-both .both .ensures),
+      omega arith,
+    )
 
 pub front-of-spec : {M : Type 1} → statement M
 front-of-spec =

@@ -18,9 +18,11 @@ both-requires-2 c κs = search needs
 
 returns : tie.Need-returns
 returns c =
-    let g = c .before .before .before .before .before .before .before in
-    let e = both-told (c .before .before .before .both .ensures) (c .before .ends-at .ensures) (c .both2 .ensures) in
-    (e, index-told (g .args .s .now) (g .args .at) (g .args .d) (g .pre .0) (g .pre .1) e)
+    let at-ends-at = c .before in
+    let at-both = at-ends-at .before .before in
+    let at-start = at-both .before .before .before .before in
+    let e = both-told (at-both .both .ensures) (at-ends-at .ends-at .ensures) (c .both2 .ensures) in
+    (e, index-told (at-start .args .s .now) (at-start .args .at) (at-start .args .d) (at-start .pre .0) (at-start .pre .1) e)
 
 pub is-index-spec : {M : Type 1} → statement M
 is-index-spec = tie.close (tie.spec both-requires add-ends-at ends-at-requires both-requires-2 returns)

@@ -17,7 +17,10 @@ no-map-requires : tie.Need-no-map-requires
 no-map-requires c κs = search needs
 
 returns : tie.Need-returns
-returns c = (c .no-map .ensures ∙ ap cutMap (sym (map-none _ (λ h. c .before .if1 .taken (c .before .before .byte-at .ensures ∙ h)))), rw (c .no-map .ensures) (omega arith))
+returns c =
+    let at-if1 = c .before in
+    let at-byte-at = at-if1 .before in
+    (c .no-map .ensures ∙ ap cutMap (sym (map-none _ (λ h. at-if1 .if1 .taken (at-byte-at .byte-at .ensures ∙ h)))), rw (c .no-map .ensures) (omega arith))
 
 digits-at-requires : tie.Need-digits-at-requires
 digits-at-requires c κs = (head-in (c .before .before .before .args .s .now) 0 _ (sym (c .before .byte-at .ensures) ∙ c .if1 .left) (lit< tt), search needs)
@@ -35,13 +38,36 @@ add-t12 : tie.Need-add-t12
 add-t12 c = search needs
 
 returns-2 : tie.Need-returns-2
-returns-2 c = (code-one _ (sym (c .before .before .before .before .byte-at .ensures) ∙ c .before .before .before .if1 .left) _ (c .before .before .digits-at .ensures .0) (sym (c .before .byte-at2 .ensures) ∙ c .if2 .taken), omega (arith, next-in (c .before .before .before .before .before .before .args .s .now) 1 (c .before .before .digits-at .result .count) 41 (sym (c .before .byte-at2 .ensures) ∙ c .if2 .taken) (lit< tt)))
+returns-2 c =
+    let at-byte-at2 = c .before in
+    let at-digits-at = at-byte-at2 .before in
+    let at-if1 = at-digits-at .before in
+    let at-byte-at = at-if1 .before in
+    let at-start = at-byte-at .before .before in (
+      code-one _ (sym (at-byte-at .byte-at .ensures) ∙ at-if1 .if1 .left) _ (at-digits-at .digits-at .ensures .0)
+          (sym (at-byte-at2 .byte-at2 .ensures) ∙ c .if2 .taken),
+      omega (
+        arith,
+        next-in (at-start .args .s .now) 1 (at-digits-at .digits-at .result .count) 41 (sym (at-byte-at2 .byte-at2 .ensures) ∙ c .if2 .taken)
+            (lit< tt),
+      ),
+    )
 
 bad-map-requires : tie.Need-bad-map-requires
 bad-map-requires c κs = search needs
 
 returns-3 : tie.Need-returns-3
-returns-3 c = (c .bad-map .ensures ∙ code-odd _ (sym (c .before .before .before .before .before .before .byte-at .ensures) ∙ c .before .before .before .before .before .if1 .left) _ (c .before .before .before .before .digits-at .ensures .0) (λ h. c .before .before .if2 .left (c .before .before .before .byte-at2 .ensures ∙ h)) (λ h. c .before .if3 .taken (c .before .before .before .byte-at2 .ensures ∙ h)), rw (c .bad-map .ensures) (omega arith))
+returns-3 c =
+    let at-if3 = c .before in
+    let at-if2 = at-if3 .before in
+    let at-byte-at2 = at-if2 .before in
+    let at-digits-at = at-byte-at2 .before in
+    let at-if1 = at-digits-at .before in
+    let at-byte-at = at-if1 .before in (
+      c .bad-map .ensures ∙ code-odd _ (sym (at-byte-at .byte-at .ensures) ∙ at-if1 .if1 .left) _ (at-digits-at .digits-at .ensures .0)
+          (λ h. at-if2 .if2 .left (at-byte-at2 .byte-at2 .ensures ∙ h)) (λ h. at-if3 .if3 .taken (at-byte-at2 .byte-at2 .ensures ∙ h)),
+      rw (c .bad-map .ensures) (omega arith),
+    )
 
 add-digits-at : tie.Need-add-digits-at
 add-digits-at c = search needs
@@ -68,7 +94,21 @@ bad-map-requires-2 : tie.Need-bad-map-requires-2
 bad-map-requires-2 c κs = search needs
 
 returns-4 : tie.Need-returns-4
-returns-4 c = (c .bad-map2 .ensures ∙ code-open _ (sym (c .before .before .before .before .before .before .before .before .before .byte-at .ensures) ∙ c .before .before .before .before .before .before .before .before .if1 .left) _ (c .before .before .before .before .before .before .before .digits-at .ensures .0) (λ h. c .before .before .before .before .before .if2 .left (c .before .before .before .before .before .before .byte-at2 .ensures ∙ h)) (sym (c .before .before .before .before .before .before .byte-at2 .ensures) ∙ c .before .before .before .before .if3 .left) _ (c .before .before .before .digits-at2 .ensures .0) (λ h. c .before .if4 .taken (c .before .before .byte-at3 .ensures ∙ h)), rw (c .bad-map2 .ensures) (omega arith))
+returns-4 c =
+    let at-if4 = c .before in
+    let at-byte-at3 = at-if4 .before in
+    let at-digits-at2 = at-byte-at3 .before in
+    let at-if3 = at-digits-at2 .before in
+    let at-if2 = at-if3 .before in
+    let at-byte-at2 = at-if2 .before in
+    let at-digits-at = at-byte-at2 .before in
+    let at-if1 = at-digits-at .before in
+    let at-byte-at = at-if1 .before in (
+      c .bad-map2 .ensures ∙ code-open _ (sym (at-byte-at .byte-at .ensures) ∙ at-if1 .if1 .left) _ (at-digits-at .digits-at .ensures .0)
+          (λ h. at-if2 .if2 .left (at-byte-at2 .byte-at2 .ensures ∙ h)) (sym (at-byte-at2 .byte-at2 .ensures) ∙ at-if3 .if3 .left) _
+          (at-digits-at2 .digits-at2 .ensures .0) (λ h. at-if4 .if4 .taken (at-byte-at3 .byte-at3 .ensures ∙ h)),
+      rw (c .bad-map2 .ensures) (omega arith),
+    )
 
 both-requires : tie.Need-both-requires
 both-requires c κs = search needs
@@ -86,7 +126,26 @@ add-t18 : tie.Need-add-t18
 add-t18 c = search needs
 
 returns-5 : tie.Need-returns-5
-returns-5 c = (code-two _ (sym (c .before .before .before .before .before .before .before .before .before .byte-at .ensures) ∙ c .before .before .before .before .before .before .before .before .if1 .left) _ (c .before .before .before .before .before .before .before .digits-at .ensures .0) (λ h. c .before .before .before .before .before .if2 .left (c .before .before .before .before .before .before .byte-at2 .ensures ∙ h)) (sym (c .before .before .before .before .before .before .byte-at2 .ensures) ∙ c .before .before .before .before .if3 .left) _ (c .before .before .before .digits-at2 .ensures .0) (sym (c .before .before .byte-at3 .ensures) ∙ c .before .if4 .left) _ (c .both .ensures), omega (arith, head-in (c .before .before .before .before .before .before .before .before .before .before .before .args .s .now) (1 + (c .before .before .before .before .before .before .before .digits-at .result .count + 1) + c .before .before .before .digits-at2 .result .count) 41 (sym (c .before .before .byte-at3 .ensures) ∙ c .before .if4 .left) (lit< tt)))
+returns-5 c =
+    let at-if4 = c .before in
+    let at-byte-at3 = at-if4 .before in
+    let at-digits-at2 = at-byte-at3 .before in
+    let at-if3 = at-digits-at2 .before in
+    let at-if2 = at-if3 .before in
+    let at-byte-at2 = at-if2 .before in
+    let at-digits-at = at-byte-at2 .before in
+    let at-if1 = at-digits-at .before in
+    let at-byte-at = at-if1 .before in
+    let at-start = at-byte-at .before .before in (
+      code-two _ (sym (at-byte-at .byte-at .ensures) ∙ at-if1 .if1 .left) _ (at-digits-at .digits-at .ensures .0)
+          (λ h. at-if2 .if2 .left (at-byte-at2 .byte-at2 .ensures ∙ h)) (sym (at-byte-at2 .byte-at2 .ensures) ∙ at-if3 .if3 .left) _
+          (at-digits-at2 .digits-at2 .ensures .0) (sym (at-byte-at3 .byte-at3 .ensures) ∙ at-if4 .if4 .left) _ (c .both .ensures),
+      omega (
+        arith,
+        head-in (at-start .args .s .now) (1 + (at-digits-at .digits-at .result .count + 1) + at-digits-at2 .digits-at2 .result .count) 41
+            (sym (at-byte-at3 .byte-at3 .ensures) ∙ at-if4 .if4 .left) (lit< tt),
+      ),
+    )
 
 pub map-of-spec : {M : Type 1} → statement M
 map-of-spec =

@@ -10,7 +10,8 @@ use Rattle.entry.proofs.read_fields.Tie as tie
 
 -- what the code found, behind the third field
 parted : (c : tie.After-field-at3)
-    → let a = c .before .before .before .before .before .before .before .before .before .args in Parted (a .s .now) (a .f) (c .before .before .before .before .before .before .before .field-at .result) (c .before .before .field-at2 .result) (c .field-at3 .result)
+    → let a = c .before .before .before .before .before .before .before .before .before .args in Parted (a .s .now) (a .f)
+    (c .before .before .before .before .before .before .before .field-at .result) (c .before .before .field-at2 .result) (c .field-at3 .result)
 parted c =
     record {
       front = c .before .before .before .before .before .before .before .before .before .pre .0;
@@ -22,14 +23,21 @@ parted c =
 
 -- the test for 7
 well : (c : tie.After-both5)
-    → let d = c .before .before .before .before .before .before .before .before in c .both5 .result ≡ Well (d .before .before .before .before .before .before .before .before .before .args .s .now) (d .before .before .before .before .before .before .before .before .before .args .f) (d .before .before .before .before .before .before .before .field-at .result) (d .before .before .field-at2 .result) (d .field-at3 .result)
+    → let d = c .before .before .before .before .before .before .before .before in c .both5 .result ≡ Well
+    (d .before .before .before .before .before .before .before .before .before .args .s .now)
+    (d .before .before .before .before .before .before .before .before .before .args .f)
+    (d .before .before .before .before .before .before .before .field-at .result) (d .before .before .field-at2 .result) (d .field-at3 .result)
 well c =
-    well-chain _ _ _ _ _ (c .before .before .before .before .before .both .ensures) (c .before .before .before .before .both2 .ensures) (c .before .before .before .both3 .ensures) (c .before .before .both4 .ensures) (c .before .ends-at .ensures) (c .both5 .ensures)
+    well-chain _ _ _ _ _ (c .before .before .before .before .before .both .ensures) (c .before .before .before .before .both2 .ensures)
+    (c .before .before .before .both3 .ensures) (c .before .before .both4 .ensures) (c .before .ends-at .ensures) (c .both5 .ensures)
 
 -- and for 9
 fit : (c : tie.After-both7)
-    → let d = c .before .before .before .before .before .before .before .before .before .before .before .before .before .before .before .before in c .both7 .result ≡ Fit (d .before .before .before .before .before .before .before .field-at .result .size) (d .before .before .field-at2 .result .size) (d .field-at3 .result .size)
-fit c = within-chain _ _ _ (c .before .before .before .before .is-within .ensures) (c .before .before .before .is-within2 .ensures) (c .before .is-within3 .ensures) (c .before .before .both6 .ensures) (c .both7 .ensures)
+    → let d = c .before .before .before .before .before .before .before .before .before .before .before .before .before .before .before .before in
+    c .both7 .result ≡ Fit (d .before .before .before .before .before .before .before .field-at .result .size) (d .before .before .field-at2 .result .size)
+    (d .field-at3 .result .size)
+fit c = within-chain _ _ _ (c .before .before .before .before .is-within .ensures) (c .before .before .before .is-within2 .ensures)
+    (c .before .is-within3 .ensures) (c .before .before .both6 .ensures) (c .both7 .ensures)
 
 field-at-requires : tie.Need-field-at-requires
 field-at-requires c κs = search needs
@@ -81,14 +89,21 @@ refuse-requires c κs = search needs
 
 returns-2 : tie.Need-returns-2
 returns-2 c =
-    c .refuse .ensures ∙ code-wrong _ _ _ _ _ _ (parted (c .before .before .before .before .before .before .before .before .before .before)) (sym (well (c .before .before)) ∙ not-true _ (c .before .if2 .taken))
+    let at-if2 = c .before in
+    let at-both5 = at-if2 .before in
+    let at-field-at3 = at-both5 .before .before .before .before .before .before .before .before in
+    c .refuse .ensures ∙ code-wrong _ _ _ _ _ _ (parted (at-field-at3)) (sym (well (at-both5)) ∙ not-true _ (at-if2 .if2 .taken))
 
 refuse-requires-2 : tie.Need-refuse-requires-2
 refuse-requires-2 c κs = search needs
 
 returns-3 : tie.Need-returns-3
 returns-3 c =
-    c .refuse2 .ensures ∙ code-index _ _ _ _ _ _ (parted (c .before .before .before .before .before .before .before .before .before .before .before .before)) (sym (well (c .before .before .before .before)) ∙ not-false _ (c .before .before .before .if2 .left)) (c .before .if3 .taken)
+    let at-if3 = c .before in
+    let at-if2 = at-if3 .before .before in
+    let at-both5 = at-if2 .before in
+    let at-field-at3 = at-both5 .before .before .before .before .before .before .before .before in
+    c .refuse2 .ensures ∙ code-index _ _ _ _ _ _ (parted (at-field-at3)) (sym (well (at-both5)) ∙ not-false _ (at-if2 .if2 .left)) (at-if3 .if3 .taken)
 
 is-within-requires : tie.Need-is-within-requires
 is-within-requires c κs = search needs
@@ -110,8 +125,15 @@ refuse-requires-3 c κs = search needs
 
 returns-4 : tie.Need-returns-4
 returns-4 c =
+    let at-if4 = c .before in
+    let at-both7 = at-if4 .before in
+    let at-if3 = at-both7 .before .before .before .before .before in
+    let at-if2 = at-if3 .before .before in
+    let at-both5 = at-if2 .before in
+    let at-field-at3 = at-both5 .before .before .before .before .before .before .before .before in
     c .refuse3 .ensures
-    ∙ code-limits _ _ _ _ _ _ (parted (c .before .before .before .before .before .before .before .before .before .before .before .before .before .before .before .before .before .before)) (sym (well (c .before .before .before .before .before .before .before .before .before .before)) ∙ not-false _ (c .before .before .before .before .before .before .before .before .before .if2 .left)) (c .before .before .before .before .before .before .before .if3 .left) (sym (fit (c .before .before)) ∙ not-true _ (c .before .if4 .taken))
+    ∙ code-limits _ _ _ _ _ _ (parted (at-field-at3)) (sym (well (at-both5)) ∙ not-false _ (at-if2 .if2 .left)) (at-if3 .if3 .left)
+    (sym (fit (at-both7)) ∙ not-true _ (at-if4 .if4 .taken))
 
 index-of-requires : tie.Need-index-of-requires
 index-of-requires c κs = search needs
@@ -120,10 +142,14 @@ advance-of-requires : tie.Need-advance-of-requires
 advance-of-requires c κs = search needs
 
 offset-of-requires : tie.Need-offset-of-requires
-offset-of-requires c κs = rw (c .before .before .before .before .before .before .before .before .before .before .before .before .before .before .before .before .before .before .before .before .before .field-at2 .ensures .0) (field-small _)
+offset-of-requires c κs =
+    let at-field-at2 = c .before .before .before .before .before .before .before .before .before .before .before .before .before .before .before .before .before .before .before .before .before in
+    rw (at-field-at2 .field-at2 .ensures .0) (field-small _)
 
 offset-of-requires-2 : tie.Need-offset-of-requires-2
-offset-of-requires-2 c κs = rw (c .before .before .before .before .before .before .before .before .before .before .before .before .before .before .before .before .before .before .before .before .field-at3 .ensures .0) (field-small _)
+offset-of-requires-2 c κs =
+    let at-struct-known3 = c .before .before .before .before .before .before .before .before .before .before .before .before .before .before .before .before .before .before .before .before in
+    rw (at-struct-known3 .field-at3 .ensures .0) (field-small _)
 
 rounded-of-requires : tie.Need-rounded-of-requires
 rounded-of-requires c κs = search needs
@@ -142,9 +168,23 @@ add-rounded-2 c = search needs
 
 returns-5 : tie.Need-returns-5
 returns-5 c =
-    code-read _ _ _ _ _ _ (parted (c .before .before .before .before .before .before .before .before .before .before .before .before .before .before .before .before .before .before .before .before .before .before .before .before)) (sym (well (c .before .before .before .before .before .before .before .before .before .before .before .before .before .before .before .before)) ∙ not-false _ (c .before .before .before .before .before .before .before .before .before .before .before .before .before .before .before .if2 .left)) (c .before .before .before .before .before .before .before .before .before .before .before .before .before .if3 .left) (sym (fit (c .before .before .before .before .before .before .before .before)) ∙ not-false _ (c .before .before .before .before .before .before .before .if4 .left)) _ (c .before .before .before .before .before .before .index-of .ensures) _ (c .before .before .before .before .before .advance-of .ensures)
-    _ _ (toZ-ofZ {w = w32} (sfits-of (c .before .before .before .before .offset-of .ok)) ∙ c .before .before .before .before .offset-of .ensures) (toZ-ofZ {w = w32} (sfits-of (c .before .before .before .offset-of2 .ok)) ∙ c .before .before .before .offset-of2 .ensures)
-    _ (rw (c .before .before .rounded-of .ensures .0, c .before .rounded-of2 .ensures .0, c .rounded-of3 .ensures .0))
+    let at-rounded-of2 = c .before in
+    let at-rounded-of = at-rounded-of2 .before in
+    let at-offset-of2 = at-rounded-of .before in
+    let at-offset-of = at-offset-of2 .before in
+    let at-advance-of = at-offset-of .before in
+    let at-index-of = at-advance-of .before in
+    let at-if4 = at-index-of .before in
+    let at-both7 = at-if4 .before in
+    let at-if3 = at-both7 .before .before .before .before .before in
+    let at-if2 = at-if3 .before .before in
+    let at-both5 = at-if2 .before in
+    let at-field-at3 = at-both5 .before .before .before .before .before .before .before .before in
+    code-read _ _ _ _ _ _ (parted (at-field-at3)) (sym (well (at-both5)) ∙ not-false _ (at-if2 .if2 .left)) (at-if3 .if3 .left)
+    (sym (fit (at-both7)) ∙ not-false _ (at-if4 .if4 .left)) _ (at-index-of .index-of .ensures) _ (at-advance-of .advance-of .ensures)
+    _ _ (toZ-ofZ {w = w32} (sfits-of (at-offset-of .offset-of .ok)) ∙ at-offset-of .offset-of .ensures)
+    (toZ-ofZ {w = w32} (sfits-of (at-offset-of2 .offset-of2 .ok)) ∙ at-offset-of2 .offset-of2 .ensures)
+    _ (rw (at-rounded-of .rounded-of .ensures .0, at-rounded-of2 .rounded-of2 .ensures .0, c .rounded-of3 .ensures .0))
 
 pub read-fields-spec : {M : Type 1} → statement M
 read-fields-spec =

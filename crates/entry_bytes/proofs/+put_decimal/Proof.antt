@@ -64,7 +64,8 @@ put-decimal-returns : (t : ℕ) → put-decimal-lts.Need-returns (
   put-decimal.Post,
 ) (put-decimal-at t) put-decimal.Post
 put-decimal-returns t c =
-    let p = put-as (decimal-small (c .before .before .before .before .before .before .before .args .n) (c .before .before .before .before .before .if1 .taken)) (put-digit (c .before .before .before .digit .ensures) (c .before .before .put-byte .ensures .0)) in
+    let p = put-as (decimal-small (c .before .before .before .before .before .before .before .args .n) (c .before .before .before .before .before .if1 .taken))
+    (put-digit (c .before .before .before .digit .ensures) (c .before .before .put-byte .ensures .0)) in
     (p, omega arith)
 
 put-decimal-put-decimal-requires : (t : ℕ) → put-decimal-lts.Need-put-decimal-requires (
@@ -116,8 +117,18 @@ put-decimal-returns-2 : (t : ℕ) → put-decimal-lts.Need-returns-2 (
   put-decimal.Post,
 ) (put-decimal-at t) put-decimal.Post
 put-decimal-returns-2 t c =
-    let p = put-as (decimal-step (c .before .before .before .before .before .before .before .before .before .before .before .args .n) (c .before .before .before .before .before .before .before .before .before .if1 .left)) (then (c .before .before .before .before .before .before .before .put-decimal .ensures .0) (put-digit (c .before .before .before .digit2 .ensures) (c .before .before .put-byte2 .ensures .0))) in
-    (p, omega (arith, p .behind, decimal-short (c .before .before .before .before .before .before .before .before .before .before .before .args .n) (c .before .before .before .before .before .before .before .before .before .before .before .fits .n .fits)))
+    let p = put-as (decimal-step (c .before .before .before .before .before .before .before .before .before .before .before .args .n)
+    (c .before .before .before .before .before .before .before .before .before .if1 .left))
+    (then (c .before .before .before .before .before .before .before .put-decimal .ensures .0)
+    (put-digit (c .before .before .before .digit2 .ensures) (c .before .before .put-byte2 .ensures .0))) in (
+      p,
+      omega (
+        arith,
+        p .behind,
+        decimal-short (c .before .before .before .before .before .before .before .before .before .before .before .args .n)
+            (c .before .before .before .before .before .before .before .before .before .before .before .fits .n .fits),
+      ),
+    )
 
 pub +put-decimal-spec : {M : Type 1} → statement M
 +put-decimal-spec = close μ-put-decimal λ t. put-decimal-lts.spec (

@@ -27,13 +27,15 @@ same-length c = search needs
 
 returns-2 : tie.Need-returns-2
 returns-2 c =
-    let at-put-advance = c .before .before .before .before .before .before in
+    let at-put-uv = c .before .before in
+    let at-put-advance = at-put-uv .before .before .before .before in
     let at-put-byte = at-put-advance .before .before .before .before in
     let at-if1 = at-put-byte .before .before in
     let at-blank-auv = at-if1 .before in
-    let start = at-blank-auv .before .before in (
-      put-as (fields-auv (signed (start .args .a)) (signed (start .args .u)) (signed (start .args .v)) (at-blank-auv .blank-auv .ensures) (at-if1 .if1 .left))
-          (then (at-put-byte .put-byte .ensures .0) (then (at-put-advance .put-advance .ensures .0) (c .before .before .put-uv .ensures .0))),
+    let at-start = at-blank-auv .before .before in (
+      put-as (fields-auv (signed (at-start .args .a)) (signed (at-start .args .u)) (signed (at-start .args .v)) (at-blank-auv .blank-auv .ensures)
+          (at-if1 .if1 .left))
+          (then (at-put-byte .put-byte .ensures .0) (then (at-put-advance .put-advance .ensures .0) (at-put-uv .put-uv .ensures .0))),
       omega arith,
     )
 

@@ -20,7 +20,13 @@ same-length : tie.Need-same-length
 same-length c = search needs
 
 returns-2 : tie.Need-returns-2
-returns-2 c = (put-as (choose-false _ _ _ (ne-eqb _ _ (c .before .before .before .before .before .before .before .before .if1 .left))) (then (c .before .before .before .before .before .before .put-byte .ensures .0) (c .before .before .put-decimal .ensures .0)), omega arith)
+returns-2 c =
+    let at-put-decimal = c .before .before in
+    let at-put-byte = at-put-decimal .before .before .before .before in
+    let at-if1 = at-put-byte .before .before in (
+      put-as (choose-false _ _ _ (ne-eqb _ _ (at-if1 .if1 .left))) (then (at-put-byte .put-byte .ensures .0) (at-put-decimal .put-decimal .ensures .0)),
+      omega arith,
+    )
 
 pub put-colon-spec : {M : Type 1} → statement M
 put-colon-spec =

@@ -18,11 +18,12 @@ same-length c = search needs
 
 returns : tie.Need-returns
 returns c =
-    let at-put-index = c .before .before .before .before .before .before in
-    let start = at-put-index .before .before .before in
-    let a = start .args in (
+    let at-put-auv = c .before .before in
+    let at-put-index = at-put-auv .before .before .before .before in
+    let at-start = at-put-index .before .before .before in
+    let a = at-start .args in (
       put-as (entry-is (a .a) (a .b) (signed (a .index)) (signed (a .advance)) (signed (a .u)) (signed (a .v)))
-          (then (at-put-index .put-index .ensures .0) (c .before .before .put-auv .ensures .0)),
+          (then (at-put-index .put-index .ensures .0) (at-put-auv .put-auv .ensures .0)),
       omega arith,
     )
 

@@ -16,7 +16,11 @@ same-length : tie.Need-same-length
 same-length c = search needs
 
 returns : tie.Need-returns
-returns c = (put-as (frac-one (c .before .before .before .before .before .before .before .args .f) (c .if1 .taken)) (put-digit (c .before .before .before .before .digit .ensures) (c .before .before .before .put-byte .ensures .0)), omega arith)
+returns c =
+    let at-put-byte = c .before .before .before in
+    let at-digit = at-put-byte .before in
+    let at-start = at-digit .before .before .before in
+    (put-as (frac-one (at-start .args .f) (c .if1 .taken)) (put-digit (at-digit .digit .ensures) (at-put-byte .put-byte .ensures .0)), omega arith)
 
 digit-requires-2 : tie.Need-digit-requires-2
 digit-requires-2 c κs = search needs
@@ -28,7 +32,18 @@ same-length-2 : tie.Need-same-length-2
 same-length-2 c = search needs
 
 returns-2 : tie.Need-returns-2
-returns-2 c = (put-as (frac-two (c .before .before .before .before .before .before .before .before .before .before .before .before .before .args .f) (c .before .before .before .before .before .before .if1 .left) (c .if2 .taken)) (then (put-digit (c .before .before .before .before .before .before .before .before .before .before .digit .ensures) (c .before .before .before .before .before .before .before .before .before .put-byte .ensures .0)) (put-digit (c .before .before .before .before .digit2 .ensures) (c .before .before .before .put-byte2 .ensures .0))), omega arith)
+returns-2 c =
+    let at-put-byte2 = c .before .before .before in
+    let at-digit2 = at-put-byte2 .before in
+    let at-if1 = at-digit2 .before .before in
+    let at-put-byte = at-if1 .before .before .before in
+    let at-digit = at-put-byte .before in
+    let at-start = at-digit .before .before .before in (
+      put-as (frac-two (at-start .args .f) (at-if1 .if1 .left) (c .if2 .taken))
+          (then (put-digit (at-digit .digit .ensures) (at-put-byte .put-byte .ensures .0))
+          (put-digit (at-digit2 .digit2 .ensures) (at-put-byte2 .put-byte2 .ensures .0))),
+      omega arith,
+    )
 
 digit-requires-3 : tie.Need-digit-requires-3
 digit-requires-3 c κs = search needs
@@ -40,7 +55,22 @@ same-length-3 : tie.Need-same-length-3
 same-length-3 c = search needs
 
 returns-3 : tie.Need-returns-3
-returns-3 c = (put-as (frac-three (c .before .before .before .before .before .before .before .before .before .before .before .before .before .before .before .before .before .before .args .f) (c .before .before .before .before .before .before .before .before .before .before .before .if1 .left) (c .before .before .before .before .before .if2 .left)) (then (then (put-digit (c .before .before .before .before .before .before .before .before .before .before .before .before .before .before .before .digit .ensures) (c .before .before .before .before .before .before .before .before .before .before .before .before .before .before .put-byte .ensures .0)) (put-digit (c .before .before .before .before .before .before .before .before .before .digit2 .ensures) (c .before .before .before .before .before .before .before .before .put-byte2 .ensures .0))) (put-digit (c .before .before .before .digit3 .ensures) (c .before .before .put-byte3 .ensures .0))), omega arith)
+returns-3 c =
+    let at-put-byte3 = c .before .before in
+    let at-digit3 = at-put-byte3 .before in
+    let at-if2 = at-digit3 .before .before in
+    let at-put-byte2 = at-if2 .before .before .before in
+    let at-digit2 = at-put-byte2 .before in
+    let at-if1 = at-digit2 .before .before in
+    let at-put-byte = at-if1 .before .before .before in
+    let at-digit = at-put-byte .before in
+    let at-start = at-digit .before .before .before in (
+      put-as (frac-three (at-start .args .f) (at-if1 .if1 .left) (at-if2 .if2 .left))
+          (then (then (put-digit (at-digit .digit .ensures) (at-put-byte .put-byte .ensures .0))
+          (put-digit (at-digit2 .digit2 .ensures) (at-put-byte2 .put-byte2 .ensures .0)))
+          (put-digit (at-digit3 .digit3 .ensures) (at-put-byte3 .put-byte3 .ensures .0))),
+      omega arith,
+    )
 
 pub put-fraction-spec : {M : Type 1} → statement M
 put-fraction-spec =

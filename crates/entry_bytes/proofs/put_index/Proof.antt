@@ -24,13 +24,15 @@ same-length c = search needs
 
 returns : tie.Need-returns
 returns c =
-    let at-size = c .before .before .before in
+    let at-put-decimal = c .before .before in
+    let at-size = at-put-decimal .before in
     let at-put-map = at-size .before .before .before .before in
     let at-if1 = at-put-map .before .before in
     let at-is-natural = at-if1 .before in
-    let start = at-is-natural .before .before in (
-      put-as (chosen-some (index-is (start .args .a) (start .args .b)) (signed (start .args .n)) (at-is-natural .is-natural .ensures) (at-size .size .ensures)
-          (at-if1 .if1 .taken)) (then (at-put-map .put-map .ensures .0) (c .before .before .put-decimal .ensures .0)),
+    let at-start = at-is-natural .before .before in (
+      put-as (chosen-some (index-is (at-start .args .a) (at-start .args .b)) (signed (at-start .args .n)) (at-is-natural .is-natural .ensures)
+          (at-size .size .ensures)
+          (at-if1 .if1 .taken)) (then (at-put-map .put-map .ensures .0) (at-put-decimal .put-decimal .ensures .0)),
       omega arith,
     )
 

@@ -10,7 +10,10 @@ both-requires : tie.Need-both-requires
 both-requires c κs = search needs
 
 returns : tie.Need-returns
-returns c = (put-as (map-none (c .before .before .before .args .a) (c .before .before .before .args .b) (c .before .both .ensures) (c .if1 .taken)) none, omega arith)
+returns c =
+    let at-both = c .before in
+    let at-start = at-both .before .before in
+    (put-as (map-none (at-start .args .a) (at-start .args .b) (at-both .both .ensures) (c .if1 .taken)) none, omega arith)
 
 put-byte-requires : tie.Need-put-byte-requires
 put-byte-requires c κs = search needs
@@ -28,7 +31,19 @@ same-length : tie.Need-same-length
 same-length c = search needs
 
 returns-2 : tie.Need-returns-2
-returns-2 c = (put-as (map-some (c .before .before .before .before .before .before .before .before .before .before .before .before .before .before .before .before .before .before .before .args .a) (c .before .before .before .before .before .before .before .before .before .before .before .before .before .before .before .before .before .before .before .args .b) (c .before .before .before .before .before .before .before .before .before .before .before .before .before .before .before .before .before .both .ensures) (c .before .before .before .before .before .before .before .before .before .before .before .before .before .before .before .before .if1 .left)) (then (c .before .before .before .before .before .before .before .before .before .before .before .before .before .before .put-byte .ensures .0) (then (then (c .before .before .before .before .before .before .before .before .before .before .put-decimal .ensures .0) (c .before .before .before .before .before .before .put-colon .ensures .0)) (c .before .before .put-byte2 .ensures .0))), omega arith)
+returns-2 c =
+    let at-put-byte2 = c .before .before in
+    let at-put-colon = at-put-byte2 .before .before .before .before in
+    let at-put-decimal = at-put-colon .before .before .before .before in
+    let at-put-byte = at-put-decimal .before .before .before .before in
+    let at-if1 = at-put-byte .before .before in
+    let at-both = at-if1 .before in
+    let at-start = at-both .before .before in (
+      put-as (map-some (at-start .args .a) (at-start .args .b) (at-both .both .ensures) (at-if1 .if1 .left))
+          (then (at-put-byte .put-byte .ensures .0) (then (then (at-put-decimal .put-decimal .ensures .0) (at-put-colon .put-colon .ensures .0))
+          (at-put-byte2 .put-byte2 .ensures .0))),
+      omega arith,
+    )
 
 pub put-map-spec : {M : Type 1} → statement M
 put-map-spec =

@@ -24,13 +24,14 @@ same-length c = search needs
 
 returns-2 : tie.Need-returns-2
 returns-2 c =
-    let at-if2 = c .before .before .before .before in
+    let at-put-value = c .before .before in
+    let at-if2 = at-put-value .before .before in
     let at-is-natural = at-if2 .before in
     let at-if1 = at-is-natural .before in
     let at-size = at-if1 .before in
-    let start = at-size .before .before in (
-      put-as (offset-plus (signed (start .args .n)) (at-size .size .ensures) (at-if1 .if1 .left) (at-is-natural .is-natural .ensures) (at-if2 .if2 .taken))
-          (c .before .before .put-value .ensures .0),
+    let at-start = at-size .before .before in (
+      put-as (offset-plus (signed (at-start .args .n)) (at-size .size .ensures) (at-if1 .if1 .left) (at-is-natural .is-natural .ensures) (at-if2 .if2 .taken))
+          (at-put-value .put-value .ensures .0),
       omega arith,
     )
 
@@ -45,14 +46,15 @@ same-length-2 c = search needs
 
 returns-3 : tie.Need-returns-3
 returns-3 c =
-    let at-put-byte = c .before .before .before .before .before .before in
+    let at-put-value2 = c .before .before in
+    let at-put-byte = at-put-value2 .before .before .before .before in
     let at-if2 = at-put-byte .before .before in
     let at-is-natural = at-if2 .before in
     let at-if1 = at-is-natural .before in
     let at-size = at-if1 .before in
-    let start = at-size .before .before in (
-      put-as (offset-minus (signed (start .args .n)) (at-size .size .ensures) (at-if1 .if1 .left) (at-is-natural .is-natural .ensures) (at-if2 .if2 .left))
-          (then (at-put-byte .put-byte .ensures .0) (c .before .before .put-value2 .ensures .0)),
+    let at-start = at-size .before .before in (
+      put-as (offset-minus (signed (at-start .args .n)) (at-size .size .ensures) (at-if1 .if1 .left) (at-is-natural .is-natural .ensures) (at-if2 .if2 .left))
+          (then (at-put-byte .put-byte .ensures .0) (at-put-value2 .put-value2 .ensures .0)),
       omega arith,
     )
 

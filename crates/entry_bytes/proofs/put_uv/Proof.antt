@@ -27,13 +27,14 @@ same-length c = search needs
 
 returns-2 : tie.Need-returns-2
 returns-2 c =
-    let at-put-offset = c .before .before .before .before .before .before in
+    let at-put-v = c .before .before in
+    let at-put-offset = at-put-v .before .before .before .before in
     let at-put-byte = at-put-offset .before .before .before .before in
     let at-if1 = at-put-byte .before .before in
     let at-blank-uv = at-if1 .before in
-    let start = at-blank-uv .before .before in (
-      put-as (fields-uv (signed (start .args .u)) (signed (start .args .v)) (at-blank-uv .blank-uv .ensures) (at-if1 .if1 .left))
-          (then (at-put-byte .put-byte .ensures .0) (then (at-put-offset .put-offset .ensures .0) (c .before .before .put-v .ensures .0))),
+    let at-start = at-blank-uv .before .before in (
+      put-as (fields-uv (signed (at-start .args .u)) (signed (at-start .args .v)) (at-blank-uv .blank-uv .ensures) (at-if1 .if1 .left))
+          (then (at-put-byte .put-byte .ensures .0) (then (at-put-offset .put-offset .ensures .0) (at-put-v .put-v .ensures .0))),
       omega arith,
     )
 

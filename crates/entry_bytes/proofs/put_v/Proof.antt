@@ -24,12 +24,13 @@ same-length c = search needs
 
 returns-2 : tie.Need-returns-2
 returns-2 c =
-    let at-put-byte = c .before .before .before .before .before .before in
+    let at-put-offset = c .before .before in
+    let at-put-byte = at-put-offset .before .before .before .before in
     let at-if1 = at-put-byte .before .before in
     let at-blank-v = at-if1 .before in
-    let start = at-blank-v .before .before in (
-      put-as (fields-v (signed (start .args .v)) (at-blank-v .blank-v .ensures) (at-if1 .if1 .left))
-          (then (at-put-byte .put-byte .ensures .0) (c .before .before .put-offset .ensures .0)),
+    let at-start = at-blank-v .before .before in (
+      put-as (fields-v (signed (at-start .args .v)) (at-blank-v .blank-v .ensures) (at-if1 .if1 .left))
+          (then (at-put-byte .put-byte .ensures .0) (at-put-offset .put-offset .ensures .0)),
       omega arith,
     )
 

@@ -13,7 +13,11 @@ same-length : tie.Need-same-length
 same-length c = search needs
 
 returns : tie.Need-returns
-returns c = (put-as (value-whole (c .before .before .before .before .before .before .args .n) (c .before .before .before .before .if1 .taken)) (c .before .before .put-decimal .ensures .0), omega arith)
+returns c =
+    let at-put-decimal = c .before .before in
+    let at-if1 = at-put-decimal .before .before in
+    let at-start = at-if1 .before .before in
+    (put-as (value-whole (at-start .args .n) (at-if1 .if1 .taken)) (at-put-decimal .put-decimal .ensures .0), omega arith)
 
 put-whole-requires : tie.Need-put-whole-requires
 put-whole-requires c κs = search needs
@@ -28,7 +32,16 @@ same-length-2 : tie.Need-same-length-2
 same-length-2 c = search needs
 
 returns-2 : tie.Need-returns-2
-returns-2 c = (put-as (value-point (c .before .before .before .before .before .before .before .before .before .before .before .before .before .before .args .n) (c .before .before .before .before .before .before .before .before .before .before .before .before .if1 .left)) (then (c .before .before .before .before .before .before .before .before .before .before .put-whole .ensures .0) (then (c .before .before .before .before .before .before .put-byte .ensures .0) (c .before .before .put-fraction .ensures .0))), omega arith)
+returns-2 c =
+    let at-put-fraction = c .before .before in
+    let at-put-byte = at-put-fraction .before .before .before .before in
+    let at-put-whole = at-put-byte .before .before .before .before in
+    let at-if1 = at-put-whole .before .before in
+    let at-start = at-if1 .before .before in (
+      put-as (value-point (at-start .args .n) (at-if1 .if1 .left))
+          (then (at-put-whole .put-whole .ensures .0) (then (at-put-byte .put-byte .ensures .0) (at-put-fraction .put-fraction .ensures .0))),
+      omega arith,
+    )
 
 pub put-value-spec : {M : Type 1} → statement M
 put-value-spec =

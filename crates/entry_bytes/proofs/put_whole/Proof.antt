@@ -17,7 +17,10 @@ same-length : tie.Need-same-length
 same-length c = search needs
 
 returns-2 : tie.Need-returns-2
-returns-2 c = (put-as (choose-false _ _ _ (ne-eqb _ _ (c .before .before .before .before .if1 .left))) (c .before .before .put-decimal .ensures .0), omega arith)
+returns-2 c =
+    let at-put-decimal = c .before .before in
+    let at-if1 = at-put-decimal .before .before in
+    (put-as (choose-false _ _ _ (ne-eqb _ _ (at-if1 .if1 .left))) (at-put-decimal .put-decimal .ensures .0), omega arith)
 
 pub put-whole-spec : {M : Type 1} → statement M
 put-whole-spec = tie.close (tie.spec returns put-decimal-requires same-length returns-2)

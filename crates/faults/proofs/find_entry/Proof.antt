@@ -27,7 +27,13 @@ part-of-requires : tie.Need-part-of-requires Inv-loop μ-loop
 part-of-requires c κs = search needs
 
 returns : tie.Need-returns Inv-loop μ-loop
-returns c = c .part-of .ensures ∙ from-here _ _ _ (c .before .before .before .loop-test .taken) (c .before .before .entry-end .ensures .0) _ (c .before .if1 .taken) ∙ sym (c .before .before .before .before .loop .inv)
+returns c =
+    let at-if1 = c .before in
+    let at-entry-end = at-if1 .before in
+    let at-loop-test = at-entry-end .before in
+    let at-loop = at-loop-test .before in
+    c .part-of .ensures ∙ from-here _ _ _ (at-loop-test .loop-test .taken) (at-entry-end .entry-end .ensures .0) _ (at-if1 .if1 .taken)
+    ∙ sym (at-loop .loop .inv)
 
 add-place : tie.Need-add-place Inv-loop μ-loop
 add-place c = search needs

@@ -21,9 +21,13 @@ part-of-requires c κs =
 
 returns : tie.Need-returns
 returns c =
-    let a = c .before .before .before .before .before .before in
-    let t = c .before .before .both .ensures ∙ ap (λ (b : Bool). b && ltb (a .args .place) (length (a .args .text .now))) (c .before .before .before .is-of-text .ensures) in
-    c .part-of .ensures ∙ part-text _ _ _ _ _ t (c .before .if1 .taken)
+    let at-if1 = c .before in
+    let at-both = at-if1 .before in
+    let at-is-of-text = at-both .before in
+    let at-start = at-is-of-text .before .before .before in
+    let t = at-both .both .ensures ∙ ap (λ (b : Bool). b && ltb (at-start .args .place) (length (at-start .args .text .now)))
+    (at-is-of-text .is-of-text .ensures) in
+    c .part-of .ensures ∙ part-text _ _ _ _ _ t (at-if1 .if1 .taken)
 
 is-of-entry-requires : tie.Need-is-of-entry-requires
 is-of-entry-requires c κs = search needs
@@ -33,18 +37,30 @@ find-entry-requires c κs = search needs
 
 returns-2 : tie.Need-returns-2
 returns-2 c =
-    let a = c .before .before .before .before .before .before .before .before in
-    let t = c .before .before .before .before .both .ensures ∙ ap (λ (b : Bool). b && ltb (a .args .place) (length (a .args .text .now))) (c .before .before .before .before .before .is-of-text .ensures) in
-    c .find-entry .ensures ∙ part-entry _ _ _ _ _ t (c .before .before .before .if1 .left) (sym (c .before .before .is-of-entry .ensures) ∙ c .before .if2 .taken)
+    let at-if2 = c .before in
+    let at-is-of-entry = at-if2 .before in
+    let at-if1 = at-is-of-entry .before in
+    let at-both = at-if1 .before in
+    let at-is-of-text = at-both .before in
+    let at-start = at-is-of-text .before .before .before in
+    let t = at-both .both .ensures ∙ ap (λ (b : Bool). b && ltb (at-start .args .place) (length (at-start .args .text .now)))
+    (at-is-of-text .is-of-text .ensures) in
+    c .find-entry .ensures ∙ part-entry _ _ _ _ _ t (at-if1 .if1 .left) (sym (at-is-of-entry .is-of-entry .ensures) ∙ at-if2 .if2 .taken)
 
 part-of-requires-2 : tie.Need-part-of-requires-2
 part-of-requires-2 c κs = search needs
 
 returns-3 : tie.Need-returns-3
 returns-3 c =
-    let a = c .before .before .before .before .before .before .before .before in
-    let t = c .before .before .before .before .both .ensures ∙ ap (λ (b : Bool). b && ltb (a .args .place) (length (a .args .text .now))) (c .before .before .before .before .before .is-of-text .ensures) in
-    c .part-of2 .ensures ∙ part-none _ _ _ _ _ t (c .before .before .before .if1 .left) (sym (c .before .before .is-of-entry .ensures) ∙ c .before .if2 .left)
+    let at-if2 = c .before in
+    let at-is-of-entry = at-if2 .before in
+    let at-if1 = at-is-of-entry .before in
+    let at-both = at-if1 .before in
+    let at-is-of-text = at-both .before in
+    let at-start = at-is-of-text .before .before .before in
+    let t = at-both .both .ensures ∙ ap (λ (b : Bool). b && ltb (at-start .args .place) (length (at-start .args .text .now)))
+    (at-is-of-text .is-of-text .ensures) in
+    c .part-of2 .ensures ∙ part-none _ _ _ _ _ t (at-if1 .if1 .left) (sym (at-is-of-entry .is-of-entry .ensures) ∙ at-if2 .if2 .left)
 
 pub find-part-spec : {M : Type 1} → statement M
 find-part-spec =

@@ -16,7 +16,10 @@ enum-known-r-2 : tie.Need-enum-known-r-2
 enum-known-r-2 c = search needs
 
 cast-t5 : tie.Need-cast-t5
-cast-t5 c = omega (arith, subst (λ (a : Filling). FilledFits (fillingOutcome a)) (c .before .before .r2 .given .1) (c .before .before .before .before .pre))
+cast-t5 c =
+    let at-r2 = c .before .before in
+    let at-start = at-r2 .before .before in
+    omega (arith, subst (λ (a : Filling). FilledFits (fillingOutcome a)) (at-r2 .r2 .given .1) (at-start .pre))
 
 returns : tie.Need-returns
 returns c = sym (ap (λ (a : Filling). filledAnswer (fillingOutcome a)) (c .before .r .given .1))

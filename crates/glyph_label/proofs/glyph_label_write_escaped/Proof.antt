@@ -11,7 +11,9 @@ write-as-requires : tie.Need-write-as-requires
 write-as-requires c κs = search needs
 
 writing-answer-requires : tie.Need-writing-answer-requires
-writing-answer-requires c κs = subst WritingFits (sym (c .before .before .before .before .write-as .ensures .0)) (writing-fits _ _ _)
+writing-answer-requires c κs =
+    let at-write-as = c .before .before .before .before in
+    subst WritingFits (sym (at-write-as .write-as .ensures .0)) (writing-fits _ _ _)
 
 same-length : tie.Need-same-length
 same-length c = search needs
@@ -21,7 +23,8 @@ same-length-2 c = search needs
 
 returns : tie.Need-returns
 returns c =
-    let w = c .before .before .before .before .before .write-as .ensures in
+    let at-write-as = c .before .before .before .before .before in
+    let w = at-write-as .write-as .ensures in
     record { answer = c .writing-answer .ensures ∙ ap writingAnswer (w .0); text = w .1 .0; indices = w .1 .1 }
 
 pub glyph-label-write-escaped-spec : {M : Type 1} → statement M

@@ -16,25 +16,42 @@ cast-t6 : tie.Need-cast-t6
 cast-t6 c = omega (arith, subst (λ (a : Reading). ReadingFits (readingOutcome a)) (c .before .before .r .given .1) (c .before .before .before .before .pre .0))
 
 cast-t7 : tie.Need-cast-t7
-cast-t7 c = omega (arith, subst (λ (a : Reading). ReadingFits (readingOutcome a)) (c .before .before .before .r .given .1) (c .before .before .before .before .before .pre .0))
+cast-t7 c =
+    let at-r = c .before .before .before in
+    let at-start = at-r .before .before in
+    omega (arith, subst (λ (a : Reading). ReadingFits (readingOutcome a)) (at-r .r .given .1) (at-start .pre .0))
 
 cast-t8 : tie.Need-cast-t8
-cast-t8 c = omega (arith, subst (λ (a : Reading). ReadingFits (readingOutcome a)) (c .before .before .before .before .r .given .1) (c .before .before .before .before .before .before .pre .0))
+cast-t8 c =
+    let at-r = c .before .before .before .before in
+    let at-start = at-r .before .before in
+    omega (arith, subst (λ (a : Reading). ReadingFits (readingOutcome a)) (at-r .r .given .1) (at-start .pre .0))
 
 cast-t9 : tie.Need-cast-t9
-cast-t9 c = omega (arith, subst (λ (a : Reading). Small32 (readingRounded a)) (c .before .before .before .before .r .given .1) (c .before .before .before .before .before .before .pre .1))
+cast-t9 c =
+    let at-r = c .before .before .before .before in
+    let at-start = at-r .before .before in
+    omega (arith, subst (λ (a : Reading). Small32 (readingRounded a)) (at-r .r .given .1) (at-start .pre .1))
 
 enum-known-r-2 : tie.Need-enum-known-r-2
 enum-known-r-2 c = search needs
 
 cast-t10 : tie.Need-cast-t10
-cast-t10 c = omega (arith, subst (λ (a : Reading). ReadingFits (readingOutcome a)) (c .before .before .r2 .given .1) (c .before .before .before .before .pre .0))
+cast-t10 c =
+    let at-r2 = c .before .before in
+    let at-start = at-r2 .before .before in
+    omega (arith, subst (λ (a : Reading). ReadingFits (readingOutcome a)) (at-r2 .r2 .given .1) (at-start .pre .0))
 
 cast-t11 : tie.Need-cast-t11
-cast-t11 c = omega (arith, subst (λ (a : Reading). ReadingFits (readingOutcome a)) (c .before .before .before .r2 .given .1) (c .before .before .before .before .before .pre .0))
+cast-t11 c =
+    let at-r2 = c .before .before .before in
+    let at-start = at-r2 .before .before in
+    omega (arith, subst (λ (a : Reading). ReadingFits (readingOutcome a)) (at-r2 .r2 .given .1) (at-start .pre .0))
 
 returns : tie.Need-returns
-returns c = sym (ap (λ (a : Reading). readingAnswer (readingOutcome a) (readingRounded a)) (c .before .before .before .before .r .given .1))
+returns c =
+    let at-r = c .before .before .before .before in
+    sym (ap (λ (a : Reading). readingAnswer (readingOutcome a) (readingRounded a)) (at-r .r .given .1))
 
 returns-2 : tie.Need-returns-2
 returns-2 c = sym (ap (λ (a : Reading). readingAnswer (readingOutcome a) (readingRounded a)) (c .before .before .before .r2 .given .1))

@@ -6,8 +6,9 @@ use Rattle.lines.proofs.relabel.Statement.{statement}
 use Rattle.lines.proofs.relabel.Tie as tie
 
 returns : tie.Need-returns
-returns c = let start = c .before .before .before .before .before in
-    rw (← long-line (start .args .text .now) (start .args .indices .now) (c .if1 .taken)) (refl, (refl, refl))
+returns c =
+    let at-start = c .before .before .before .before .before in
+    rw (← long-line (at-start .args .text .now) (at-start .args .indices .now) (c .if1 .taken)) (refl, (refl, refl))
 
 slice-aggregate-relabel-in : tie.Need-slice-aggregate-relabel-in
 slice-aggregate-relabel-in c = search needs

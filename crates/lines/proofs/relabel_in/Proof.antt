@@ -45,11 +45,11 @@ same-length-3 c = search needs
 returns : tie.Need-returns
 returns c =
     let at-x = c .before in
-    let after = at-x .before .before .before .before .before .before .before .before in
-    let s = start after in
+    let at-read = at-x .before .before .before .before .before .before .before .before in
+    let s = start at-read in
     let a = s .args in
     line-refused (a .text .now) (a .indices .now) (a .units .now) (a .clusters .now) (a .glyphs .now) (a .first .now) (a .second .now)
-    (s .pre .0) (s .pre .1 .0) _ _ (sym (ap readingOutcome (at-x .x .given .1)) ∙ after .read .ensures .0)
+    (s .pre .0) (s .pre .1 .0) _ _ (sym (ap readingOutcome (at-x .x .given .1)) ∙ at-read .read .ensures .0)
 
 same-length-4 : tie.Need-same-length-4
 same-length-4 c = search needs
@@ -68,11 +68,12 @@ same-length-8 c = search needs
 
 returns-2 : tie.Need-returns-2
 returns-2 c =
-    let at-counts = c .before .before .before .before .before .before .before .before .before .before .before in
+    let at-write-places = c .before .before .before .before in
+    let at-counts = at-write-places .before .before .before .before .before .before .before in
     let s = start (at-read at-counts) in
     let a = s .args in
     let read = at-read at-counts .read .ensures in
-    let written = c .before .before .before .before .write-places .ensures in
+    let written = at-write-places .write-places .ensures in
     line-written (a .text .now) (a .indices .now) (a .units .now) (a .clusters .now) (a .glyphs .now) (a .first .now) (a .second .now)
     (s .pre .0) (s .pre .1 .0) _ (sym (ap readingOutcome (at-counts .counts .given .1)) ∙ read .0) _ _ _ _ _ _
     (s .pre .1 .1 .0) (s .pre .1 .1 .1) (read .1 .1 .0) (read .1 .1 .1 .0) (read .1 .1 .1 .1) (written .0) (written .1 .0) (written .1 .1)

@@ -40,8 +40,8 @@ same-length-2 c = search needs
 
 returns : tie.Need-returns
 returns c =
-    let at-write = c .before .before .before .before .before in
-    let w = at-write .write-as .ensures in
+    let at-write-as = c .before .before .before .before .before in
+    let w = at-write-as .write-as .ensures in
     (c .answer .ensures ∙ ap (answered _) (w .0), w .1)
 
 pub write-places-spec : {M : Type 1} → statement M

@@ -28,7 +28,13 @@ sub-t12 : tie.Need-sub-t12 Inv-loop μ-loop
 sub-t12 c = omega arith
 
 returns : tie.Need-returns Inv-loop μ-loop
-returns c = (scan-stop (c .before .before .before .before .loop .inv) (lead-stop _ _ (c .before .before .before .loop-test .taken) (sym (c .before .is-digit .ensures) ∙ not-true _ (c .if1 .taken))), omega arith)
+returns c =
+    let at-is-digit = c .before in
+    let at-loop-test = at-is-digit .before .before in
+    let at-loop = at-loop-test .before in (
+      scan-stop (at-loop .loop .inv) (lead-stop _ _ (at-loop-test .loop-test .taken) (sym (at-is-digit .is-digit .ensures) ∙ not-true _ (c .if1 .taken))),
+      omega arith,
+    )
 
 push-digit-requires : tie.Need-push-digit-requires Inv-loop μ-loop
 push-digit-requires c κs = (search needs, sym (c .before .is-digit .ensures) ∙ not-false _ (c .if1 .left))
@@ -40,7 +46,11 @@ loop-less : tie.Need-loop-less Inv-loop μ-loop
 loop-less c = omega arith
 
 loop-again : tie.Need-loop-again Inv-loop μ-loop
-loop-again c = rw (c .push-digit .ensures) (scan-step (c .before .before .before .before .before .loop .inv) (omega arith) (sym (c .before .before .is-digit .ensures) ∙ not-false _ (c .before .if1 .left)))
+loop-again c =
+    let at-if1 = c .before in
+    let at-is-digit = at-if1 .before in
+    let at-loop = at-is-digit .before .before .before in
+    rw (c .push-digit .ensures) (scan-step (at-loop .loop .inv) (omega arith) (sym (at-is-digit .is-digit .ensures) ∙ not-false _ (at-if1 .if1 .left)))
 
 sub-t13 : tie.Need-sub-t13 Inv-loop μ-loop
 sub-t13 c = omega arith

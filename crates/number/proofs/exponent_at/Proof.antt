@@ -29,16 +29,40 @@ add-digits-at : tie.Need-add-digits-at
 add-digits-at c = search needs
 
 digits-at-requires : tie.Need-digits-at-requires
-digits-at-requires c κs = (signed-in _ _ _ _ (c .before .byte-at2 .ensures) (c .sign-length .ensures .0) (ap isE (sym (c .before .before .before .before .byte-at .ensures)) ∙ sym (c .before .before .before .is-exponent .ensures) ∙ c .before .before .if1 .taken), search needs)
+digits-at-requires c κs =
+    let at-byte-at2 = c .before in
+    let at-if1 = at-byte-at2 .before in
+    let at-is-exponent = at-if1 .before in
+    let at-byte-at = at-is-exponent .before in (
+      signed-in _ _ _ _ (at-byte-at2 .byte-at2 .ensures) (c .sign-length .ensures .0)
+          (ap isE (sym (at-byte-at .byte-at .ensures)) ∙ sym (at-is-exponent .is-exponent .ensures) ∙ at-if1 .if1 .taken),
+      search needs,
+    )
 
 add-t10 : tie.Need-add-t10
 add-t10 c = search needs
 
 returns : tie.Need-returns
-returns c = (code-raised _ _ _ _ _ (c .before .before .byte-at2 .ensures) (c .before .sign-length .ensures .0) (c .digits-at .ensures .0) (ap isE (sym (c .before .before .before .before .before .byte-at .ensures)) ∙ sym (c .before .before .before .before .is-exponent .ensures) ∙ c .before .before .before .if1 .taken), omega arith)
+returns c =
+    let at-sign-length = c .before in
+    let at-byte-at2 = at-sign-length .before in
+    let at-if1 = at-byte-at2 .before in
+    let at-is-exponent = at-if1 .before in
+    let at-byte-at = at-is-exponent .before in (
+      code-raised _ _ _ _ _ (at-byte-at2 .byte-at2 .ensures) (at-sign-length .sign-length .ensures .0) (c .digits-at .ensures .0)
+          (ap isE (sym (at-byte-at .byte-at .ensures)) ∙ sym (at-is-exponent .is-exponent .ensures) ∙ at-if1 .if1 .taken),
+      omega arith,
+    )
 
 returns-2 : tie.Need-returns-2
-returns-2 c = (code-unraised (c .before .before .before .before .args .s .now) (c .before .before .before .before .args .at) (ap isE (sym (c .before .before .byte-at .ensures)) ∙ sym (c .before .is-exponent .ensures) ∙ c .if1 .left), omega arith)
+returns-2 c =
+    let at-is-exponent = c .before in
+    let at-byte-at = at-is-exponent .before in
+    let at-start = at-byte-at .before .before in (
+      code-unraised (at-start .args .s .now) (at-start .args .at) (ap isE (sym (at-byte-at .byte-at .ensures)) ∙ sym (at-is-exponent .is-exponent .ensures)
+          ∙ c .if1 .left),
+      omega arith,
+    )
 
 pub exponent-at-spec : {M : Type 1} → statement M
 exponent-at-spec =

@@ -23,7 +23,10 @@ power-requires : tie.Need-power-requires
 power-requires c κs = search needs
 
 mul-limited : tie.Need-mul-limited
-mul-limited c = rw (c .power .ensures) (omega (arith, grow-fits (c .before .before .before .before .args .m) (c .before .before .before .before .args .k) (omega arith) (omega arith)))
+mul-limited c = rw (c .power .ensures) (omega (
+  arith,
+  grow-fits (c .before .before .before .before .args .m) (c .before .before .before .before .args .k) (omega arith) (omega arith),
+))
 
 limited-requires : tie.Need-limited-requires
 limited-requires c κs = search needs

@@ -36,7 +36,13 @@ add-t15 : tie.Need-add-t15
 add-t15 c = search needs
 
 returns : tie.Need-returns
-returns c = (code-pointed _ _ _ (c .before .before .before .digits-at .ensures .0) _ (c .digits-at2 .ensures .0) (sym (c .before .before .byte-at .ensures) ∙ c .before .if1 .taken), omega arith)
+returns c =
+    let at-if1 = c .before in
+    let at-byte-at = at-if1 .before in
+    let at-digits-at = at-byte-at .before in (
+      code-pointed _ _ _ (at-digits-at .digits-at .ensures .0) _ (c .digits-at2 .ensures .0) (sym (at-byte-at .byte-at .ensures) ∙ at-if1 .if1 .taken),
+      omega arith,
+    )
 
 returns-2 : tie.Need-returns-2
 returns-2 c = (code-plain _ _ _ (c .before .before .digits-at .ensures .0) (λ h. c .if1 .left (c .before .byte-at .ensures ∙ h)), omega arith)

@@ -10,7 +10,10 @@ zero-requires : tie.Need-zero-requires
 zero-requires c κs = search needs
 
 returns : tie.Need-returns
-returns c = rw (c .zero .ensures, shrink-none _ _ (c .before .before .pre) (c .before .if1 .taken), none-whole _ _ (c .before .before .pre) (c .before .if1 .taken))
+returns c =
+    let at-if1 = c .before in
+    let at-start = at-if1 .before in
+    rw (c .zero .ensures, shrink-none _ _ (at-start .pre) (at-if1 .if1 .taken), none-whole _ _ (at-start .pre) (at-if1 .if1 .taken))
 
 power-requires : tie.Need-power-requires
 power-requires c κs = search needs
@@ -37,10 +40,18 @@ limited-requires-2 : tie.Need-limited-requires-2
 limited-requires-2 c κs = search needs
 
 returns-2 : tie.Need-returns-2
-returns-2 c = rw (← c .before .before .power .ensures, round-up (c .before .before .before .before .args .m) (c .before .before .power .result) (omega (arith, c .before .if2 .taken))) (c .limited .ensures)
+returns-2 c =
+    let at-if2 = c .before in
+    let at-power = at-if2 .before in
+    let at-start = at-power .before .before in
+    rw (← at-power .power .ensures, round-up (at-start .args .m) (at-power .power .result) (omega (arith, at-if2 .if2 .taken))) (c .limited .ensures)
 
 returns-3 : tie.Need-returns-3
-returns-3 c = rw (← c .before .before .power .ensures, round-down (c .before .before .before .before .args .m) (c .before .before .power .result) (omega (arith, c .before .if2 .left))) (c .limited2 .ensures)
+returns-3 c =
+    let at-if2 = c .before in
+    let at-power = at-if2 .before in
+    let at-start = at-power .before .before in
+    rw (← at-power .power .ensures, round-down (at-start .args .m) (at-power .power .result) (omega (arith, at-if2 .if2 .left))) (c .limited2 .ensures)
 
 pub shrunk-spec : {M : Type 1} → statement M
 shrunk-spec =

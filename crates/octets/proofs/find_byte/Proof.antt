@@ -21,7 +21,10 @@ shared-slice-read-if1 : tie.Need-shared-slice-read-if1 Inv-loop μ-loop
 shared-slice-read-if1 c = search needs
 
 returns : tie.Need-returns Inv-loop μ-loop
-returns c = (found-here _ _ _ (c .before .before .loop-test .taken) (c .if1 .taken) ∙ c .before .before .before .loop .inv .2, (c .before .before .before .loop .inv .0, c .before .before .before .loop .inv .1))
+returns c =
+    let at-loop-test = c .before .before in
+    let at-loop = at-loop-test .before in
+    (found-here _ _ _ (at-loop-test .loop-test .taken) (c .if1 .taken) ∙ at-loop .loop .inv .2, (at-loop .loop .inv .0, at-loop .loop .inv .1))
 
 add-i : tie.Need-add-i Inv-loop μ-loop
 add-i c = search needs
@@ -30,7 +33,14 @@ loop-less : tie.Need-loop-less Inv-loop μ-loop
 loop-less c = omega arith
 
 loop-again : tie.Need-loop-again Inv-loop μ-loop
-loop-again c = (omega (arith, c .before .before .before .loop .inv .0), omega (arith, c .before .before .loop-test .taken), found-next _ _ _ (c .before .before .loop-test .taken) (c .if1 .left) ∙ c .before .before .before .loop .inv .2)
+loop-again c =
+    let at-loop-test = c .before .before in
+    let at-loop = at-loop-test .before in (
+      omega (arith, at-loop .loop .inv .0),
+      omega (arith, at-loop-test .loop-test .taken),
+      found-next _ _ _ (at-loop-test .loop-test .taken) (c .if1 .left)
+          ∙ at-loop .loop .inv .2,
+    )
 
 returns-2 : tie.Need-returns-2 Inv-loop μ-loop
 returns-2 c = (found-end _ _ _ (c .loop-test .left) ∙ c .before .loop .inv .2, (c .before .loop .inv .0, c .before .loop .inv .1))

@@ -57,7 +57,11 @@ add-result-3 c = search needs
 
 returns : tie.Need-returns
 unfolding wordAt
-returns c = rw (c .before .before .before .before .before .before .wide .ensures .0, c .before .before .before .before .wide2 .ensures .0, c .before .before .wide3 .ensures .0, c .wide4 .ensures .0)
+returns c =
+    let at-wide3 = c .before .before in
+    let at-wide2 = at-wide3 .before .before in
+    let at-wide = at-wide2 .before .before in
+    rw (at-wide .wide .ensures .0, at-wide2 .wide2 .ensures .0, at-wide3 .wide3 .ensures .0, c .wide4 .ensures .0)
 
 pub get-u32-spec : {M : Type 1} → statement M
 get-u32-spec =

@@ -30,13 +30,25 @@ loop-less : tie.Need-loop-less Inv-loop μ-loop
 loop-less c = search needs
 
 loop-again : tie.Need-loop-again Inv-loop μ-loop
-loop-again c = (left-next (left-as (byte-next (c .before .before .before .before .before .before .before .before .before .args .s .now) (c .before .before .before .before .before .before .loop .i) (c .before .before .before .before .before .loop-test .taken)) (c .before .before .before .before .before .before .loop .inv .0)) (c .before .before .put-byte .ensures .0), omega arith, omega arith)
+loop-again c =
+    let at-put-byte = c .before .before in
+    let at-loop-test = at-put-byte .before .before .before in
+    let at-loop = at-loop-test .before in
+    let at-start = at-loop .before .before .before in (
+      left-next (left-as (byte-next (at-start .args .s .now) (at-loop .loop .i) (at-loop-test .loop-test .taken)) (at-loop .loop .inv .0))
+          (at-put-byte .put-byte .ensures .0),
+      omega arith,
+      omega arith,
+    )
 
 same-length : tie.Need-same-length Inv-loop μ-loop
 same-length c = c .before .loop .inv .0 .same
 
 returns : tie.Need-returns Inv-loop μ-loop
-returns c = (left-end (left-as (drop-of-length-le (c .before .before .before .before .args .s .now) (c .loop-test .left)) (c .before .loop .inv .0)), omega arith)
+returns c =
+    let at-loop = c .before in
+    let at-start = at-loop .before .before .before in
+    (left-end (left-as (drop-of-length-le (at-start .args .s .now) (c .loop-test .left)) (at-loop .loop .inv .0)), omega arith)
 
 pub put-bytes-spec : {M : Type 1} → statement M
 put-bytes-spec =

@@ -35,7 +35,10 @@ shared-slice-read-if2-2 : tie.Need-shared-slice-read-if2-2 Inv-loop μ-loop
 shared-slice-read-if2-2 c = omega arith
 
 returns-2 : tie.Need-returns-2 Inv-loop μ-loop
-returns-2 c = sym (left-other _ _ _ _ (c .before .before .before .before .loop-test .taken) (omega arith) (c .if2 .taken)) ∙ c .before .before .before .before .before .loop .inv .1
+returns-2 c =
+    let at-loop-test = c .before .before .before .before in
+    let at-loop = at-loop-test .before in
+    sym (left-other _ _ _ _ (at-loop-test .loop-test .taken) (omega arith) (c .if2 .taken)) ∙ at-loop .loop .inv .1
 
 add-i : tie.Need-add-i Inv-loop μ-loop
 add-i c = omega arith
@@ -44,7 +47,10 @@ loop-less : tie.Need-loop-less Inv-loop μ-loop
 loop-less c = omega arith
 
 loop-again : tie.Need-loop-again Inv-loop μ-loop
-loop-again c = (omega arith, left-next _ _ _ _ (c .before .before .before .before .loop-test .taken) (omega arith) (c .if2 .left) ∙ c .before .before .before .before .before .loop .inv .1)
+loop-again c =
+    let at-loop-test = c .before .before .before .before in
+    let at-loop = at-loop-test .before in
+    (omega arith, left-next _ _ _ _ (at-loop-test .loop-test .taken) (omega arith) (c .if2 .left) ∙ at-loop .loop .inv .1)
 
 returns-3 : tie.Need-returns-3 Inv-loop μ-loop
 returns-3 c = sym (left-end _ _ _ _ (c .loop-test .left)) ∙ c .before .loop .inv .1

@@ -18,8 +18,9 @@ returns c = rw (c .before .if1 .taken) (c .unit-count .ensures .0)
 
 returns-2 : tie.Need-returns-2
 returns-2 c =
-    let start = c .before .before .before .before in
-    rw (c .before .if1 .left) (ap (λ (n : ℕ). n / 4) (c .number-count .ensures .0) ∙ sym (glyph-count (words (start .args .glyphs .now))))
+    let at-if1 = c .before in
+    let at-start = at-if1 .before .before .before in
+    rw (at-if1 .if1 .left) (ap (λ (n : ℕ). n / 4) (c .number-count .ensures .0) ∙ sym (glyph-count (words (at-start .args .glyphs .now))))
 
 pub count-of-spec : {M : Type 1} → statement M
 count-of-spec = tie.close (tie.spec unit-count-requires number-count-requires returns returns-2)

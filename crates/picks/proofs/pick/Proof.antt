@@ -14,10 +14,12 @@ refused-requires c κs = search needs
 
 returns : tie.Need-returns
 returns c =
-    let start = c .before .before .before .before .before .before in
-    let a = start .args in
+    let at-if1 = c .before in
+    let at-is-sound = at-if1 .before in
+    let at-start = at-is-sound .before .before .before .before in
+    let a = at-start .args in
     ap pickOutcome (c .refused .ensures) ∙ refuses-19 (a .turn) (a .units .now) (a .clusters .now) (a .glyphs .now) (a .first) (a .end)
-    (c .before .before .is-sound .ensures) (c .before .if1 .taken)
+    (at-is-sound .is-sound .ensures) (at-if1 .if1 .taken)
 
 count-of-requires : tie.Need-count-of-requires
 count-of-requires c κs = search needs
@@ -30,33 +32,39 @@ refused-requires-2 c κs = search needs
 
 returns-2 : tie.Need-returns-2
 returns-2 c =
-    let at-count-of = c .before .before .before in
+    let at-if2 = c .before in
+    let at-both = at-if2 .before in
+    let at-count-of = at-both .before in
     let at-if1 = at-count-of .before in
     let at-is-sound = at-if1 .before in
-    let start = at-is-sound .before .before .before .before in
-    let a = start .args in
+    let at-start = at-is-sound .before .before .before .before in
+    let a = at-start .args in
     ap pickOutcome (c .refused2 .ensures)
     ∙ refuses-22 (a .turn) (a .units .now) (a .clusters .now) (a .glyphs .now) (a .first) (a .end) (at-is-sound .is-sound .ensures) (at-if1 .if1 .left)
-    (at-count-of .count-of .ensures) (c .before .before .both .ensures) (c .before .if2 .taken)
+    (at-count-of .count-of .ensures) (at-both .both .ensures) (at-if2 .if2 .taken)
 
 touched-by-requires : tie.Need-touched-by-requires
 touched-by-requires c κs =
-    let at-if1 = c .before .before .before in
+    let at-both = c .before in
+    let at-count-of = at-both .before in
+    let at-if1 = at-count-of .before in
     let at-is-sound = at-if1 .before in
-    let start = at-is-sound .before .before .before .before in
-    let a = start .args in
+    let at-start = at-is-sound .before .before .before .before in
+    let a = at-start .args in
     within-limits (a .turn) (a .units .now) (a .clusters .now) (a .glyphs .now) (a .first) (a .end) (at-is-sound .is-sound .ensures) (at-if1 .if1 .left)
-    (c .before .before .count-of .ensures) (c .before .both .ensures) (c .if2 .left)
+    (at-count-of .count-of .ensures) (at-both .both .ensures) (c .if2 .left)
 
 returns-3 : tie.Need-returns-3
 returns-3 c =
-    let at-count-of = c .before .before .before in
+    let at-if2 = c .before in
+    let at-both = at-if2 .before in
+    let at-count-of = at-both .before in
     let at-if1 = at-count-of .before in
     let at-is-sound = at-if1 .before in
-    let start = at-is-sound .before .before .before .before in
-    let a = start .args in
+    let at-start = at-is-sound .before .before .before .before in
+    let a = at-start .args in
     picks-stretch (a .turn) (a .units .now) (a .clusters .now) (a .glyphs .now) (a .first) (a .end) (at-is-sound .is-sound .ensures) (at-if1 .if1 .left)
-    (at-count-of .count-of .ensures) (c .before .before .both .ensures) (c .before .if2 .left) (c .touched-by .ensures)
+    (at-count-of .count-of .ensures) (at-both .both .ensures) (at-if2 .if2 .left) (c .touched-by .ensures)
 
 pub pick-spec : {M : Type 1} → statement M
 pick-spec =

@@ -25,8 +25,8 @@ abbrev μ-loop : tie.MeasureT-loop
 
 fill-units-requires : tie.Need-fill-units-requires Inv-loop μ-loop
 fill-units-requires c κs =
-    let start = c .before .before .before .before .before .before in
-    let f = filling (start .pre) in (f .text .decodes, omega (arith, f .text .count, start .pre .units-room))
+    let at-start = c .before .before .before .before .before .before in
+    let f = filling (at-start .pre) in (f .text .decodes, omega (arith, f .text .count, at-start .pre .units-room))
 
 first-cursor-requires : tie.Need-first-cursor-requires Inv-loop μ-loop
 first-cursor-requires c κs = search needs
@@ -34,7 +34,8 @@ first-cursor-requires c κs = search needs
 loop-holds : tie.Need-loop-holds Inv-loop μ-loop
 unfolding flatClusters flatGlyphs fromWords clusterBytes glyphBytes
 loop-holds c =
-    let f = filling (c .before .before .before .before .before .before .before .before .before .before .pre) in
+    let at-start = c .before .before .before .before .before .before .before .before .before .before in
+    let f = filling (at-start .pre) in
     let e = c .first-cursor .ensures in
     record {
       pre = nothing;
@@ -56,15 +57,16 @@ index-item-requires c κs = c .before .is-index .ensures .1 (c .if2 .taken) .0
 
 put-entry-requires : tie.Need-put-entry-requires Inv-loop μ-loop
 put-entry-requires c κs =
-    let at-if2 = c .before .before .before in
+    let at-index-item = c .before .before in
+    let at-if2 = at-index-item .before in
     let at-is-index = at-if2 .before in
     let at-if1 = at-is-index .before .before in
     let at-loop = at-if1 .before .before in
-    let start = at-loop .before .before .before .before .before .before .before .before .before .before .before in
-    let p = start .pre in
+    let at-start = at-loop .before .before .before .before .before .before .before .before .before .before .before in
+    let p = at-start .pre in
     let f = filling p in
     let l = at-loop .loop in
-    let x = at-is-index .is-index .ensures .1 (at-if2 .if2 .taken) .1 (l .at .entry) ∙ ap Read (sym (c .before .before .index-item .ensures)) in
+    let x = at-is-index .is-index .ensures .1 (at-if2 .if2 .taken) .1 (l .at .entry) ∙ ap Read (sym (at-index-item .index-item .ensures)) in
     storable _ _ (f .all) (f .walked) _ _ _ _ (l .at) (l .inv) (at-if1 .if1 .taken) (clusters-room p) (glyphs-room p) _ (units-are p) _ x
 
 loop-less : tie.Need-loop-less Inv-loop μ-loop
@@ -81,8 +83,8 @@ loop-again c =
     let at-is-index = at-if2 .before in
     let at-if1 = at-is-index .before .before in
     let at-loop = at-if1 .before .before in
-    let start = at-loop .before .before .before .before .before .before .before .before .before .before .before in
-    let p = start .pre in
+    let at-start = at-loop .before .before .before .before .before .before .before .before .before .before .before in
+    let p = at-start .pre in
     let f = filling p in
     let l = at-loop .loop in
     let x = at-is-index .is-index .ensures .1 (at-if2 .if2 .taken) .1 (l .at .entry) ∙ ap Read (sym (at-index-item .index-item .ensures)) in
@@ -103,9 +105,9 @@ read-entry-requires : tie.Need-read-entry-requires Inv-loop μ-loop
 read-entry-requires c κs =
     let at-digits-at = c .before .before .before in
     let at-loop = at-digits-at .before .before .before in
-    let start = at-loop .before .before .before .before .before .before .before .before .before .before .before in
+    let at-start = at-loop .before .before .before .before .before .before .before .before .before .before .before in
     let d = at-digits-at .digits-at in
-    digits-here (start .args .indices .now) (at-loop .loop .at .place) (d .result) (d .ensures .0) (d .ensures .1 .0)
+    digits-here (at-start .args .indices .now) (at-loop .loop .at .place) (d .result) (d .ensures .0) (d .ensures .1 .0)
 
 enum-known-x : tie.Need-enum-known-x Inv-loop μ-loop
 enum-known-x c = search needs
@@ -116,8 +118,8 @@ put-entry-requires-2 c κs =
     let at-read-entry = at-x .before .before in
     let at-if1 = at-read-entry .before .before .before .before .before in
     let at-loop = at-if1 .before .before in
-    let start = at-loop .before .before .before .before .before .before .before .before .before .before .before in
-    let p = start .pre in
+    let at-start = at-loop .before .before .before .before .before .before .before .before .before .before .before in
+    let p = at-start .pre in
     let f = filling p in
     let l = at-loop .loop in
     let x = read-here _ (l .at) _ (at-read-entry .read-entry .ensures) _ (at-x .x .given .1) in
@@ -136,8 +138,8 @@ loop-again-2 c =
     let at-read-entry = at-x .before .before in
     let at-if1 = at-read-entry .before .before .before .before .before in
     let at-loop = at-if1 .before .before in
-    let start = at-loop .before .before .before .before .before .before .before .before .before .before .before in
-    let p = start .pre in
+    let at-start = at-loop .before .before .before .before .before .before .before .before .before .before .before in
+    let p = at-start .pre in
     let f = filling p in
     let l = at-loop .loop in
     let x = read-here _ (l .at) _ (at-read-entry .read-entry .ensures) _ (at-x .x .given .1) in
@@ -152,19 +154,24 @@ same-length : tie.Need-same-length Inv-loop μ-loop
 same-length c = search needs
 
 same-length-2 : tie.Need-same-length-2 Inv-loop μ-loop
-same-length-2 c = c .before .before .before .before .before .before .before .before .before .loop .inv .clusters .same
+same-length-2 c =
+    let at-loop = c .before .before .before .before .before .before .before .before .before in
+    at-loop .loop .inv .clusters .same
 
 same-length-3 : tie.Need-same-length-3 Inv-loop μ-loop
-same-length-3 c = c .before .before .before .before .before .before .before .before .before .loop .inv .glyphs .same
+same-length-3 c =
+    let at-loop = c .before .before .before .before .before .before .before .before .before in
+    at-loop .loop .inv .glyphs .same
 
 returns : tie.Need-returns Inv-loop μ-loop
 returns c =
-    let at-if1 = c .before .before .before .before .before .before .before in
+    let at-read-entry = c .before .before in
+    let at-if1 = at-read-entry .before .before .before .before .before in
     let at-loop = at-if1 .before .before in
-    let start = at-loop .before .before .before .before .before .before .before .before .before .before .before in
-    let f = filling (start .pre) in
+    let at-start = at-loop .before .before .before .before .before .before .before .before .before .before .before in
+    let f = filling (at-start .pre) in
     let l = at-loop .loop in
-    let x = read-here _ (l .at) _ (c .before .before .read-entry .ensures) _ (c .enum-told .given .1) in
+    let x = read-here _ (l .at) _ (at-read-entry .read-entry .ensures) _ (c .enum-told .given .1) in
     fill-never _ _ (f .all) (f .walked) _ _ _ (l .inv .stands) (l .inv .ready) (at-if1 .if1 .taken) _ x
 
 mul-from : tie.Need-mul-from Inv-loop μ-loop
@@ -172,37 +179,37 @@ mul-from c = search needs
 
 mul-end : tie.Need-mul-end Inv-loop μ-loop
 mul-end c =
-    let start = c .before .before .before .before .before .before .before .before .before .before .before .before .before .before in
-    let p = start .pre in record { fits = omega (arith, p .units, filling p .text .few) }
+    let at-start = c .before .before .before .before .before .before .before .before .before .before .before .before .before .before in
+    let p = at-start .pre in record { fits = omega (arith, p .units, filling p .text .few) }
 
 sub-fill-tail : tie.Need-sub-fill-tail Inv-loop μ-loop
 sub-fill-tail c =
     let at-loop = c .before .before .before in
-    let start = at-loop .before .before .before .before .before .before .before .before .before .before .before in
-    omega (arith, at-loop .loop .inv .ready .inside, units-are (start .pre))
+    let at-start = at-loop .before .before .before .before .before .before .before .before .before .before .before in
+    omega (arith, at-loop .loop .inv .ready .inside, units-are (at-start .pre))
 
 part-fill-tail-start : tie.Need-part-fill-tail-start Inv-loop μ-loop
 part-fill-tail-start c =
     let at-loop = c .before .before .before .before in
-    let start = at-loop .before .before .before .before .before .before .before .before .before .before .before in
-    omega (arith, at-loop .loop .inv .ready .inside, units-are (start .pre))
+    let at-start = at-loop .before .before .before .before .before .before .before .before .before .before .before in
+    omega (arith, at-loop .loop .inv .ready .inside, units-are (at-start .pre))
 
 part-fill-tail-end : tie.Need-part-fill-tail-end Inv-loop μ-loop
 part-fill-tail-end c =
     let at-fill-units = c .before .before .before .before .before .before .before .before in
-    let start = at-fill-units .before .before .before .before .before .before .before in
-    let p = start .pre in omega (arith, p .units, p .units-room, at-fill-units .fill-units .kept .1 .1 .0)
+    let at-start = at-fill-units .before .before .before .before .before .before .before in
+    let p = at-start .pre in omega (arith, p .units, p .units-room, at-fill-units .fill-units .kept .1 .1 .0)
 
 fill-tail-requires : tie.Need-fill-tail-requires Inv-loop μ-loop
 fill-tail-requires c κs =
     let at-if1 = c .before .before .before .before .before in
     let at-loop = at-if1 .before .before in
     let at-fill-units = at-loop .before .before .before .before in
-    let start = at-fill-units .before .before .before .before .before .before .before in
-    let p = start .pre in
+    let at-start = at-fill-units .before .before .before .before .before .before .before in
+    let p = at-start .pre in
     let f = filling p in
     let i = at-loop .loop .inv in
-    let us = start .args .units .now in
+    let us = at-start .args .units .now in
     let e = units-left _ us _ _ (at-loop .loop .at .unit) (units-are p) (omega (arith, i .ready .inside, units-are p)) (at-fill-units .fill-units .ensures) in
     let cs = end-clusters _ _ (f .all) (f .walked) _ _ _ (i .stands) (i .ready) (at-if1 .if1 .left) _ e in
     let gs = end-glyphs _ _ (f .all) (f .walked) _ _ _ (i .stands) (i .ready) (at-if1 .if1 .left) _ e in
@@ -229,13 +236,13 @@ returns-2 c =
     let at-if1 = at-fill-tail .before .before .before .before .before .before in
     let at-loop = at-if1 .before .before in
     let at-fill-units = at-loop .before .before .before .before in
-    let start = at-fill-units .before .before .before .before .before .before .before in
-    let p = start .pre in
+    let at-start = at-fill-units .before .before .before .before .before .before .before in
+    let p = at-start .pre in
     let f = filling p in
     let i = at-loop .loop .inv in
-    let us = start .args .units .now in
-    let cs = start .args .clusters .now in
-    let gs = start .args .glyphs .now in
+    let us = at-start .args .units .now in
+    let cs = at-start .args .clusters .now in
+    let gs = at-start .args .glyphs .now in
     let e = units-left _ us _ _ (at-loop .loop .at .unit) (units-are p) (omega (arith, i .ready .inside, units-are p)) (at-fill-units .fill-units .ensures) in
     let ec = clusters-end _ _ (f .all) (f .walked) _ _ _ (i .stands) (i .ready) (at-if1 .if1 .left) _ e _ _ _ (i .clusters)
     (at-fill-tail .fill-tail .ensures .0) (clusters-room p) in

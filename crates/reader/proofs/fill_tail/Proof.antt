@@ -21,22 +21,26 @@ unit-count-requires : tie.Need-unit-count-requires Inv-loop μ-loop
 unit-count-requires c κs = search needs
 
 loop-holds : tie.Need-loop-holds Inv-loop μ-loop
-loop-holds c = storing-start _ _ _ _ _ (c .before .before .before .before .pre .0) (c .before .before .before .before .pre .1)
+loop-holds c =
+    let at-start = c .before .before .before .before in
+    storing-start _ _ _ _ _ (at-start .pre .0) (at-start .pre .1)
 
 tail-units-requires : tie.Need-tail-units-requires Inv-loop μ-loop
 tail-units-requires c κs = omega (arith, c .before .loop .inv .inside, c .before .before .unit-count .ensures .0, c .before .before .unit-count .ensures .1)
 
 put-cluster-requires : tie.Need-put-cluster-requires Inv-loop μ-loop
 put-cluster-requires c κs =
-    let at-loop = c .before .before .before in
+    let at-tail-units = c .before in
+    let at-loop-test = at-tail-units .before in
+    let at-loop = at-loop-test .before in
     let at-unit-count = at-loop .before in
-    let start = at-unit-count .before .before .before .before in
-    let t : at-loop .loop .j < length (halves (start .args .units .now)) = omega
-    (arith, c .before .before .loop-test .taken, at-unit-count .unit-count .ensures .0)
+    let at-start = at-unit-count .before .before .before .before in
+    let t : at-loop .loop .j < length (halves (at-start .args .units .now)) = omega
+    (arith, at-loop-test .loop-test .taken, at-unit-count .unit-count .ensures .0)
     in (
-      λ _. omega (arith, inside-next _ _ _ _ _ _ _ _ _ _ (at-loop .loop .inv) t _ (c .before .tail-units .ensures) .1),
+      λ _. omega (arith, inside-next _ _ _ _ _ _ _ _ _ _ (at-loop .loop .inv) t _ (at-tail-units .tail-units .ensures) .1),
       room-pair 0 (at-loop .loop .c)
-          (c .before .tail-units .result) 1 _ refl (storing-room _ _ _ _ _ _ _ _ _ _ (at-loop .loop .inv) t _ (c .before .tail-units .ensures) .0),
+          (at-tail-units .tail-units .result) 1 _ refl (storing-room _ _ _ _ _ _ _ _ _ _ (at-loop .loop .inv) t _ (at-tail-units .tail-units .ensures) .0),
     )
 
 put-glyph-requires : tie.Need-put-glyph-requires Inv-loop μ-loop
@@ -45,8 +49,12 @@ put-glyph-requires c κs =
     let at-loop-test = at-tail-units .before in
     let at-loop = at-loop-test .before in
     let at-unit-count = at-loop .before in
-    let start = at-unit-count .before .before .before .before in
-    let t : at-loop .loop .j < length (halves (start .args .units .now)) = omega (arith, at-loop-test .loop-test .taken, at-unit-count .unit-count .ensures .0)
+    let at-start = at-unit-count .before .before .before .before in
+    let t : at-loop .loop .j < length (halves (at-start .args .units .now)) = omega (
+      arith,
+      at-loop-test .loop-test .taken,
+      at-unit-count .unit-count .ensures .0,
+    )
     in omega (arith, storing-room _ _ _ _ _ _ _ _ _ _ (at-loop .loop .inv) t _ (at-tail-units .tail-units .ensures) .1)
 
 add-j : tie.Need-add-j Inv-loop μ-loop
@@ -85,22 +93,31 @@ loop-less c =
     let at-loop-test = at-tail-units .before in
     let at-loop = at-loop-test .before in
     let at-unit-count = at-loop .before in
-    let start = at-unit-count .before .before .before .before in
-    let t : at-loop .loop .j < length (halves (start .args .units .now)) = omega (arith, at-loop-test .loop-test .taken, at-unit-count .unit-count .ensures .0)
+    let at-start = at-unit-count .before .before .before .before in
+    let t : at-loop .loop .j < length (halves (at-start .args .units .now)) = omega (
+      arith,
+      at-loop-test .loop-test .taken,
+      at-unit-count .unit-count .ensures .0,
+    )
     in omega (arith, at-loop-test .loop-test .taken, inside-next _ _ _ _ _ _ _ _ _ _ (at-loop .loop .inv) t _ (at-tail-units .tail-units .ensures) .0)
 
 loop-again : tie.Need-loop-again Inv-loop μ-loop
 loop-again c =
-    let at-put-cluster = c .before .before .before .before .before .before in
+    let at-put-glyph = c .before .before in
+    let at-put-cluster = at-put-glyph .before .before .before .before in
     let at-tail-units = at-put-cluster .before .before in
     let at-loop-test = at-tail-units .before in
     let at-loop = at-loop-test .before in
     let at-unit-count = at-loop .before in
-    let start = at-unit-count .before .before .before .before in
-    let t : at-loop .loop .j < length (halves (start .args .units .now)) = omega (arith, at-loop-test .loop-test .taken, at-unit-count .unit-count .ensures .0)
+    let at-start = at-unit-count .before .before .before .before in
+    let t : at-loop .loop .j < length (halves (at-start .args .units .now)) = omega (
+      arith,
+      at-loop-test .loop-test .taken,
+      at-unit-count .unit-count .ensures .0,
+    )
     in storing-next _ _ _ _ _ _ _ _ _ _ (at-loop .loop .inv) t _ (at-tail-units .tail-units .ensures) _ _
     (at-put-cluster .put-cluster .ensures ∙ ap (sets (at-loop .loop .clusters) (8 * at-loop .loop .c))
-    (opened-yes 0 (at-tail-units .tail-units .result) 1 refl)) (c .before .before .put-glyph .ensures)
+    (opened-yes 0 (at-tail-units .tail-units .result) 1 refl)) (at-put-glyph .put-glyph .ensures)
 
 same-length : tie.Need-same-length Inv-loop μ-loop
 same-length c = c .before .loop .inv .same-clusters

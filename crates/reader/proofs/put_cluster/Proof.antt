@@ -20,23 +20,24 @@ add-put-bits c = search needs
 cast-put-bits-2 : tie.Need-cast-put-bits-2
 cast-put-bits-2 c =
     let at-if1 = c .before .before .before .before .before in
-    let start = at-if1 .before .before in
-    let h = start .pre .0 (at-if1 .if1 .taken) .1 in record { fits = omega (arith, h) }
+    let at-start = at-if1 .before .before in
+    let h = at-start .pre .0 (at-if1 .if1 .taken) .1 in record { fits = omega (arith, h) }
 
 put-bits-requires-2 : tie.Need-put-bits-requires-2
 put-bits-requires-2 c κs =
     let at-if1 = c .before .before .before .before .before in
-    let start = at-if1 .before .before in
-    let h = pair-room _ _ _ _ _ (at-if1 .if1 .taken) (start .pre .1) in omega (arith, h)
+    let at-start = at-if1 .before .before in
+    let h = pair-room _ _ _ _ _ (at-if1 .if1 .taken) (at-start .pre .1) in omega (arith, h)
 
 same-length : tie.Need-same-length
 same-length c = search needs
 
 returns : tie.Need-returns
 returns c =
-    let at-put-bits = c .before .before .before .before .before .before in
+    let at-put-bits2 = c .before .before in
+    let at-put-bits = at-put-bits2 .before .before .before .before in
     let at-if1 = at-put-bits .before .before in
-    pair-stored _ _ _ _ _ _ _ (at-if1 .if1 .taken) (at-put-bits .put-bits .ensures) (c .before .before .put-bits2 .ensures)
+    pair-stored _ _ _ _ _ _ _ (at-if1 .if1 .taken) (at-put-bits .put-bits .ensures) (at-put-bits2 .put-bits2 .ensures)
 
 returns-2 : tie.Need-returns-2
 returns-2 c = rw (opened-no (c .before .before .args .lack) (c .before .before .args .a) (c .before .before .args .b) (c .if1 .left))

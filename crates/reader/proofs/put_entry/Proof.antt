@@ -8,8 +8,9 @@ taken-requires c κs = search needs
 
 put-cluster-requires : tie.Need-put-cluster-requires
 put-cluster-requires c κs =
-    let start = c .before .before .before .before .before in
-    rw (c .before .before .taken .ensures) (start .pre .0, start .pre .1)
+    let at-taken = c .before .before in
+    let at-start = at-taken .before .before .before in
+    rw (at-taken .taken .ensures) (at-start .pre .0, at-start .pre .1)
 
 put-glyph-requires : tie.Need-put-glyph-requires
 put-glyph-requires c κs = search needs

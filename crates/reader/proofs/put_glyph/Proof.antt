@@ -40,18 +40,19 @@ same-length c = search needs
 
 returns : tie.Need-returns
 returns c =
-    let at-put-number = c .before .before .before .before .before .before .before in
+    let at-put-number2 = c .before .before in
+    let at-put-number = at-put-number2 .before .before .before .before .before in
     let at-struct-told = at-put-number .before .before in
     let at-put-bits2 = at-struct-told .before .before .before in
     let at-advance-bits = at-put-bits2 .before in
     let at-put-bits = at-advance-bits .before .before .before .before in
     let at-index-bits = at-put-bits .before in
-    let start = at-index-bits .before .before .before in
-    let a = start .args in
+    let at-start = at-index-bits .before .before .before in
+    let a = at-start .args in
     let g = a .g in
     four-stored _ _ _ _ _ (a .k) g _ _ _ _ (at-index-bits .index-bits .ensures) (at-advance-bits .advance-bits .ensures)
     (back (g .u) (at-struct-told .struct-told .given .1 .1 .0 .1)) (back (g .v) (at-struct-told .struct-told .given .1 .1 .1 .0 .1))
-    (at-put-bits .put-bits .ensures) (at-put-bits2 .put-bits2 .ensures) (at-put-number .put-number .ensures) (c .before .before .put-number2 .ensures)
+    (at-put-bits .put-bits .ensures) (at-put-bits2 .put-bits2 .ensures) (at-put-number .put-number .ensures) (at-put-number2 .put-number2 .ensures)
 
 pub put-glyph-spec : {M : Type 1} → statement M
 put-glyph-spec =

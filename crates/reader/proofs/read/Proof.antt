@@ -17,22 +17,27 @@ refused-requires c κs = search needs
 
 returns : tie.Need-returns
 returns c =
-    let a = c .before .before .before .before .before .before .before .before .before .before .before .before .args in
-    let f = found-by _ _ (c .before .before .before .before .before .before .survey .ensures .0) (c .before .before .before .before .reading .given .1) in
-    nothing-read _ _ _ _ _ (a .units .now) (a .clusters .now) (a .glyphs .now) (into-16 _ _ _ _ f (c .before .if1 .taken)) (c .refused .ensures)
+    let at-if1 = c .before in
+    let at-reading = at-if1 .before .before .before in
+    let at-survey = at-reading .before .before in
+    let at-start = at-survey .before .before .before .before .before .before in
+    let a = at-start .args in
+    let f = found-by _ _ (at-survey .survey .ensures .0) (at-reading .reading .given .1) in
+    nothing-read _ _ _ _ _ (a .units .now) (a .clusters .now) (a .glyphs .now) (into-16 _ _ _ _ f (at-if1 .if1 .taken)) (c .refused .ensures)
 
 refused-requires-2 : tie.Need-refused-requires-2
 refused-requires-2 c κs = search needs
 
 returns-2 : tie.Need-returns-2
 returns-2 c =
-    let at-if1 = c .before .before .before in
+    let at-if2 = c .before in
+    let at-if1 = at-if2 .before .before in
     let at-reading = at-if1 .before .before .before in
     let at-survey = at-reading .before .before in
-    let start = at-survey .before .before .before .before .before .before in
-    let a = start .args in
+    let at-start = at-survey .before .before .before .before .before .before in
+    let a = at-start .args in
     let f = found-by _ _ (at-survey .survey .ensures .0) (at-reading .reading .given .1) in
-    let e = into-17 _ _ _ _ f (at-if1 .if1 .left) (c .before .if2 .taken) in
+    let e = into-17 _ _ _ _ f (at-if1 .if1 .left) (at-if2 .if2 .taken) in
     nothing-read _ _ _ _ _ (a .units .now) (a .clusters .now) (a .glyphs .now) e (c .refused2 .ensures)
 
 refused-requires-3 : tie.Need-refused-requires-3
@@ -40,28 +45,34 @@ refused-requires-3 c κs = search needs
 
 returns-3 : tie.Need-returns-3
 returns-3 c =
-    let at-if2 = c .before .before .before in
+    let at-if3 = c .before in
+    let at-if2 = at-if3 .before .before in
     let at-if1 = at-if2 .before .before in
     let at-reading = at-if1 .before .before .before in
     let at-survey = at-reading .before .before in
-    let start = at-survey .before .before .before .before .before .before in
-    let a = start .args in
+    let at-start = at-survey .before .before .before .before .before .before in
+    let a = at-start .args in
     let f = found-by _ _ (at-survey .survey .ensures .0) (at-reading .reading .given .1) in
-    let e = into-18 _ _ _ _ f (at-if1 .if1 .left) (at-if2 .if2 .left) (c .before .if3 .taken) in
+    let e = into-18 _ _ _ _ f (at-if1 .if1 .left) (at-if2 .if2 .left) (at-if3 .if3 .taken) in
     nothing-read _ _ _ _ _ (a .units .now) (a .clusters .now) (a .glyphs .now) e (c .refused3 .ensures)
 
 fill-requires : tie.Need-fill-requires
 fill-requires c κs =
-    let s = c .before .before .before .before .before .before .before .before .before .before .before .before .survey .ensures in
-    let r = c .before .before .before .before .before .before .before .before .before .before .reading .given .1 in
+    let at-if3 = c .before .before .before in
+    let at-if2 = at-if3 .before .before in
+    let at-if1 = at-if2 .before .before in
+    let at-reading = at-if1 .before .before .before in
+    let at-survey = at-reading .before .before in
+    let s = at-survey .survey .ensures in
+    let r = at-reading .reading .given .1 in
     record {
       counts = _;
       are = counts-are _ _ (s .0) r;
       starts = starts-at _ _ (s .0) r (s .1 .1);
       units = refl;
-      units-room = omega (arith, c .before .before .before .before .before .before .before .if1 .left);
-      clusters-room = omega (arith, c .before .before .before .before .before .if2 .left);
-      glyphs-room = omega (arith, c .before .before .before .if3 .left);
+      units-room = omega (arith, at-if1 .if1 .left);
+      clusters-room = omega (arith, at-if2 .if2 .left);
+      glyphs-room = omega (arith, at-if3 .if3 .left);
     }
 
 enum-known-reading-2 : tie.Need-enum-known-reading-2
@@ -84,8 +95,8 @@ returns-4 c =
     let at-if1 = at-if2 .before .before in
     let at-reading = at-if1 .before .before .before in
     let at-survey = at-reading .before .before in
-    let start = at-survey .before .before .before .before .before .before in
-    let a = start .args in
+    let at-start = at-survey .before .before .before .before .before .before in
+    let a = at-start .args in
     let s = at-survey .survey .ensures in
     let r = at-reading .reading .given .1 in
     let e = into-run _ _ _ _ (found-by _ _ (s .0) r) (at-if1 .if1 .left) (at-if2 .if2 .left) (at-if3 .if3 .left) in
@@ -94,8 +105,11 @@ returns-4 c =
 
 returns-5 : tie.Need-returns-5
 returns-5 c =
-    let a = c .before .before .before .before .before .before .before .before .before .args in
-    let e = into-refused _ _ _ _ _ (c .before .before .before .survey .ensures .0) (c .before .reading2 .given .1) in
+    let at-reading2 = c .before in
+    let at-survey = at-reading2 .before .before in
+    let at-start = at-survey .before .before .before .before .before .before in
+    let a = at-start .args in
+    let e = into-refused _ _ _ _ _ (at-survey .survey .ensures .0) (at-reading2 .reading2 .given .1) in
     nothing-read _ _ _ _ _ (a .units .now) (a .clusters .now) (a .glyphs .now) e refl
 
 pub read-spec : {M : Type 1} → statement M

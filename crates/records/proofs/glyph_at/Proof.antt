@@ -29,7 +29,9 @@ add-number-at-2 : tie.Need-add-number-at-2
 add-number-at-2 c = search needs
 
 number-at-requires-3 : tie.Need-number-at-requires-3
-number-at-requires-3 c κs = omega (arith, words-length (c .before .before .before .before .before .args .glyphs .now))
+number-at-requires-3 c κs =
+    let at-start = c .before .before .before .before .before in
+    omega (arith, words-length (at-start .args .glyphs .now))
 
 signed-number-requires : tie.Need-signed-number-requires
 signed-number-requires c κs = search needs
@@ -38,7 +40,9 @@ add-number-at-3 : tie.Need-add-number-at-3
 add-number-at-3 c = search needs
 
 number-at-requires-4 : tie.Need-number-at-requires-4
-number-at-requires-4 c κs = omega (arith, words-length (c .before .before .before .before .before .before .before .args .glyphs .now))
+number-at-requires-4 c κs =
+    let at-start = c .before .before .before .before .before .before .before in
+    omega (arith, words-length (at-start .args .glyphs .now))
 
 signed-number-requires-2 : tie.Need-signed-number-requires-2
 signed-number-requires-2 c κs = search needs

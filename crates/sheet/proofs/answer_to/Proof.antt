@@ -33,10 +33,16 @@ enum-known-reading : tie.Need-enum-known-reading
 enum-known-reading c = search needs
 
 cast-number : tie.Need-cast-number
-cast-number c = record { sfits = number-small _ _ (c .before .before .before .before .survey .ensures .0) (c .before .before .reading .given .1) }
+cast-number c =
+    let at-reading = c .before .before in
+    let at-survey = at-reading .before .before in
+    record { sfits = number-small _ _ (at-survey .survey .ensures .0) (at-reading .reading .given .1) }
 
 cast-place : tie.Need-cast-place
-cast-place c = record { sfits = place-small _ _ (c .before .before .before .before .before .survey .ensures .0) (c .before .before .before .reading .given .1) }
+cast-place c =
+    let at-reading = c .before .before .before in
+    let at-survey = at-reading .before .before in
+    record { sfits = place-small _ _ (at-survey .survey .ensures .0) (at-reading .reading .given .1) }
 
 returns : tie.Need-returns
 unfolding labelIn
@@ -44,7 +50,10 @@ returns c = accepted _ _ (c .before .before .survey .ensures .0) (c .enum-told .
 
 returns-2 : tie.Need-returns-2
 unfolding labelIn
-returns-2 c = told _ _ (c .before .before .before .before .before .survey .ensures .0) (c .before .before .before .reading .given .1)
+returns-2 c =
+    let at-reading = c .before .before .before in
+    let at-survey = at-reading .before .before in
+    told _ _ (at-survey .survey .ensures .0) (at-reading .reading .given .1)
 
 pub answer-to-spec : {M : Type 1} → statement M
 answer-to-spec =

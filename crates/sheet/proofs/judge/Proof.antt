@@ -30,11 +30,19 @@ refused-requires c κs = search needs
 
 returns : tie.Need-returns Inv-loop μ-loop
 unfolding header ascii fromHalves
-returns c = judged-25 (c .before .before .before .before .before .args .room) (c .before .before .before .before .before .args .file .now) (c .refused .ensures) (sym (c .before .before .stands-at .ensures) ∙ not-true _ (c .before .if1 .taken))
+returns c =
+    let at-if1 = c .before in
+    let at-stands-at = at-if1 .before in
+    let at-start = at-stands-at .before .before .before in
+    judged-25 (at-start .args .room) (at-start .args .file .now) (c .refused .ensures)
+    (sym (at-stands-at .stands-at .ensures) ∙ not-true _ (at-if1 .if1 .taken))
 
 loop-holds : tie.Need-loop-holds Inv-loop μ-loop
 unfolding header ascii fromHalves
-loop-holds c = let h = sym (c .before .stands-at .ensures) ∙ not-false _ (c .if1 .left) in (h, counted-start (c .before .before .before .before .args .file .now) h)
+loop-holds c =
+    let at-stands-at = c .before in
+    let at-start = at-stands-at .before .before .before in
+    let h = sym (at-stands-at .stands-at .ensures) ∙ not-false _ (c .if1 .left) in (h, counted-start (at-start .args .file .now) h)
 
 record-at-requires : tie.Need-record-at-requires Inv-loop μ-loop
 record-at-requires c κs = c .before .loop .inv .1 .inside
@@ -46,10 +54,23 @@ add-n : tie.Need-add-n Inv-loop μ-loop
 add-n c = let f = c .before .before .before .before .before .loop .inv .1 in let a = f .few in let b = f .inside in omega arith
 
 loop-less : tie.Need-loop-less Inv-loop μ-loop
-loop-less c = let s = (stands _ _ (c .before .before .before .before .before .loop .inv .1 .inside) (sym (c .before .x .given .1) ∙ c .before .before .before .record-at .ensures)) in let a = s .further in let b = s .inside in omega arith
+loop-less c =
+    let at-x = c .before in
+    let at-record-at = at-x .before .before in
+    let at-loop = at-record-at .before .before in
+    let s = (stands _ _ (at-loop .loop .inv .1 .inside) (sym (at-x .x .given .1) ∙ at-record-at .record-at .ensures)) in let a = s .further in let
+    b = s .inside in omega arith
 
 loop-again : tie.Need-loop-again Inv-loop μ-loop
-loop-again c = (c .before .before .before .before .before .loop .inv .0, counted-next _ _ _ (c .before .before .before .before .before .loop .inv .1) (c .before .before .before .before .loop-test .taken) (stands _ _ (c .before .before .before .before .before .loop .inv .1 .inside) (sym (c .before .x .given .1) ∙ c .before .before .before .record-at .ensures)))
+loop-again c =
+    let at-x = c .before in
+    let at-record-at = at-x .before .before in
+    let at-loop-test = at-record-at .before in
+    let at-loop = at-loop-test .before in (
+      at-loop .loop .inv .0,
+      counted-next _ _ _ (at-loop .loop .inv .1) (at-loop-test .loop-test .taken)
+          (stands _ _ (at-loop .loop .inv .1 .inside) (sym (at-x .x .given .1) ∙ at-record-at .record-at .ensures)),
+    )
 
 enum-told : tie.Need-enum-told Inv-loop μ-loop
 enum-told c = search needs
@@ -58,13 +79,23 @@ refused-requires-2 : tie.Need-refused-requires-2 Inv-loop μ-loop
 refused-requires-2 c κs = search needs
 
 returns-2 : tie.Need-returns-2 Inv-loop μ-loop
-returns-2 c = judged-26 _ _ (c .before .before .before .before .before .loop .inv .0) (c .before .before .before .before .before .loop .inv .1) (c .refused2 .ensures) (c .before .before .before .before .loop-test .taken) (cut _ _ (sym (c .before .enum-told .given .1) ∙ c .before .before .before .record-at .ensures))
+returns-2 c =
+    let at-enum-told = c .before in
+    let at-record-at = at-enum-told .before .before in
+    let at-loop-test = at-record-at .before in
+    let at-loop = at-loop-test .before in
+    judged-26 _ _ (at-loop .loop .inv .0) (at-loop .loop .inv .1) (c .refused2 .ensures) (at-loop-test .loop-test .taken)
+    (cut _ _ (sym (at-enum-told .enum-told .given .1) ∙ at-record-at .record-at .ensures))
 
 refused-requires-3 : tie.Need-refused-requires-3 Inv-loop μ-loop
 refused-requires-3 c κs = search needs
 
 returns-3 : tie.Need-returns-3 Inv-loop μ-loop
-returns-3 c = judged-27 _ _ (c .before .before .before .loop .inv .0) (c .before .before .before .loop .inv .1) (c .refused3 .ensures) (c .before .before .loop-test .left) (c .before .if2 .taken)
+returns-3 c =
+    let at-if2 = c .before in
+    let at-loop-test = at-if2 .before in
+    let at-loop = at-loop-test .before in
+    judged-27 _ _ (at-loop .loop .inv .0) (at-loop .loop .inv .1) (c .refused3 .ensures) (at-loop-test .loop-test .left) (at-if2 .if2 .taken)
 
 mul-t14 : tie.Need-mul-t14 Inv-loop μ-loop
 mul-t14 c = let f = c .before .before .loop .inv .1 in let a = f .few in let b = f .inside in omega arith

@@ -42,7 +42,9 @@ put-number-requires : tie.Need-put-number-requires Inv-loop μ-loop
 put-number-requires c κs = omega (arith, room (c .before .before))
 
 add-put-number : tie.Need-add-put-number Inv-loop μ-loop
-add-put-number c = record { fits = omega (arith, room (c .before .before .before .before .before .before)) }
+add-put-number c =
+    let at-answer-to = c .before .before .before .before .before .before in
+    record { fits = omega (arith, room (at-answer-to)) }
 
 put-number-requires-2 : tie.Need-put-number-requires-2 Inv-loop μ-loop
 put-number-requires-2 c κs =
@@ -60,24 +62,30 @@ loop-less c =
 
 loop-again : tie.Need-loop-again Inv-loop μ-loop
 loop-again c =
-    let at-put-number = c .before .before .before .before .before .before .before in
+    let at-put-number2 = c .before .before in
+    let at-put-number = at-put-number2 .before .before .before .before .before in
     let at-answer-to = at-put-number .before .before .before in
     let at-x = at-answer-to .before .before in
     let at-loop-test = at-x .before .before .before in
     let at-loop = at-loop-test .before in
     stored-next _ (at-loop .loop .inv) (at-loop-test .loop-test .taken) (found at-x) (as-stored _ (at-answer-to .answer-to .ensures))
-    (at-put-number .put-number .ensures) (c .before .before .put-number2 .ensures)
+    (at-put-number .put-number .ensures) (at-put-number2 .put-number2 .ensures)
 
 enum-told : tie.Need-enum-told Inv-loop μ-loop
 enum-told c = search needs
 
 same-length : tie.Need-same-length Inv-loop μ-loop
-same-length c = c .before .before .before .before .loop .inv .laid .same
+same-length c =
+    let at-loop = c .before .before .before .before in
+    at-loop .loop .inv .laid .same
 
 returns : tie.Need-returns Inv-loop μ-loop
 returns c =
-    let l = c .before .before .before .before .loop .inv .left in
-    absurd (not-cut _ l (c .before .before .before .loop-test .taken) (cut _ _ (sym (c .enum-told .given .1) ∙ c .before .before .record-at .ensures)))
+    let at-record-at = c .before .before in
+    let at-loop-test = at-record-at .before in
+    let at-loop = at-loop-test .before in
+    let l = at-loop .loop .inv .left in
+    absurd (not-cut _ l (at-loop-test .loop-test .taken) (cut _ _ (sym (c .enum-told .given .1) ∙ at-record-at .record-at .ensures)))
 
 same-length-2 : tie.Need-same-length-2 Inv-loop μ-loop
 same-length-2 c = c .before .loop .inv .laid .same

@@ -15,9 +15,10 @@ enum-known-n c = search needs
 
 put-answers-requires : tie.Need-put-answers-requires
 put-answers-requires c κs =
-    let at-judge = c .before .before .before .before in
+    let at-n = c .before .before in
+    let at-judge = at-n .before .before in
     let at-number-count = at-judge .before in
-    rw (← at-number-count .number-count .ensures .1) (accepts _ _ (at-judge .judge .ensures) (c .before .before .n .given .1))
+    rw (← at-number-count .number-count .ensures .1) (accepts _ _ (at-judge .judge .ensures) (at-n .n .given .1))
 
 enum-known-x : tie.Need-enum-known-x
 enum-known-x c = search needs
@@ -27,10 +28,11 @@ same-length c = search needs
 
 returns : tie.Need-returns
 returns c =
-    let at-n = c .before .before .before .before .before in
+    let at-put-answers = c .before .before in
+    let at-n = at-put-answers .before .before .before in
     let at-judge = at-n .before .before in
     let at-number-count = at-judge .before in
-    (rw (← at-number-count .number-count .ensures .1) (tells _ _ (at-judge .judge .ensures) (at-n .n .given .1)), c .before .before .put-answers .ensures)
+    (rw (← at-number-count .number-count .ensures .1) (tells _ _ (at-judge .judge .ensures) (at-n .n .given .1)), at-put-answers .put-answers .ensures)
 
 same-length-2 : tie.Need-same-length-2
 same-length-2 c = search needs

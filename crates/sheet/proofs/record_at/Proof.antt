@@ -36,10 +36,19 @@ add-end : tie.Need-add-end
 add-end c = search needs
 
 returns-2 : tie.Need-returns-2
-returns-2 c = record-cut _ _ (c .before .before .before .get-u16 .ensures) (c .before .widened .ensures .0 ∙ c .before .before .get-u32 .ensures) (c .before .before .before .before .before .before .pre) (c .if2 .taken)
+returns-2 c =
+    let at-widened = c .before in
+    let at-get-u32 = at-widened .before in
+    let at-get-u16 = at-get-u32 .before in
+    let at-start = at-get-u16 .before .before .before in
+    record-cut _ _ (at-get-u16 .get-u16 .ensures) (at-widened .widened .ensures .0 ∙ at-get-u32 .get-u32 .ensures) (at-start .pre) (c .if2 .taken)
 
 returns-3 : tie.Need-returns-3
-returns-3 c = record-whole _ _ (c .before .before .before .get-u16 .ensures) (c .before .widened .ensures .0 ∙ c .before .before .get-u32 .ensures) (c .if2 .left)
+returns-3 c =
+    let at-widened = c .before in
+    let at-get-u32 = at-widened .before in
+    let at-get-u16 = at-get-u32 .before in
+    record-whole _ _ (at-get-u16 .get-u16 .ensures) (at-widened .widened .ensures .0 ∙ at-get-u32 .get-u32 .ensures) (c .if2 .left)
 
 pub record-at-spec : {M : Type 1} → statement M
 record-at-spec =

@@ -24,50 +24,56 @@ both-requires c κs = search needs
 
 returns : tie.Need-returns
 returns c =
-    let at-number-count = c .before .before .before in
+    let at-both = c .before in
+    let at-is-limited = at-both .before in
+    let at-number-count = at-is-limited .before in
     let at-unit-count = at-number-count .before in
     let at-whole-bytes = at-unit-count .before in
-    let start = at-whole-bytes .before .before .before .before in
-    let a = start .args in
+    let at-start = at-whole-bytes .before .before .before .before in
+    let a = at-start .args in
     stops _ _ refl (sound-is (a .units .now) (a .clusters .now) (a .glyphs .now))
-    (and-of (c .before .both .ensures) (at-whole-bytes .whole-bytes .ensures)
-    (c .before .before .is-limited .ensures ∙ rw (at-unit-count .unit-count .ensures .0, at-number-count .number-count .ensures .0))) (c .if1 .taken)
+    (and-of (at-both .both .ensures) (at-whole-bytes .whole-bytes .ensures)
+    (at-is-limited .is-limited .ensures ∙ rw (at-unit-count .unit-count .ensures .0, at-number-count .number-count .ensures .0))) (c .if1 .taken)
 
 proper-units-requires : tie.Need-proper-units-requires
 proper-units-requires c κs = search needs
 
 returns-2 : tie.Need-returns-2
 returns-2 c =
-    let at-both = c .before .before .before in
+    let at-proper-units = c .before in
+    let at-if1 = at-proper-units .before in
+    let at-both = at-if1 .before in
     let at-is-limited = at-both .before in
     let at-number-count = at-is-limited .before in
     let at-unit-count = at-number-count .before in
     let at-whole-bytes = at-unit-count .before in
-    let start = at-whole-bytes .before .before .before .before in
-    let a = start .args in
+    let at-start = at-whole-bytes .before .before .before .before in
+    let a = at-start .args in
     stops _ _ (goes _ _ refl (sound-is (a .units .now) (a .clusters .now) (a .glyphs .now))
     (and-of (at-both .both .ensures) (at-whole-bytes .whole-bytes .ensures)
     (at-is-limited .is-limited .ensures ∙ rw (at-unit-count .unit-count .ensures .0, at-number-count .number-count .ensures .0)))
-    (c .before .before .if1 .left)) refl (c .before .proper-units .ensures) (c .if2 .taken)
+    (at-if1 .if1 .left)) refl (at-proper-units .proper-units .ensures) (c .if2 .taken)
 
 well-run-requires : tie.Need-well-run-requires
 well-run-requires c κs = search needs
 
 returns-3 : tie.Need-returns-3
 returns-3 c =
-    let at-if1 = c .before .before .before in
+    let at-if2 = c .before in
+    let at-proper-units = at-if2 .before in
+    let at-if1 = at-proper-units .before in
     let at-both = at-if1 .before in
     let at-is-limited = at-both .before in
     let at-number-count = at-is-limited .before in
     let at-unit-count = at-number-count .before in
     let at-whole-bytes = at-unit-count .before in
-    let start = at-whole-bytes .before .before .before .before in
-    let a = start .args in
+    let at-start = at-whole-bytes .before .before .before .before in
+    let a = at-start .args in
     c .well-run .ensures
     ∙ sym (goes _ _ (goes _ _ refl (sound-is (a .units .now) (a .clusters .now) (a .glyphs .now))
     (and-of (at-both .both .ensures) (at-whole-bytes .whole-bytes .ensures)
     (at-is-limited .is-limited .ensures ∙ rw (at-unit-count .unit-count .ensures .0, at-number-count .number-count .ensures .0))) (at-if1 .if1 .left))
-    refl (c .before .before .proper-units .ensures) (c .before .if2 .left))
+    refl (at-proper-units .proper-units .ensures) (at-if2 .if2 .left))
 
 pub is-sound-spec : {M : Type 1} → statement M
 is-sound-spec =

@@ -46,22 +46,27 @@ turn c =
     }
 
 numbers : (c : tie.After-number-at6 Inv-loop μ-loop)
-    → (let l = c .before .before .before .before .before .before .before .before .before .before .before .before in
-    let a = l .before .before .before .before .before .before .before .args in
-    Numbers (words (a .cs .now)) (l .loop .i) (c .before .number-at5 .result) (c .number-at6 .result))
+    → (let at-number-at5 = c .before in
+    let at-loop = at-number-at5 .before .before .before .before .before .before .before .before .before .before .before in
+    let at-start = at-loop .before .before .before .before .before .before .before in
+    (let a = at-start .args in
+    Numbers (words (a .cs .now)) (at-loop .loop .i) (at-number-at5 .number-at5 .result) (c .number-at6 .result)))
 numbers c =
-    let l = c .before .before .before .before .before .before .before .before .before .before .before .before in
+    let at-number-at5 = c .before in
+    let at-if4 = at-number-at5 .before in
+    let at-number-count = at-if4 .before .before .before .before .before .before .before .before .before .before .before .before in
     record {
-      left = omega (arith, c .before .before .if4 .left, l .before .before .number-count .ensures .0);
-      first = c .before .number-at5 .ensures;
+      left = omega (arith, at-if4 .if4 .left, at-number-count .number-count .ensures .0);
+      first = at-number-at5 .number-at5 .ensures;
       second = c .number-at6 .ensures;
     }
 
 loop-holds : tie.Need-loop-holds Inv-loop μ-loop
 unfolding wellRun wellAt
 loop-holds c =
-    let start = c .before .before .before .before .before .before in
-    (omega arith, omega arith, omega arith, rw (empty-is (halves (start .args .us .now)), ← c .before .before .unit-count .ensures .0))
+    let at-unit-count = c .before .before in
+    let at-start = at-unit-count .before .before .before .before in
+    (omega arith, omega arith, omega arith, rw (empty-is (halves (at-start .args .us .now)), ← at-unit-count .unit-count .ensures .0))
 
 sub-loop : tie.Need-sub-loop Inv-loop μ-loop
 sub-loop c = search needs
@@ -115,7 +120,9 @@ loop-less c = search needs
 
 loop-again : tie.Need-loop-again Inv-loop μ-loop
 loop-again c =
-    let at-if1 = c .before .before .before in
+    let at-if2 = c .before in
+    let at-is-natural = at-if2 .before in
+    let at-if1 = at-is-natural .before in
     let at-glyph-ok = at-if1 .before in
     let at-number-at4 = at-glyph-ok .before in
     let at-loop-test = at-number-at4 .before .before .before .before in
@@ -124,8 +131,8 @@ loop-again c =
       omega (arith, at-loop .loop .inv .0),
       omega (arith, at-loop .loop .inv .1),
       omega (arith, at-loop-test .loop-test .taken),
-      turn-named t (at-glyph-ok .glyph-ok .ensures) (at-if1 .if1 .left) (c .before .before .is-natural .ensures)
-          (c .before .if2 .taken) (c .if3 .left),
+      turn-named t (at-glyph-ok .glyph-ok .ensures) (at-if1 .if1 .left) (at-is-natural .is-natural .ensures)
+          (at-if2 .if2 .taken) (c .if3 .left),
     )
 
 sub-if4 : tie.Need-sub-if4 Inv-loop μ-loop
@@ -133,10 +140,11 @@ sub-if4 c = search needs
 
 returns-3 : tie.Need-returns-3 Inv-loop μ-loop
 returns-3 c =
-    let at-glyph-ok = c .before .before .before .before in
+    let at-if2 = c .before in
+    let at-glyph-ok = at-if2 .before .before .before in
     let at-number-at4 = at-glyph-ok .before in
     let at-number-count = at-number-at4 .before .before .before .before .before .before .before in
-    turn-no-cluster (turn at-number-at4) (at-glyph-ok .glyph-ok .ensures) (omega (arith, c .before .if2 .left))
+    turn-no-cluster (turn at-number-at4) (at-glyph-ok .glyph-ok .ensures) (omega (arith, at-if2 .if2 .left))
     (omega (arith, c .if4 .taken, at-number-count .number-count .ensures .0))
 
 number-at-requires-5 : tie.Need-number-at-requires-5 Inv-loop μ-loop
@@ -216,13 +224,14 @@ less-one-requires c κs = search needs
 
 loop-less-2 : tie.Need-loop-less-2 Inv-loop μ-loop
 loop-less-2 c =
-    let p0 = c .before .before .before .before .before .before .before .before .before .before .before .before in
-    let at-loop-test = p0 .before .before .before .before .before .before .before .before .before .before in
+    let at-loop-test = c .before .before .before .before .before .before .before .before .before .before .before .before .before .before .before .before .before .before .before .before .before .before in
     omega (arith, at-loop-test .loop-test .taken)
 
 loop-again-2 : tie.Need-loop-again-2 Inv-loop μ-loop
 loop-again-2 c =
-    let at-both2 = c .before .before .before in
+    let at-tail-from = c .before in
+    let at-if5 = at-tail-from .before in
+    let at-both2 = at-if5 .before in
     let at-opens-at = at-both2 .before in
     let at-is-font = at-opens-at .before in
     let at-count2 = at-is-font .before in
@@ -246,7 +255,7 @@ loop-again-2 c =
     let w = turn-within t (at-glyph-ok .glyph-ok .ensures) (at-if1 .if1 .left) (at-is-natural .is-natural .ensures) n (omega (arith, at-if2 .if2 .left))
     (at-count .count .ensures .0) (at-count2 .count2 .ensures .0)
     (at-is-font .is-font .ensures) (at-opens-at .opens-at .ensures) (at-is-natural2 .is-natural2 .ensures) (at-is-natural3 .is-natural3 .ensures)
-    (at-both .both .ensures) (at-both2 .both2 .ensures) (c .before .before .if5 .left)
+    (at-both .both .ensures) (at-both2 .both2 .ensures) (at-if5 .if5 .left)
     (omega (arith, at-unit-count .unit-count .ensures .0, l .0)) in (
       omega (arith, w, at-unit-count .unit-count .ensures .0),
       omega (arith, at-if4 .if4 .left),
@@ -254,8 +263,8 @@ loop-again-2 c =
       turn-opened t (at-glyph-ok .glyph-ok .ensures) (at-if1 .if1 .left) (at-is-natural .is-natural .ensures) n (omega (arith, at-if2 .if2 .left))
           (at-count .count .ensures .0) (at-count2 .count2 .ensures .0)
           (at-is-font .is-font .ensures) (at-opens-at .opens-at .ensures) (at-is-natural2 .is-natural2 .ensures) (at-is-natural3 .is-natural3 .ensures)
-          (at-both .both .ensures) (at-both2 .both2 .ensures) (c .before .before .if5 .left)
-          (c .before .tail-from .ensures) (c .less-one .ensures),
+          (at-both .both .ensures) (at-both2 .both2 .ensures) (at-if5 .if5 .left)
+          (at-tail-from .tail-from .ensures) (c .less-one .ensures),
     )
 
 both-requires-3 : tie.Need-both-requires-3 Inv-loop μ-loop
@@ -269,14 +278,16 @@ both-requires-5 c κs = search needs
 
 returns-5 : tie.Need-returns-5 Inv-loop μ-loop
 returns-5 c =
-    let at-loop = c .before .before .before .before in
+    let at-both4 = c .before in
+    let at-both3 = at-both4 .before in
+    let at-loop = at-both3 .before .before in
     let at-number-count2 = at-loop .before in
     let at-number-count = at-number-count2 .before in
     let at-unit-count = at-number-count .before in
-    let start = at-unit-count .before .before .before .before in
-    let us = halves (start .args .us .now) in
-    let cs = words (start .args .cs .now) in
-    let gs = words (start .args .gs .now) in
+    let at-start = at-unit-count .before .before .before .before in
+    let us = halves (at-start .args .us .now) in
+    let cs = words (at-start .args .cs .now) in
+    let gs = words (at-start .args .gs .now) in
     let b = eqb (at-unit-count .unit-count .result) 0 in
     let l = at-loop .loop in
     let e = turn-end b us cs gs (l .tail) (l .lack) (l .at) (l .i) (l .k) (omega (arith, at-number-count2 .number-count2 .ensures .0))
@@ -284,8 +295,8 @@ returns-5 c =
     (omega (arith, at-number-count2 .number-count2 .ensures .0)) in
     rw (
       c .both5 .ensures,
-      c .before .both4 .ensures,
-      c .before .before .both3 .ensures,
+      at-both4 .both4 .ensures,
+      at-both3 .both3 .ensures,
       at-unit-count .unit-count .ensures .0,
       at-number-count .number-count .ensures .0,
       at-number-count2 .number-count2 .ensures .0,

@@ -36,8 +36,11 @@ loop-less c = search needs
 
 loop-again : tie.Need-loop-again Inv-loop μ-loop
 loop-again c =
-    let g = char-plain _ _ (sym (c .before .is-within .ensures) ∙ c .if1 .taken) in
-    counting-next (c .before .before .before .before .loop .inv) (c .before .before .before .loop-test .taken) g
+    let at-is-within = c .before in
+    let at-loop-test = at-is-within .before .before in
+    let at-loop = at-loop-test .before in
+    let g = char-plain _ _ (sym (at-is-within .is-within .ensures) ∙ c .if1 .taken) in
+    counting-next (at-loop .loop .inv) (at-loop-test .loop-test .taken) g
 
 char-at-requires : tie.Need-char-at-requires Inv-loop μ-loop
 char-at-requires c κs = search needs
@@ -53,35 +56,39 @@ add-n-2 c =
 
 loop-less-2 : tie.Need-loop-less-2 Inv-loop μ-loop
 loop-less-2 c =
-    let at-char-at = c .before .before .before in
+    let at-next = c .before in
+    let at-char-at = at-next .before .before in
     let at-loop-test = at-char-at .before .before .before .before in
-    let d = char-inside _ _ _ _ (at-loop-test .loop-test .taken) (sym (at-char-at .char-at .ensures) ∙ c .before .next .given .1) in omega
+    let d = char-inside _ _ _ _ (at-loop-test .loop-test .taken) (sym (at-char-at .char-at .ensures) ∙ at-next .next .given .1) in omega
     (arith, d, at-loop-test .loop-test .taken)
 
 loop-again-2 : tie.Need-loop-again-2 Inv-loop μ-loop
 loop-again-2 c =
-    let at-char-at = c .before .before .before in
+    let at-next = c .before in
+    let at-char-at = at-next .before .before in
     let at-loop-test = at-char-at .before .before .before .before in
     let at-loop = at-loop-test .before in
-    counting-next (at-loop .loop .inv) (at-loop-test .loop-test .taken) (sym (at-char-at .char-at .ensures) ∙ c .before .next .given .1)
+    counting-next (at-loop .loop .inv) (at-loop-test .loop-test .taken) (sym (at-char-at .char-at .ensures) ∙ at-next .next .given .1)
 
 enum-told : tie.Need-enum-told Inv-loop μ-loop
 enum-told c = search needs
 
 returns : tie.Need-returns Inv-loop μ-loop
 returns c =
-    let at-loop-test = c .before .before .before .before .before .before in
+    let at-char-at = c .before .before in
+    let at-loop-test = at-char-at .before .before .before .before in
     let at-loop = at-loop-test .before in
-    no-ill _ _ _ (at-loop .loop .inv .here) (at-loop-test .loop-test .taken) (sym (c .before .before .char-at .ensures) ∙ c .enum-told .given .1)
+    no-ill _ _ _ (at-loop .loop .inv .here) (at-loop-test .loop-test .taken) (sym (at-char-at .char-at .ensures) ∙ c .enum-told .given .1)
 
 enum-told-2 : tie.Need-enum-told-2 Inv-loop μ-loop
 enum-told-2 c = search needs
 
 returns-2 : tie.Need-returns-2 Inv-loop μ-loop
 returns-2 c =
-    let at-loop-test = c .before .before .before .before .before .before in
+    let at-char-at = c .before .before in
+    let at-loop-test = at-char-at .before .before .before .before in
     let at-loop = at-loop-test .before in
-    no-outside _ _ _ (at-loop .loop .inv .here) (at-loop-test .loop-test .taken) (sym (c .before .before .char-at .ensures) ∙ c .enum-told2 .given .1)
+    no-outside _ _ _ (at-loop .loop .inv .here) (at-loop-test .loop-test .taken) (sym (at-char-at .char-at .ensures) ∙ c .enum-told2 .given .1)
 
 returns-3 : tie.Need-returns-3 Inv-loop μ-loop
 returns-3 c = counting-end (c .before .loop .inv) (c .loop-test .left)

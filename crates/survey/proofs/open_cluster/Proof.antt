@@ -14,8 +14,11 @@ enum-known-byte c = search needs
 
 advance-requires : tie.Need-advance-requires
 advance-requires c κs =
-    let a = c .before .before .before .before .before in
-    let f = moves-fit (a .args .text .now) (a .args .c) (a .args .units) 0 0 _ _ (c .before .before .before .move-past .ensures) (c .before .byte .given .1) in omega (arith, f)
+    let at-byte = c .before in
+    let at-move-past = at-byte .before .before in
+    let at-start = at-move-past .before .before in
+    let f = moves-fit (at-start .args .text .now) (at-start .args .c) (at-start .args .units) 0 0 _ _ (at-move-past .move-past .ensures)
+    (at-byte .byte .given .1) in omega (arith, f)
 
 enum-told : tie.Need-enum-told
 enum-told c = search needs
@@ -28,20 +31,36 @@ enum-told-2 c = search needs
 
 add-stopped : tie.Need-add-stopped
 add-stopped c =
-    let a = c .before .before .before .before .before in
-    let f = half-fit (a .args .text .now) (a .args .c) (a .args .units) 0 0 _ (c .before .before .before .move-past .ensures) (c .before .enum-told2 .given .1) in record { fits = omega (arith, f) }
+    let at-enum-told2 = c .before in
+    let at-move-past = at-enum-told2 .before .before in
+    let at-start = at-move-past .before .before in
+    let f = half-fit (at-start .args .text .now) (at-start .args .c) (at-start .args .units) 0 0 _ (at-move-past .move-past .ensures)
+    (at-enum-told2 .enum-told2 .given .1) in record { fits = omega (arith, f) }
 
 stopped-requires-2 : tie.Need-stopped-requires-2
 stopped-requires-2 c κs = search needs
 
 returns : tie.Need-returns
-returns c = (opens-to _ _ _ _ _ _ _ _ _ (c .before .before .before .before .move-past .ensures) (c .before .before .byte .given .1) (c .advance .ensures), refl)
+returns c =
+    let at-byte = c .before .before in
+    let at-move-past = at-byte .before .before in
+    (opens-to _ _ _ _ _ _ _ _ _ (at-move-past .move-past .ensures) (at-byte .byte .given .1) (c .advance .ensures), refl)
 
 returns-2 : tie.Need-returns-2
-returns-2 c = (opens-past _ _ _ _ _ _ _ (c .before .before .before .move-past .ensures) (c .before .enum-told .given .1) (c .stopped .ensures), stopped-carries _ _ _ (c .stopped .ensures))
+returns-2 c =
+    let at-enum-told = c .before in
+    let at-move-past = at-enum-told .before .before in (
+      opens-past _ _ _ _ _ _ _ (at-move-past .move-past .ensures) (at-enum-told .enum-told .given .1) (c .stopped .ensures),
+      stopped-carries _ _ _ (c .stopped .ensures),
+    )
 
 returns-3 : tie.Need-returns-3
-returns-3 c = (opens-half _ _ _ _ _ _ _ (c .before .before .before .before .move-past .ensures) (c .before .before .enum-told2 .given .1) (c .stopped2 .ensures), stopped-carries _ _ _ (c .stopped2 .ensures))
+returns-3 c =
+    let at-enum-told2 = c .before .before in
+    let at-move-past = at-enum-told2 .before .before in (
+      opens-half _ _ _ _ _ _ _ (at-move-past .move-past .ensures) (at-enum-told2 .enum-told2 .given .1) (c .stopped2 .ensures),
+      stopped-carries _ _ _ (c .stopped2 .ensures),
+    )
 
 pub open-cluster-spec : {M : Type 1} → statement M
 open-cluster-spec =

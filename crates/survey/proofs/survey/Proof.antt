@@ -11,16 +11,20 @@ refused-requires c κs = search needs
 
 returns : tie.Need-returns
 returns c =
-    let a = c .before .before .before .before .args in
-    refuses (a .text .now) (a .indices .now) _ (c .refused .ensures) (text-long (a .text .now) (a .indices .now) (c .before .if1 .taken))
+    let at-if1 = c .before in
+    let at-start = at-if1 .before .before .before in
+    let a = at-start .args in
+    refuses (a .text .now) (a .indices .now) _ (c .refused .ensures) (text-long (a .text .now) (a .indices .now) (at-if1 .if1 .taken))
 
 refused-requires-2 : tie.Need-refused-requires-2
 refused-requires-2 c κs = search needs
 
 returns-2 : tie.Need-returns-2
 returns-2 c =
-    let a = c .before .before .before .before .before .args in
-    refuses (a .text .now) (a .indices .now) _ (c .refused2 .ensures) (indices-long (a .text .now) (a .indices .now) (c .before .if2 .taken))
+    let at-if2 = c .before in
+    let at-start = at-if2 .before .before .before .before in
+    let a = at-start .args in
+    refuses (a .text .now) (a .indices .now) _ (c .refused2 .ensures) (indices-long (a .text .now) (a .indices .now) (at-if2 .if2 .taken))
 
 survey-text-requires : tie.Need-survey-text-requires
 survey-text-requires c κs = search needs
@@ -42,23 +46,25 @@ refused-requires-3 c κs = search needs
 
 returns-3 : tie.Need-returns-3
 returns-3 c =
-    let at-survey-text = c .before .before .before .before in
+    let at-t = c .before .before in
+    let at-survey-text = at-t .before .before in
     let at-if2 = at-survey-text .before in
     let at-if1 = at-if2 .before in
-    let start = at-if1 .before .before .before in
-    let x = text-units _ _ _ (at-survey-text .survey-text .ensures) (c .before .before .t .given .1) in
-    let a = start .args in
+    let at-start = at-if1 .before .before .before in
+    let x = text-units _ _ _ (at-survey-text .survey-text .ensures) (at-t .t .given .1) in
+    let a = at-start .args in
     let o = c .survey-run .ensures .0 ∙ read-units _ _ (at-if1 .if1 .left) (at-if2 .if2 .left) _ _ x in
     judges (a .text .now) (a .indices .now) (c .survey-run .result) o (c .survey-run .ensures .1) (x .start)
 
 returns-4 : tie.Need-returns-4
 returns-4 c =
-    let at-survey-text = c .before .before .before .before in
+    let at-r = c .before .before in
+    let at-survey-text = at-r .before .before in
     let at-if2 = at-survey-text .before in
     let at-if1 = at-if2 .before in
-    let start = at-if1 .before .before .before in
-    let a = start .args in
-    let o = text-refused _ _ (at-if1 .if1 .left) (at-if2 .if2 .left) _ _ (at-survey-text .survey-text .ensures) (c .before .before .r .given .1) in
+    let at-start = at-if1 .before .before .before in
+    let a = at-start .args in
+    let o = text-refused _ _ (at-if1 .if1 .left) (at-if2 .if2 .left) _ _ (at-survey-text .survey-text .ensures) (at-r .r .given .1) in
     refuses (a .text .now) (a .indices .now) _ (c .refused3 .ensures) o
 
 pub survey-spec : {M : Type 1} → statement M

@@ -27,7 +27,8 @@ both-requires-2 c κs = search needs
 
 add-advance : tie.Need-add-advance
 add-advance c =
-    let q = plain-is (c .before .before .before .before .before .opens-here .result) (c .before .before .before .before .is-plain .result) (c .before .before .is-index .result) (c .before .before .before .both .ensures) (c .before .both2 .ensures) (c .if1 .taken) in
+    let q = plain-is (c .before .before .before .before .before .opens-here .result) (c .before .before .before .before .is-plain .result)
+    (c .before .before .is-index .result) (c .before .before .before .both .ensures) (c .before .both2 .ensures) (c .if1 .taken) in
     let m = c .before .before .before .before .is-plain .ensures .1 (q .1) in record { fits = omega (arith, m .0) }
 
 add-advance-2 : tie.Need-add-advance-2
@@ -38,19 +39,34 @@ add-advance-3 c = search needs
 
 advance-requires : tie.Need-advance-requires
 advance-requires c κs =
-    let a = c .before .before .before .before .before .before .before .before .before .before in
-    let q = plain-is (c .before .before .before .before .before .before .opens-here .result) (c .before .before .before .before .before .is-plain .result) (c .before .before .before .is-index .result) (c .before .before .before .before .both .ensures) (c .before .before .both2 .ensures) (c .before .if1 .taken) in
-    let m = c .before .before .before .before .before .is-plain .ensures .1 (q .1) in
-    let n = moves-fit (a .args .text .now) (a .args .c) 1 0 0 _ _ (m .1) refl in
-    (omega (arith, a .pre .1 .1, a .pre .1 .3, a .pre .1 .4), omega (arith, n, a .pre .1 .0), a .pre .1 .2)
+    let at-if1 = c .before in
+    let at-both2 = at-if1 .before in
+    let at-is-index = at-both2 .before in
+    let at-both = at-is-index .before in
+    let at-is-plain = at-both .before in
+    let at-opens-here = at-is-plain .before in
+    let at-start = at-opens-here .before .before .before .before in
+    let q = plain-is (at-opens-here .opens-here .result) (at-is-plain .is-plain .result) (at-is-index .is-index .result) (at-both .both .ensures)
+    (at-both2 .both2 .ensures) (at-if1 .if1 .taken) in
+    let m = at-is-plain .is-plain .ensures .1 (q .1) in
+    let n = moves-fit (at-start .args .text .now) (at-start .args .c) 1 0 0 _ _ (m .1) refl in
+    (omega (arith, at-start .pre .1 .1, at-start .pre .1 .3, at-start .pre .1 .4), omega (arith, n, at-start .pre .1 .0), at-start .pre .1 .2)
 
 returns : tie.Need-returns
 returns c =
-    let a = c .before .before .before .before .before .before .before .before .before .before .before in
-    let q = plain-is (c .before .before .before .before .before .before .before .opens-here .result) (c .before .before .before .before .before .before .is-plain .result) (c .before .before .before .before .is-index .result) (c .before .before .before .before .before .both .ensures) (c .before .before .before .both2 .ensures) (c .before .before .if1 .taken) in
-    let m = c .before .before .before .before .before .before .is-plain .ensures .1 (q .1) in
-    let i = c .before .before .before .before .is-index .ensures .1 (q .2) in
-    steps-read _ _ _ _ _ _ (i .1 (a .args .c .entry)) (turn-plain _ _ _ _ _ (sym (c .before .before .before .before .before .before .before .opens-here .ensures) ∙ q .0) (m .1) (c .advance .ensures)) refl
+    let at-if1 = c .before .before in
+    let at-both2 = at-if1 .before in
+    let at-is-index = at-both2 .before in
+    let at-both = at-is-index .before in
+    let at-is-plain = at-both .before in
+    let at-opens-here = at-is-plain .before in
+    let at-start = at-opens-here .before .before .before .before in
+    let q = plain-is (at-opens-here .opens-here .result) (at-is-plain .is-plain .result) (at-is-index .is-index .result) (at-both .both .ensures)
+    (at-both2 .both2 .ensures) (at-if1 .if1 .taken) in
+    let m = at-is-plain .is-plain .ensures .1 (q .1) in
+    let i = at-is-index .is-index .ensures .1 (q .2) in
+    steps-read _ _ _ _ _ _ (i .1 (at-start .args .c .entry)) (turn-plain _ _ _ _ _ (sym (at-opens-here .opens-here .ensures) ∙ q .0) (m .1)
+    (c .advance .ensures)) refl
 
 sub-read-entry : tie.Need-sub-read-entry
 sub-read-entry c = search needs
@@ -63,31 +79,46 @@ part-read-entry-end c = search needs
 
 read-entry-requires : tie.Need-read-entry-requires
 read-entry-requires c κs =
-    let a = c .before .before .before .before .before .before .before .before .before .before in
-    let d = c .before .before .before .before .before .before .before .digits-at in digits-here (a .args .indices .now) (a .args .c .place) (d .result) (d .ensures .0) (d .ensures .1 .0)
+    let at-digits-at = c .before .before .before .before .before .before .before in
+    let at-start = at-digits-at .before .before .before in
+    let d = at-digits-at .digits-at in digits-here (at-start .args .indices .now) (at-start .args .c .place) (d .result) (d .ensures .0) (d .ensures .1 .0)
 
 enum-known-x : tie.Need-enum-known-x
 enum-known-x c = search needs
 
 take-entry-requires : tie.Need-take-entry-requires
 take-entry-requires c κs =
-    let a = c .before .before .before .before .before .before .before .before .before .before .before .before .before .before in
-    let h = read-here (a .args .indices .now) (a .args .c) _ (c .before .before .before .read-entry .ensures) _ (c .before .x .given .1) in
-    let i = read-inside (a .args .indices .now) (a .args .c) _ h (a .pre .1 .3) in
-    (a .pre .0, (a .pre .1 .0, omega (arith, a .pre .1 .1, a .pre .1 .3, a .pre .1 .4), a .pre .1 .2, omega (arith, i, a .pre .1 .4)))
+    let at-x = c .before in
+    let at-read-entry = at-x .before .before in
+    let at-start = at-read-entry .before .before .before .before .before .before .before .before .before .before .before in
+    let h = read-here (at-start .args .indices .now) (at-start .args .c) _ (at-read-entry .read-entry .ensures) _ (at-x .x .given .1) in
+    let i = read-inside (at-start .args .indices .now) (at-start .args .c) _ h (at-start .pre .1 .3) in (
+      at-start .pre .0,
+      (
+        at-start .pre .1 .0,
+        omega (arith, at-start .pre .1 .1, at-start .pre .1 .3, at-start .pre .1 .4),
+        at-start .pre .1 .2,
+        omega (arith, i, at-start .pre .1 .4),
+      ),
+    )
 
 enum-known-r : tie.Need-enum-known-r
 enum-known-r c = search needs
 
 returns-2 : tie.Need-returns-2
 returns-2 c =
-    let a = c .before .before .before .before .before .before .before .before .before .before .before .before .before .before .before in
-    steps-read _ _ _ _ _ _ (read-here (a .args .indices .now) (a .args .c) _ (c .before .before .before .before .read-entry .ensures) _ (c .before .before .x .given .1)) (c .take-entry .ensures .0) (c .take-entry .ensures .1)
+    let at-x = c .before .before in
+    let at-read-entry = at-x .before .before in
+    let at-start = at-read-entry .before .before .before .before .before .before .before .before .before .before .before in
+    steps-read _ _ _ _ _ _ (read-here (at-start .args .indices .now) (at-start .args .c) _ (at-read-entry .read-entry .ensures) _ (at-x .x .given .1))
+    (c .take-entry .ensures .0) (c .take-entry .ensures .1)
 
 returns-3 : tie.Need-returns-3
 returns-3 c =
-    let a = c .before .before .before .before .before .before .before .before .before .before .before .before .before .before in
-    steps-refused _ _ _ _ _ (read-here (a .args .indices .now) (a .args .c) _ (c .before .before .before .read-entry .ensures) _ (c .before .r .given .1))
+    let at-r = c .before in
+    let at-read-entry = at-r .before .before in
+    let at-start = at-read-entry .before .before .before .before .before .before .before .before .before .before .before in
+    steps-refused _ _ _ _ _ (read-here (at-start .args .indices .now) (at-start .args .c) _ (at-read-entry .read-entry .ensures) _ (at-r .r .given .1))
 
 pub survey-entry-spec : {M : Type 1} → statement M
 survey-entry-spec =

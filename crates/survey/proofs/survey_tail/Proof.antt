@@ -15,7 +15,9 @@ add-limit : tie.Need-add-limit
 add-limit c = omega (arith, tail-few (unitsFrom (c .before .before .before .args .text .now) (c .before .before .before .args .c .byte)))
 
 add-limit-2 : tie.Need-add-limit-2
-add-limit-2 c = omega (arith, tail-few (unitsFrom (c .before .before .before .before .args .text .now) (c .before .before .before .before .args .c .byte)))
+add-limit-2 c =
+    let at-start = c .before .before .before .before in
+    omega (arith, tail-few (unitsFrom (at-start .args .text .now) (at-start .args .c .byte)))
 
 limit-requires : tie.Need-limit-requires
 limit-requires c κs = search needs

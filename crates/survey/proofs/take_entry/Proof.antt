@@ -14,7 +14,10 @@ stopped-requires : tie.Need-stopped-requires
 stopped-requires c κs = search needs
 
 returns : tie.Need-returns
-returns c = (turn-ten _ _ _ _ _ (c .stopped .ensures) (sym (c .before .before .both .ensures) ∙ not-true _ (c .before .if1 .taken)), stopped-carries _ _ _ (c .stopped .ensures))
+returns c =
+    let at-if1 = c .before in
+    let at-both = at-if1 .before in
+    (turn-ten _ _ _ _ _ (c .stopped .ensures) (sym (at-both .both .ensures) ∙ not-true _ (at-if1 .if1 .taken)), stopped-carries _ _ _ (c .stopped .ensures))
 
 opens-here-requires : tie.Need-opens-here-requires
 opens-here-requires c κs = search needs
@@ -33,8 +36,20 @@ stopped-requires-2 c κs = search needs
 
 returns-2 : tie.Need-returns-2
 returns-2 c =
-    let allowed = allowed-is _ _ _ _ _ (not (c .before .before .before .before .before .before .before .before .before .before .before .before .before .args .x .mapped)) _ (c .before .before .either .ensures) (c .before .before .before .before .before .before .before .opens-here .ensures) (c .before .before .before .both2 .ensures) (c .before .before .before .before .is-named .ensures) in
-    (turn-eleven _ _ _ _ _ (c .stopped2 .ensures) (sym (c .before .before .before .before .before .before .before .before .before .both .ensures) ∙ not-false _ (c .before .before .before .before .before .before .before .before .if1 .left)) (sym allowed ∙ not-true _ (c .before .if2 .taken)), stopped-carries _ _ _ (c .stopped2 .ensures))
+    let at-if2 = c .before in
+    let at-either = at-if2 .before in
+    let at-both2 = at-either .before in
+    let at-is-named = at-both2 .before in
+    let at-opens-here = at-is-named .before .before .before in
+    let at-if1 = at-opens-here .before in
+    let at-both = at-if1 .before in
+    let at-start = at-both .before .before .before .before in
+    let allowed = allowed-is _ _ _ _ _ (not (at-start .args .x .mapped)) _ (at-either .either .ensures) (at-opens-here .opens-here .ensures)
+    (at-both2 .both2 .ensures) (at-is-named .is-named .ensures) in (
+      turn-eleven _ _ _ _ _ (c .stopped2 .ensures) (sym (at-both .both .ensures) ∙ not-false _ (at-if1 .if1 .left))
+          (sym allowed ∙ not-true _ (at-if2 .if2 .taken)),
+      stopped-carries _ _ _ (c .stopped2 .ensures),
+    )
 
 add-place : tie.Need-add-place
 add-place c = search needs
@@ -44,20 +59,40 @@ add-place-2 c = search needs
 
 open-cluster-requires : tie.Need-open-cluster-requires
 open-cluster-requires c κs =
-    let a = c .before .before .before .before .before .before .before .before .before .before .before .before .before .before .before in
-    (a .pre .0, (a .pre .1 .0, a .pre .1 .1, a .pre .1 .2))
+    let at-start = c .before .before .before .before .before .before .before .before .before .before .before .before .before .before .before in
+    (at-start .pre .0, (at-start .pre .1 .0, at-start .pre .1 .1, at-start .pre .1 .2))
 
 returns-3 : tie.Need-returns-3
 returns-3 c =
-    (turn-opens _ _ _ _ _ (c .open-cluster .ensures .0) (sym (c .before .before .before .before .before .before .before .before .before .before .before .before .both .ensures) ∙ not-false _ (c .before .before .before .before .before .before .before .before .before .before .before .if1 .left)) (sym (c .before .before .before .before .before .before .before .before .before .before .opens-here .ensures) ∙ c .before .if3 .taken), c .open-cluster .ensures .1)
+    let at-if3 = c .before in
+    let at-opens-here = at-if3 .before .before .before .before .before .before .before .before .before in
+    let at-if1 = at-opens-here .before in
+    let at-both = at-if1 .before in (
+      turn-opens _ _ _ _ _ (c .open-cluster .ensures .0) (sym (at-both .both .ensures) ∙ not-false _ (at-if1 .if1 .left))
+          (sym (at-opens-here .opens-here .ensures) ∙ at-if3 .if3 .taken),
+      c .open-cluster .ensures .1,
+    )
 
 advance-requires : tie.Need-advance-requires
 advance-requires c κs = search needs
 
 returns-4 : tie.Need-returns-4
 returns-4 c =
-    let allowed = allowed-is _ _ _ _ _ (not (c .before .before .before .before .before .before .before .before .before .before .before .before .before .before .before .before .args .x .mapped)) _ (c .before .before .before .before .before .either .ensures) (c .before .before .before .before .before .before .before .before .before .before .opens-here .ensures) (c .before .before .before .before .before .before .both2 .ensures) (c .before .before .before .before .before .before .before .is-named .ensures) in
-    (turn-further _ _ _ _ _ _ (c .advance .ensures) (c .before .before .before .before .before .before .before .before .before .before .before .before .before .before .before .before .pre .0) (sym (c .before .before .before .before .before .before .before .before .before .before .before .before .both .ensures) ∙ not-false _ (c .before .before .before .before .before .before .before .before .before .before .before .if1 .left)) (sym allowed ∙ not-false _ (c .before .before .before .before .if2 .left)) (sym (c .before .before .before .before .before .before .before .before .before .before .opens-here .ensures) ∙ c .before .if3 .left), refl)
+    let at-if3 = c .before in
+    let at-if2 = at-if3 .before .before .before in
+    let at-either = at-if2 .before in
+    let at-both2 = at-either .before in
+    let at-is-named = at-both2 .before in
+    let at-opens-here = at-is-named .before .before .before in
+    let at-if1 = at-opens-here .before in
+    let at-both = at-if1 .before in
+    let at-start = at-both .before .before .before .before in
+    let allowed = allowed-is _ _ _ _ _ (not (at-start .args .x .mapped)) _ (at-either .either .ensures) (at-opens-here .opens-here .ensures)
+    (at-both2 .both2 .ensures) (at-is-named .is-named .ensures) in (
+      turn-further _ _ _ _ _ _ (c .advance .ensures) (at-start .pre .0) (sym (at-both .both .ensures) ∙ not-false _ (at-if1 .if1 .left))
+          (sym allowed ∙ not-false _ (at-if2 .if2 .left)) (sym (at-opens-here .opens-here .ensures) ∙ at-if3 .if3 .left),
+      refl,
+    )
 
 pub take-entry-spec : {M : Type 1} → statement M
 take-entry-spec =

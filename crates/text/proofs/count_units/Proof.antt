@@ -35,8 +35,11 @@ loop-less c = search needs
 
 loop-again : tie.Need-loop-again Inv-loop μ-loop
 loop-again c =
-    let w = sym (c .before .is-within .ensures) ∙ c .if1 .taken in
-    (search needs, search needs, reached-next _ _ _ _ _ _ (c .before .before .before .loop-test .taken) (c .before .before .before .before .loop .inv .2) (char-plain _ _ w) (plain-one _ w))
+    let at-is-within = c .before in
+    let at-loop-test = at-is-within .before .before in
+    let at-loop = at-loop-test .before in
+    let w = sym (at-is-within .is-within .ensures) ∙ c .if1 .taken in
+    (search needs, search needs, reached-next _ _ _ _ _ _ (at-loop-test .loop-test .taken) (at-loop .loop .inv .2) (char-plain _ _ w) (plain-one _ w))
 
 char-at-requires : tie.Need-char-at-requires Inv-loop μ-loop
 char-at-requires c κs = search needs
@@ -52,25 +55,40 @@ add-n-2 c = search needs
 
 loop-less-2 : tie.Need-loop-less-2 Inv-loop μ-loop
 loop-less-2 c =
-    let d = char-inside _ _ _ _ (c .before .before .before .before .before .before .before .before .loop-test .taken) (sym (c .before .before .before .before .char-at .ensures) ∙ c .before .before .code .given .1) in omega (arith, d)
+    let at-code = c .before .before in
+    let at-char-at = at-code .before .before in
+    let at-loop-test = at-char-at .before .before .before .before in
+    let d = char-inside _ _ _ _ (at-loop-test .loop-test .taken) (sym (at-char-at .char-at .ensures) ∙ at-code .code .given .1) in omega (arith, d)
 
 loop-again-2 : tie.Need-loop-again-2 Inv-loop μ-loop
 loop-again-2 c =
-    let g = sym (c .before .before .before .before .char-at .ensures) ∙ c .before .before .code .given .1 in
-    let d = char-inside _ _ _ _ (c .before .before .before .before .before .before .before .before .loop-test .taken) g in
-    (d .1, omega (arith, d), reached-next _ _ _ _ _ _ (c .before .before .before .before .before .before .before .before .loop-test .taken) (c .before .before .before .before .before .before .before .before .before .loop .inv .2) g (c .unit-count .ensures .0))
+    let at-code = c .before .before in
+    let at-char-at = at-code .before .before in
+    let at-loop-test = at-char-at .before .before .before .before in
+    let at-loop = at-loop-test .before in
+    let g = sym (at-char-at .char-at .ensures) ∙ at-code .code .given .1 in
+    let d = char-inside _ _ _ _ (at-loop-test .loop-test .taken) g in
+    (d .1, omega (arith, d), reached-next _ _ _ _ _ _ (at-loop-test .loop-test .taken) (at-loop .loop .inv .2) g (c .unit-count .ensures .0))
 
 enum-told : tie.Need-enum-told Inv-loop μ-loop
 enum-told c = search needs
 
 returns : tie.Need-returns Inv-loop μ-loop
-returns c = reached-ill _ _ _ (c .before .before .before .before .before .before .loop-test .taken) (c .before .before .before .before .before .before .before .loop .inv .2) (sym (c .before .before .char-at .ensures) ∙ c .enum-told .given .1)
+returns c =
+    let at-char-at = c .before .before in
+    let at-loop-test = at-char-at .before .before .before .before in
+    let at-loop = at-loop-test .before in
+    reached-ill _ _ _ (at-loop-test .loop-test .taken) (at-loop .loop .inv .2) (sym (at-char-at .char-at .ensures) ∙ c .enum-told .given .1)
 
 enum-told-2 : tie.Need-enum-told-2 Inv-loop μ-loop
 enum-told-2 c = search needs
 
 returns-2 : tie.Need-returns-2 Inv-loop μ-loop
-returns-2 c = reached-outside _ _ _ (c .before .before .before .before .before .before .loop-test .taken) (c .before .before .before .before .before .before .before .loop .inv .2) (sym (c .before .before .char-at .ensures) ∙ c .enum-told2 .given .1)
+returns-2 c =
+    let at-char-at = c .before .before in
+    let at-loop-test = at-char-at .before .before .before .before in
+    let at-loop = at-loop-test .before in
+    reached-outside _ _ _ (at-loop-test .loop-test .taken) (at-loop .loop .inv .2) (sym (at-char-at .char-at .ensures) ∙ c .enum-told2 .given .1)
 
 returns-3 : tie.Need-returns-3 Inv-loop μ-loop
 returns-3 c = reached-end _ _ _ (c .loop-test .left) (c .before .loop .inv .2)

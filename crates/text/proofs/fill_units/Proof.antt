@@ -65,12 +65,13 @@ enum-known-code c = search needs
 
 put-char-requires-2 : tie.Need-put-char-requires-2 Inv-loop μ-loop
 put-char-requires-2 c κs =
-    let at-char-at = c .before .before .before .before in
+    let at-code = c .before .before in
+    let at-char-at = at-code .before .before in
     let at-loop-test = at-char-at .before .before .before .before in
     let at-loop = at-loop-test .before in
-    let start = at-loop .before .before .before in
-    let g = sym (at-char-at .char-at .ensures) ∙ c .before .before .code .given .1 in
-    fill-room (at-loop .loop .inv) (at-loop-test .loop-test .taken) g (start .pre .1)
+    let at-start = at-loop .before .before .before in
+    let g = sym (at-char-at .char-at .ensures) ∙ at-code .code .given .1 in
+    fill-room (at-loop .loop .inv) (at-loop-test .loop-test .taken) g (at-start .pre .1)
 
 loop-less-2 : tie.Need-loop-less-2 Inv-loop μ-loop
 loop-less-2 c =
@@ -82,42 +83,52 @@ loop-less-2 c =
 
 loop-again-2 : tie.Need-loop-again-2 Inv-loop μ-loop
 loop-again-2 c =
-    let at-code = c .before .before .before .before .before in
+    let at-put-char2 = c .before .before in
+    let at-code = at-put-char2 .before .before .before in
     let at-char-at = at-code .before .before in
     let at-loop-test = at-char-at .before .before .before .before in
     let at-loop = at-loop-test .before in
     fill-next (at-loop .loop .inv) (at-loop-test .loop-test .taken) (sym (at-char-at .char-at .ensures) ∙ at-code .code .given .1)
-    (c .before .before .put-char2 .ensures)
+    (at-put-char2 .put-char2 .ensures)
 
 enum-told : tie.Need-enum-told Inv-loop μ-loop
 enum-told c = search needs
 
 same-length : tie.Need-same-length Inv-loop μ-loop
-same-length c = c .before .before .before .before .before .before .before .loop .inv .same
+same-length c =
+    let at-loop = c .before .before .before .before .before .before .before in
+    at-loop .loop .inv .same
 
 returns : tie.Need-returns Inv-loop μ-loop
 returns c =
-    let at-loop-test = c .before .before .before .before .before .before in
+    let at-char-at = c .before .before in
+    let at-loop-test = at-char-at .before .before .before .before in
     let at-loop = at-loop-test .before in
-    no-ill _ _ _ (at-loop .loop .inv .here) (at-loop-test .loop-test .taken) (sym (c .before .before .char-at .ensures) ∙ c .enum-told .given .1)
+    no-ill _ _ _ (at-loop .loop .inv .here) (at-loop-test .loop-test .taken) (sym (at-char-at .char-at .ensures) ∙ c .enum-told .given .1)
 
 enum-told-2 : tie.Need-enum-told-2 Inv-loop μ-loop
 enum-told-2 c = search needs
 
 same-length-2 : tie.Need-same-length-2 Inv-loop μ-loop
-same-length-2 c = c .before .before .before .before .before .before .before .loop .inv .same
+same-length-2 c =
+    let at-loop = c .before .before .before .before .before .before .before in
+    at-loop .loop .inv .same
 
 returns-2 : tie.Need-returns-2 Inv-loop μ-loop
 returns-2 c =
-    let at-loop-test = c .before .before .before .before .before .before in
+    let at-char-at = c .before .before in
+    let at-loop-test = at-char-at .before .before .before .before in
     let at-loop = at-loop-test .before in
-    no-outside _ _ _ (at-loop .loop .inv .here) (at-loop-test .loop-test .taken) (sym (c .before .before .char-at .ensures) ∙ c .enum-told2 .given .1)
+    no-outside _ _ _ (at-loop .loop .inv .here) (at-loop-test .loop-test .taken) (sym (at-char-at .char-at .ensures) ∙ c .enum-told2 .given .1)
 
 same-length-3 : tie.Need-same-length-3 Inv-loop μ-loop
 same-length-3 c = c .before .loop .inv .same
 
 returns-3 : tie.Need-returns-3 Inv-loop μ-loop
-returns-3 c = fill-end (c .before .loop .inv) (c .loop-test .left) (c .before .before .before .before .pre .1)
+returns-3 c =
+    let at-loop = c .before in
+    let at-start = at-loop .before .before .before in
+    fill-end (at-loop .loop .inv) (c .loop-test .left) (at-start .pre .1)
 
 pub fill-units-spec : {M : Type 1} → statement M
 fill-units-spec =

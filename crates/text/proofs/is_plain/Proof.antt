@@ -19,9 +19,12 @@ is-within-requires c κs = search needs
 
 returns-2 : tie.Need-returns-2
 returns-2 c =
-    let g = c .before .before .before .before in
-    let l = c .before .before .if1 .left in
-    (rw (lt-ltb _ _ l) (c .is-within .ensures), λ h. (l, left-plain (g .args .s .now) (g .args .at) (g .pre) l (sym (c .is-within .ensures) ∙ h)))
+    let at-if1 = c .before .before in
+    let at-start = at-if1 .before .before in
+    let l = at-if1 .if1 .left in (
+      rw (lt-ltb _ _ l) (c .is-within .ensures),
+      λ h. (l, left-plain (at-start .args .s .now) (at-start .args .at) (at-start .pre) l (sym (c .is-within .ensures) ∙ h)),
+    )
 
 pub is-plain-spec : {M : Type 1} → statement M
 is-plain-spec = tie.close (tie.spec returns shared-slice-read-is-within is-within-requires returns-2)

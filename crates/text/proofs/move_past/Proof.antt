@@ -39,8 +39,11 @@ loop-less c = search needs
 
 loop-again : tie.Need-loop-again Inv-loop μ-loop
 loop-again c =
-    let w = sym (c .before .is-within .ensures) ∙ c .if2 .taken in
-    left-next _ _ _ _ _ _ _ _ (c .before .before .before .before .before .loop .inv) (c .before .before .before .if1 .left) (char-plain _ _ w) (plain-one _ w) (search needs)
+    let at-is-within = c .before in
+    let at-if1 = at-is-within .before .before in
+    let at-loop = at-if1 .before .before in
+    let w = sym (at-is-within .is-within .ensures) ∙ c .if2 .taken in
+    left-next _ _ _ _ _ _ _ _ (at-loop .loop .inv) (at-if1 .if1 .left) (char-plain _ _ w) (plain-one _ w) (search needs)
 
 char-at-requires : tie.Need-char-at-requires Inv-loop μ-loop
 char-at-requires c κs = search needs
@@ -52,26 +55,52 @@ unit-count-requires : tie.Need-unit-count-requires Inv-loop μ-loop
 unit-count-requires c κs = search needs
 
 returns-2 : tie.Need-returns-2 Inv-loop μ-loop
-returns-2 c = left-inside _ _ _ _ _ _ _ _ (c .before .before .before .before .before .before .before .before .before .before .before .loop .inv) (c .before .before .before .before .before .before .before .before .before .before .loop-test .taken) (c .before .before .before .before .before .before .before .before .before .if1 .left) (sym (c .before .before .before .before .before .char-at .ensures) ∙ c .before .before .before .code .given .1) (c .before .unit-count .ensures .0) (c .if3 .taken)
+returns-2 c =
+    let at-unit-count = c .before in
+    let at-code = at-unit-count .before .before in
+    let at-char-at = at-code .before .before in
+    let at-if1 = at-char-at .before .before .before .before in
+    let at-loop-test = at-if1 .before in
+    let at-loop = at-loop-test .before in
+    left-inside _ _ _ _ _ _ _ _ (at-loop .loop .inv) (at-loop-test .loop-test .taken) (at-if1 .if1 .left)
+    (sym (at-char-at .char-at .ensures) ∙ at-code .code .given .1) (at-unit-count .unit-count .ensures .0) (c .if3 .taken)
 
 loop-less-2 : tie.Need-loop-less-2 Inv-loop μ-loop
 loop-less-2 c =
-    let d = char-inside _ _ _ _ (c .before .before .before .before .before .before .before .before .before .if1 .left) (sym (c .before .before .before .before .before .char-at .ensures) ∙ c .before .before .before .code .given .1) in omega (arith, d, c .before .before .before .before .before .before .before .before .before .if1 .left)
+    let at-code = c .before .before .before in
+    let at-char-at = at-code .before .before in
+    let at-if1 = at-char-at .before .before .before .before in
+    let d = char-inside _ _ _ _ (at-if1 .if1 .left) (sym (at-char-at .char-at .ensures) ∙ at-code .code .given .1) in omega (arith, d, at-if1 .if1 .left)
 
 loop-again-2 : tie.Need-loop-again-2 Inv-loop μ-loop
-loop-again-2 c = left-next _ _ _ _ _ _ _ _ (c .before .before .before .before .before .before .before .before .before .before .before .loop .inv) (c .before .before .before .before .before .before .before .before .before .if1 .left) (sym (c .before .before .before .before .before .char-at .ensures) ∙ c .before .before .before .code .given .1) (c .before .unit-count .ensures .0) (c .if3 .left)
+loop-again-2 c =
+    let at-unit-count = c .before in
+    let at-code = at-unit-count .before .before in
+    let at-char-at = at-code .before .before in
+    let at-if1 = at-char-at .before .before .before .before in
+    let at-loop = at-if1 .before .before in
+    left-next _ _ _ _ _ _ _ _ (at-loop .loop .inv) (at-if1 .if1 .left) (sym (at-char-at .char-at .ensures) ∙ at-code .code .given .1)
+    (at-unit-count .unit-count .ensures .0) (c .if3 .left)
 
 enum-told : tie.Need-enum-told Inv-loop μ-loop
 enum-told c = search needs
 
 returns-3 : tie.Need-returns-3 Inv-loop μ-loop
-returns-3 c = left-no-ill _ _ _ _ _ (c .before .before .before .before .before .before .before .before .loop .inv) (c .before .before .before .before .before .before .if1 .left) (sym (c .before .before .char-at .ensures) ∙ c .enum-told .given .1)
+returns-3 c =
+    let at-char-at = c .before .before in
+    let at-if1 = at-char-at .before .before .before .before in
+    let at-loop = at-if1 .before .before in
+    left-no-ill _ _ _ _ _ (at-loop .loop .inv) (at-if1 .if1 .left) (sym (at-char-at .char-at .ensures) ∙ c .enum-told .given .1)
 
 enum-told-2 : tie.Need-enum-told-2 Inv-loop μ-loop
 enum-told-2 c = search needs
 
 returns-4 : tie.Need-returns-4 Inv-loop μ-loop
-returns-4 c = left-no-outside _ _ _ _ _ (c .before .before .before .before .before .before .before .before .loop .inv) (c .before .before .before .before .before .before .if1 .left) (sym (c .before .before .char-at .ensures) ∙ c .enum-told2 .given .1)
+returns-4 c =
+    let at-char-at = c .before .before in
+    let at-if1 = at-char-at .before .before .before .before in
+    let at-loop = at-if1 .before .before in
+    left-no-outside _ _ _ _ _ (at-loop .loop .inv) (at-if1 .if1 .left) (sym (at-char-at .char-at .ensures) ∙ c .enum-told2 .given .1)
 
 returns-5 : tie.Need-returns-5 Inv-loop μ-loop
 returns-5 c = left-done _ _ _ _ _ (c .before .loop .inv) (c .loop-test .left)

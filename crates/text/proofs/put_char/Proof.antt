@@ -21,7 +21,10 @@ same-length : tie.Need-same-length
 same-length c = search needs
 
 returns : tie.Need-returns
-returns c = rw (one-is _ (c .before .before .before .before .if1 .taken)) (refl, c .before .before .put-unit .ensures ∙ one-char _ _ _)
+returns c =
+    let at-put-unit = c .before .before in
+    let at-if1 = at-put-unit .before .before in
+    rw (one-is _ (at-if1 .if1 .taken)) (refl, at-put-unit .put-unit .ensures ∙ one-char _ _ _)
 
 add-m : tie.Need-add-m
 add-m c = search needs
@@ -36,7 +39,9 @@ low-half-requires : tie.Need-low-half-requires
 low-half-requires c κs = search needs
 
 put-unit-requires-3 : tie.Need-put-unit-requires-3
-put-unit-requires-3 c κs = omega (arith, ap length (two-are _ (c .before .before .before .before .before .before .before .if1 .left)))
+put-unit-requires-3 c κs =
+    let at-if1 = c .before .before .before .before .before .before .before in
+    omega (arith, ap length (two-are _ (at-if1 .if1 .left)))
 
 add-result-2 : tie.Need-add-result-2
 add-result-2 c = search needs
@@ -46,12 +51,13 @@ same-length-2 c = search needs
 
 returns-2 : tie.Need-returns-2
 returns-2 c =
-    let at-low-half = c .before .before .before in
+    let at-put-unit3 = c .before .before in
+    let at-low-half = at-put-unit3 .before in
     let at-put-unit2 = at-low-half .before .before .before .before in
     let at-high-half = at-put-unit2 .before in
     let at-if1 = at-high-half .before .before in
     two-chars _ _ _ _ _ _ _ _ _ (two-are _ (at-if1 .if1 .left)) (at-high-half .high-half .ensures) (at-low-half .low-half .ensures)
-    (at-put-unit2 .put-unit2 .ensures) (c .before .before .put-unit3 .ensures)
+    (at-put-unit2 .put-unit2 .ensures) (at-put-unit3 .put-unit3 .ensures)
 
 pub put-char-spec : {M : Type 1} → statement M
 put-char-spec =

@@ -19,16 +19,36 @@ limited-requires : tie.Need-limited-requires
 limited-requires c κs = search needs
 
 returns : tie.Need-returns
-returns c = c .limited .ensures ∙ survey-plain (c .before .before .before .before .before .before .before .before .args .text .now) _ (sym (c .before .before .before .before .before .before .count-units .ensures) ∙ c .before .before .before .before .n .given .1) (c .before .before .byte-or-zero .ensures) (c .before .if1 .taken)
+returns c =
+    let at-if1 = c .before in
+    let at-byte-or-zero = at-if1 .before in
+    let at-n = at-byte-or-zero .before .before in
+    let at-count-units = at-n .before .before in
+    let at-start = at-count-units .before .before in
+    c .limited .ensures ∙ survey-plain (at-start .args .text .now) _ (sym (at-count-units .count-units .ensures) ∙ at-n .n .given .1)
+    (at-byte-or-zero .byte-or-zero .ensures) (at-if1 .if1 .taken)
 
 byte-or-zero-requires-2 : tie.Need-byte-or-zero-requires-2
 byte-or-zero-requires-2 c κs = search needs
 
 returns-2 : tie.Need-returns-2
-returns-2 c = survey-braced (c .before .before .before .before .before .before .before .before .before .args .text .now) _ (sym (c .before .before .before .before .before .before .before .count-units .ensures) ∙ c .before .before .before .before .before .n .given .1) (c .before .before .before .byte-or-zero .ensures) (c .before .before .if1 .left) (c .before .byte-or-zero2 .ensures) (c .if2 .taken)
+returns-2 c =
+    let at-byte-or-zero2 = c .before in
+    let at-if1 = at-byte-or-zero2 .before in
+    let at-byte-or-zero = at-if1 .before in
+    let at-n = at-byte-or-zero .before .before in
+    let at-count-units = at-n .before .before in
+    let at-start = at-count-units .before .before in
+    survey-braced (at-start .args .text .now) _ (sym (at-count-units .count-units .ensures) ∙ at-n .n .given .1) (at-byte-or-zero .byte-or-zero .ensures)
+    (at-if1 .if1 .left) (at-byte-or-zero2 .byte-or-zero2 .ensures) (c .if2 .taken)
 
 sub-limited : tie.Need-sub-limited
-sub-limited c = omega (arith, marked-two (c .before .before .before .before .before .before .before .before .before .args .text .now) _ (sym (c .before .before .before .before .before .before .before .count-units .ensures) ∙ c .before .before .before .before .before .n .given .1) (c .before .before .before .byte-or-zero .ensures) (c .before .before .if1 .left) (c .before .byte-or-zero2 .ensures) (c .if2 .left))
+sub-limited c = omega (
+  arith,
+  marked-two (c .before .before .before .before .before .before .before .before .before .args .text .now) _
+      (sym (c .before .before .before .before .before .before .before .count-units .ensures) ∙ c .before .before .before .before .before .n .given .1)
+      (c .before .before .before .byte-or-zero .ensures) (c .before .before .if1 .left) (c .before .byte-or-zero2 .ensures) (c .if2 .left),
+)
 
 limited-requires-2 : tie.Need-limited-requires-2
 limited-requires-2 c κs = search needs
@@ -37,10 +57,23 @@ enum-known-number : tie.Need-enum-known-number
 enum-known-number c = search needs
 
 returns-3 : tie.Need-returns-3
-returns-3 c = c .limited2 .ensures ∙ survey-marked (c .before .before .before .before .before .before .before .before .before .before .args .text .now) _ (sym (c .before .before .before .before .before .before .before .before .count-units .ensures) ∙ c .before .before .before .before .before .before .n .given .1) (c .before .before .before .before .byte-or-zero .ensures) (c .before .before .before .if1 .left) (c .before .before .byte-or-zero2 .ensures) (c .before .if2 .left)
+returns-3 c =
+    let at-if2 = c .before in
+    let at-byte-or-zero2 = at-if2 .before in
+    let at-if1 = at-byte-or-zero2 .before in
+    let at-byte-or-zero = at-if1 .before in
+    let at-n = at-byte-or-zero .before .before in
+    let at-count-units = at-n .before .before in
+    let at-start = at-count-units .before .before in
+    c .limited2 .ensures ∙ survey-marked (at-start .args .text .now) _ (sym (at-count-units .count-units .ensures) ∙ at-n .n .given .1)
+    (at-byte-or-zero .byte-or-zero .ensures) (at-if1 .if1 .left) (at-byte-or-zero2 .byte-or-zero2 .ensures) (at-if2 .if2 .left)
 
 returns-4 : tie.Need-returns-4
-returns-4 c = survey-refused (c .before .before .before .before .before .args .text .now) _ _ (sym (c .before .before .before .count-units .ensures) ∙ c .before .number .given .1)
+returns-4 c =
+    let at-number = c .before in
+    let at-count-units = at-number .before .before in
+    let at-start = at-count-units .before .before in
+    survey-refused (at-start .args .text .now) _ _ (sym (at-count-units .count-units .ensures) ∙ at-number .number .given .1)
 
 pub survey-text-spec : {M : Type 1} → statement M
 survey-text-spec =

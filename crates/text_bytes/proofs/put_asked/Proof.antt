@@ -12,8 +12,11 @@ both-requires c κs = search needs
 
 cast-put-escaped : tie.Need-cast-put-escaped
 cast-put-escaped c =
-    let a = c .before .before .before .before .args in
-    omega (arith, ascii-most (a .escape) (a .u) (sym (c .before .before .both .ensures) ∙ c .before .if1 .taken))
+    let at-if1 = c .before in
+    let at-both = at-if1 .before in
+    let at-start = at-both .before .before in
+    let a = at-start .args in
+    omega (arith, ascii-most (a .escape) (a .u) (sym (at-both .both .ensures) ∙ at-if1 .if1 .taken))
 
 put-escaped-requires : tie.Need-put-escaped-requires
 put-escaped-requires c κs = search needs
@@ -23,11 +26,12 @@ same-length c = search needs
 
 returns : tie.Need-returns
 returns c =
-    let at-if1 = c .before .before .before .before in
+    let at-put-escaped = c .before .before in
+    let at-if1 = at-put-escaped .before .before in
     let at-both = at-if1 .before in
-    let start = at-both .before .before in
-    let a = start .args in (
-      put-as (asked-ascii (a .escape) (a .u) (a .v) (sym (at-both .both .ensures) ∙ at-if1 .if1 .taken)) (c .before .before .put-escaped .ensures .0),
+    let at-start = at-both .before .before in
+    let a = at-start .args in (
+      put-as (asked-ascii (a .escape) (a .u) (a .v) (sym (at-both .both .ensures) ∙ at-if1 .if1 .taken)) (at-put-escaped .put-escaped .ensures .0),
       omega
           arith,
     )
@@ -40,11 +44,12 @@ same-length-2 c = search needs
 
 returns-2 : tie.Need-returns-2
 returns-2 c =
-    let at-if1 = c .before .before .before .before in
+    let at-put-unit = c .before .before in
+    let at-if1 = at-put-unit .before .before in
     let at-both = at-if1 .before in
-    let start = at-both .before .before in
-    let a = start .args in
-    (put-as (asked-plain (a .escape) (a .u) (a .v) (sym (at-both .both .ensures) ∙ at-if1 .if1 .left)) (c .before .before .put-unit .ensures .0), omega arith)
+    let at-start = at-both .before .before in
+    let a = at-start .args in
+    (put-as (asked-plain (a .escape) (a .u) (a .v) (sym (at-both .both .ensures) ∙ at-if1 .if1 .left)) (at-put-unit .put-unit .ensures .0), omega arith)
 
 pub put-asked-spec : {M : Type 1} → statement M
 put-asked-spec =

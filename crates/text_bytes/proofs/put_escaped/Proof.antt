@@ -20,7 +20,10 @@ same-length c = search needs
 
 returns : tie.Need-returns
 unfolding escapeByte ascii
-returns c = (put-as (ap escapeByte (sym (c .before .before .before .before .before .if1 .taken))) (c .before .before .put-bytes .ensures .0), omega arith)
+returns c =
+    let at-put-bytes = c .before .before in
+    let at-if1 = at-put-bytes .before .before .before in
+    (put-as (ap escapeByte (sym (at-if1 .if1 .taken))) (at-put-bytes .put-bytes .ensures .0), omega arith)
 
 slice-aggregate-put-bytes-2 : tie.Need-slice-aggregate-put-bytes-2
 slice-aggregate-put-bytes-2 c = search needs
@@ -33,7 +36,10 @@ same-length-2 c = search needs
 
 returns-2 : tie.Need-returns-2
 unfolding escapeByte ascii
-returns-2 c = (put-as (ap escapeByte (sym (c .before .before .before .before .before .if2 .taken))) (c .before .before .put-bytes2 .ensures .0), omega arith)
+returns-2 c =
+    let at-put-bytes2 = c .before .before in
+    let at-if2 = at-put-bytes2 .before .before .before in
+    (put-as (ap escapeByte (sym (at-if2 .if2 .taken))) (at-put-bytes2 .put-bytes2 .ensures .0), omega arith)
 
 slice-aggregate-put-bytes-3 : tie.Need-slice-aggregate-put-bytes-3
 slice-aggregate-put-bytes-3 c = search needs
@@ -46,7 +52,10 @@ same-length-3 c = search needs
 
 returns-3 : tie.Need-returns-3
 unfolding escapeByte ascii
-returns-3 c = (put-as (ap escapeByte (sym (c .before .before .before .before .before .if3 .taken))) (c .before .before .put-bytes3 .ensures .0), omega arith)
+returns-3 c =
+    let at-put-bytes3 = c .before .before in
+    let at-if3 = at-put-bytes3 .before .before .before in
+    (put-as (ap escapeByte (sym (at-if3 .if3 .taken))) (at-put-bytes3 .put-bytes3 .ensures .0), omega arith)
 
 slice-aggregate-put-bytes-4 : tie.Need-slice-aggregate-put-bytes-4
 slice-aggregate-put-bytes-4 c = search needs
@@ -59,7 +68,10 @@ same-length-4 c = search needs
 
 returns-4 : tie.Need-returns-4
 unfolding escapeByte ascii
-returns-4 c = (put-as (ap escapeByte (sym (c .before .before .before .before .before .if4 .taken))) (c .before .before .put-bytes4 .ensures .0), omega arith)
+returns-4 c =
+    let at-put-bytes4 = c .before .before in
+    let at-if4 = at-put-bytes4 .before .before .before in
+    (put-as (ap escapeByte (sym (at-if4 .if4 .taken))) (at-put-bytes4 .put-bytes4 .ensures .0), omega arith)
 
 slice-aggregate-put-bytes-5 : tie.Need-slice-aggregate-put-bytes-5
 slice-aggregate-put-bytes-5 c = search needs
@@ -72,7 +84,10 @@ same-length-5 c = search needs
 
 returns-5 : tie.Need-returns-5
 unfolding escapeByte ascii
-returns-5 c = (put-as (ap escapeByte (sym (c .before .before .before .before .before .if5 .taken))) (c .before .before .put-bytes5 .ensures .0), omega arith)
+returns-5 c =
+    let at-put-bytes5 = c .before .before in
+    let at-if5 = at-put-bytes5 .before .before .before in
+    (put-as (ap escapeByte (sym (at-if5 .if5 .taken))) (at-put-bytes5 .put-bytes5 .ensures .0), omega arith)
 
 slice-aggregate-put-bytes-6 : tie.Need-slice-aggregate-put-bytes-6
 slice-aggregate-put-bytes-6 c = search needs
@@ -85,7 +100,10 @@ same-length-6 c = search needs
 
 returns-6 : tie.Need-returns-6
 unfolding escapeByte ascii
-returns-6 c = (put-as (ap escapeByte (sym (c .before .before .before .before .before .if6 .taken))) (c .before .before .put-bytes6 .ensures .0), omega arith)
+returns-6 c =
+    let at-put-bytes6 = c .before .before in
+    let at-if6 = at-put-bytes6 .before .before .before in
+    (put-as (ap escapeByte (sym (at-if6 .if6 .taken))) (at-put-bytes6 .put-bytes6 .ensures .0), omega arith)
 
 put-byte-requires : tie.Need-put-byte-requires
 put-byte-requires c κs = search needs
@@ -94,7 +112,19 @@ same-length-7 : tie.Need-same-length-7
 same-length-7 c = search needs
 
 returns-7 : tie.Need-returns-7
-returns-7 c = (put-as (escape-other (c .before .before .before .before .before .before .before .before .before .before .before .args .b) (c .before .before .before .before .before .before .before .before .before .if1 .left) (c .before .before .before .before .before .before .before .before .if2 .left) (c .before .before .before .before .before .before .before .if3 .left) (c .before .before .before .before .before .before .if4 .left) (c .before .before .before .before .before .if5 .left) (c .before .before .before .before .if6 .left)) (c .before .before .put-byte .ensures .0), omega arith)
+returns-7 c =
+    let at-put-byte = c .before .before in
+    let at-if6 = at-put-byte .before .before in
+    let at-if5 = at-if6 .before in
+    let at-if4 = at-if5 .before in
+    let at-if3 = at-if4 .before in
+    let at-if2 = at-if3 .before in
+    let at-if1 = at-if2 .before in
+    let at-start = at-if1 .before .before in (
+      put-as (escape-other (at-start .args .b) (at-if1 .if1 .left) (at-if2 .if2 .left) (at-if3 .if3 .left) (at-if4 .if4 .left) (at-if5 .if5 .left)
+          (at-if6 .if6 .left)) (at-put-byte .put-byte .ensures .0),
+      omega arith,
+    )
 
 pub put-escaped-spec : {M : Type 1} → statement M
 put-escaped-spec =

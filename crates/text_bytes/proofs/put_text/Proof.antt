@@ -23,12 +23,13 @@ same-length c = search needs
 
 returns : tie.Need-returns
 returns c =
-    let at-put-bytes = c .before .before .before .before .before .before in
+    let at-put-units = c .before .before in
+    let at-put-bytes = at-put-units .before .before .before .before in
     let at-if1 = at-put-bytes .before .before .before in
     let at-is-braced = at-if1 .before in
-    let start = at-is-braced .before .before .before in
-    put-as (text-braced (halves (start .args .us .now)) (at-is-braced .is-braced .ensures) (start .args .escape) (at-if1 .if1 .taken))
-    (then (at-put-bytes .put-bytes .ensures .0) (c .before .before .put-units .ensures))
+    let at-start = at-is-braced .before .before .before in
+    put-as (text-braced (halves (at-start .args .us .now)) (at-is-braced .is-braced .ensures) (at-start .args .escape) (at-if1 .if1 .taken))
+    (then (at-put-bytes .put-bytes .ensures .0) (at-put-units .put-units .ensures))
 
 put-units-requires-2 : tie.Need-put-units-requires-2
 put-units-requires-2 c κs = search needs
@@ -38,11 +39,12 @@ same-length-2 c = search needs
 
 returns-2 : tie.Need-returns-2
 returns-2 c =
-    let at-if1 = c .before .before .before .before in
+    let at-put-units2 = c .before .before in
+    let at-if1 = at-put-units2 .before .before in
     let at-is-braced = at-if1 .before in
-    let start = at-is-braced .before .before .before in
-    put-as (text-plain (halves (start .args .us .now)) (at-is-braced .is-braced .ensures) (start .args .escape) (at-if1 .if1 .left))
-    (c .before .before .put-units2 .ensures)
+    let at-start = at-is-braced .before .before .before in
+    put-as (text-plain (halves (at-start .args .us .now)) (at-is-braced .is-braced .ensures) (at-start .args .escape) (at-if1 .if1 .left))
+    (at-put-units2 .put-units2 .ensures)
 
 pub put-text-spec : {M : Type 1} → statement M
 put-text-spec =

@@ -20,7 +20,11 @@ is-high-requires : tie.Need-is-high-requires
 is-high-requires c κs = search needs
 
 pair-of-requires : tie.Need-pair-of-requires
-pair-of-requires c κs = high-range (c .before .before .before .before .before .before .args .u) (c .before .before .is-high .ensures) (c .before .if2 .taken)
+pair-of-requires c κs =
+    let at-if2 = c .before in
+    let at-is-high = at-if2 .before in
+    let at-start = at-is-high .before .before .before .before in
+    high-range (at-start .args .u) (at-is-high .is-high .ensures) (at-if2 .if2 .taken)
 
 put-utf8-requires : tie.Need-put-utf8-requires
 put-utf8-requires c κs = search needs
@@ -51,13 +55,15 @@ same-length-2 c = search needs
 
 returns-3 : tie.Need-returns-3
 returns-3 c =
-    let at-if2 = c .before .before .before .before in
+    let at-put-utf82 = c .before .before in
+    let at-if2 = at-put-utf82 .before .before in
     let at-is-high = at-if2 .before in
     let at-if1 = at-is-high .before in
     let at-is-low = at-if1 .before in
-    let start = at-is-low .before .before in (
-      put-as (unit-plain (start .args .u) (start .args .v) (at-is-low .is-low .ensures) (at-if1 .if1 .left) (at-is-high .is-high .ensures) (at-if2 .if2 .left))
-          (c .before .before .put-utf82 .ensures .0),
+    let at-start = at-is-low .before .before in (
+      put-as (unit-plain (at-start .args .u) (at-start .args .v) (at-is-low .is-low .ensures) (at-if1 .if1 .left) (at-is-high .is-high .ensures)
+          (at-if2 .if2 .left))
+          (at-put-utf82 .put-utf82 .ensures .0),
       omega arith,
     )
 

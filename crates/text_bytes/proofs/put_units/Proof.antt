@@ -44,14 +44,15 @@ loop-less c = search needs
 
 loop-again : tie.Need-loop-again Inv-loop μ-loop
 loop-again c =
-    let at-unit-at2 = c .before .before .before .before in
+    let at-put-asked = c .before .before in
+    let at-unit-at2 = at-put-asked .before .before in
     let at-unit-at = at-unit-at2 .before in
     let at-loop = at-unit-at .before .before in
     let at-unit-count = at-loop .before in
-    let start = at-unit-count .before .before .before in (
-      left-next (left-as (asked-here (start .args .escape) (halves (start .args .us .now)) (at-loop .loop .i)
+    let at-start = at-unit-count .before .before .before in (
+      left-next (left-as (asked-here (at-start .args .escape) (halves (at-start .args .us .now)) (at-loop .loop .i)
           (omega (arith, at-unit-count .unit-count .ensures .0)) (at-unit-at .unit-at .ensures) (at-unit-at2 .unit-at2 .ensures)) (at-loop .loop .inv .0))
-          (c .before .before .put-asked .ensures .0),
+          (at-put-asked .put-asked .ensures .0),
       omega arith,
     )
 
@@ -60,9 +61,11 @@ same-length c = c .before .loop .inv .0 .same
 
 returns : tie.Need-returns Inv-loop μ-loop
 returns c =
-    let start = c .before .before .before .before .before in
-    left-end (left-as (asked-end (start .args .escape) (halves (start .args .us .now)) (c .before .loop .i)
-    (omega (arith, c .before .before .unit-count .ensures .0))) (c .before .loop .inv .0))
+    let at-loop = c .before in
+    let at-unit-count = at-loop .before in
+    let at-start = at-unit-count .before .before .before in
+    left-end (left-as (asked-end (at-start .args .escape) (halves (at-start .args .us .now)) (at-loop .loop .i)
+    (omega (arith, at-unit-count .unit-count .ensures .0))) (at-loop .loop .inv .0))
 
 pub put-units-spec : {M : Type 1} → statement M
 put-units-spec =

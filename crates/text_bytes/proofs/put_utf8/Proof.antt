@@ -17,7 +17,11 @@ same-length : tie.Need-same-length
 same-length c = search needs
 
 returns : tie.Need-returns
-returns c = (put-as (sym (utf8-one (c .before .before .before .before .before .before .args .c) (c .before .before .before .before .if1 .taken))) (c .before .before .put-byte .ensures .0), omega arith)
+returns c =
+    let at-put-byte = c .before .before in
+    let at-if1 = at-put-byte .before .before in
+    let at-start = at-if1 .before .before in
+    (put-as (sym (utf8-one (at-start .args .c) (at-if1 .if1 .taken))) (at-put-byte .put-byte .ensures .0), omega arith)
 
 add-put-byte : tie.Need-add-put-byte
 add-put-byte c = search needs
@@ -38,7 +42,17 @@ same-length-2 : tie.Need-same-length-2
 same-length-2 c = search needs
 
 returns-2 : tie.Need-returns-2
-returns-2 c = (put-as (sym (utf8-two (c .before .before .before .before .before .before .before .before .before .before .before .before .args .c) (c .before .before .before .before .before .before .before .before .before .before .if1 .left) (c .before .before .before .before .before .before .before .before .before .if2 .taken))) (then (c .before .before .before .before .before .before .before .put-byte2 .ensures .0) (put-digit (c .before .before .before .tail-byte .ensures) (c .before .before .put-byte3 .ensures .0))), omega arith)
+returns-2 c =
+    let at-put-byte3 = c .before .before in
+    let at-tail-byte = at-put-byte3 .before in
+    let at-put-byte2 = at-tail-byte .before .before .before .before in
+    let at-if2 = at-put-byte2 .before .before in
+    let at-if1 = at-if2 .before in
+    let at-start = at-if1 .before .before in (
+      put-as (sym (utf8-two (at-start .args .c) (at-if1 .if1 .left) (at-if2 .if2 .taken)))
+          (then (at-put-byte2 .put-byte2 .ensures .0) (put-digit (at-tail-byte .tail-byte .ensures) (at-put-byte3 .put-byte3 .ensures .0))),
+      omega arith,
+    )
 
 add-put-byte-2 : tie.Need-add-put-byte-2
 add-put-byte-2 c = search needs
@@ -65,7 +79,20 @@ same-length-3 : tie.Need-same-length-3
 same-length-3 c = search needs
 
 returns-3 : tie.Need-returns-3
-returns-3 c = (put-as (sym (utf8-three (c .before .before .before .before .before .before .before .before .before .before .before .before .before .before .before .before .before .before .args .c) (c .before .before .before .before .before .before .before .before .before .before .before .before .before .before .before .if2 .left) (c .before .before .before .before .before .before .before .before .before .before .before .before .before .before .if3 .taken))) (then (c .before .before .before .before .before .before .before .before .before .before .before .before .put-byte4 .ensures .0) (then (put-digit (c .before .before .before .before .before .before .before .before .tail-byte2 .ensures) (c .before .before .before .before .before .before .before .put-byte5 .ensures .0)) (put-digit (c .before .before .before .tail-byte3 .ensures) (c .before .before .put-byte6 .ensures .0)))), omega arith)
+returns-3 c =
+    let at-put-byte6 = c .before .before in
+    let at-tail-byte3 = at-put-byte6 .before in
+    let at-put-byte5 = at-tail-byte3 .before .before .before .before in
+    let at-tail-byte2 = at-put-byte5 .before in
+    let at-put-byte4 = at-tail-byte2 .before .before .before .before in
+    let at-if3 = at-put-byte4 .before .before in
+    let at-if2 = at-if3 .before in
+    let at-start = at-if2 .before .before .before in (
+      put-as (sym (utf8-three (at-start .args .c) (at-if2 .if2 .left) (at-if3 .if3 .taken)))
+          (then (at-put-byte4 .put-byte4 .ensures .0) (then (put-digit (at-tail-byte2 .tail-byte2 .ensures) (at-put-byte5 .put-byte5 .ensures .0))
+          (put-digit (at-tail-byte3 .tail-byte3 .ensures) (at-put-byte6 .put-byte6 .ensures .0)))),
+      omega arith,
+    )
 
 add-put-byte-3 : tie.Need-add-put-byte-3
 add-put-byte-3 c = search needs
@@ -98,7 +125,22 @@ same-length-4 : tie.Need-same-length-4
 same-length-4 c = search needs
 
 returns-4 : tie.Need-returns-4
-returns-4 c = (put-as (sym (utf8-four (c .before .before .before .before .before .before .before .before .before .before .before .before .before .before .before .before .before .before .before .before .before .before .before .args .c) (c .before .before .before .before .before .before .before .before .before .before .before .before .before .before .before .before .before .before .before .if3 .left))) (then (c .before .before .before .before .before .before .before .before .before .before .before .before .before .before .before .before .before .put-byte7 .ensures .0) (then (put-digit (c .before .before .before .before .before .before .before .before .before .before .before .before .before .tail-byte4 .ensures) (c .before .before .before .before .before .before .before .before .before .before .before .before .put-byte8 .ensures .0)) (then (put-digit (c .before .before .before .before .before .before .before .before .tail-byte5 .ensures) (c .before .before .before .before .before .before .before .put-byte9 .ensures .0)) (put-digit (c .before .before .before .tail-byte6 .ensures) (c .before .before .put-byte10 .ensures .0))))), omega arith)
+returns-4 c =
+    let at-put-byte10 = c .before .before in
+    let at-tail-byte6 = at-put-byte10 .before in
+    let at-put-byte9 = at-tail-byte6 .before .before .before .before in
+    let at-tail-byte5 = at-put-byte9 .before in
+    let at-put-byte8 = at-tail-byte5 .before .before .before .before in
+    let at-tail-byte4 = at-put-byte8 .before in
+    let at-put-byte7 = at-tail-byte4 .before .before .before .before in
+    let at-if3 = at-put-byte7 .before .before in
+    let at-start = at-if3 .before .before .before .before in (
+      put-as (sym (utf8-four (at-start .args .c) (at-if3 .if3 .left)))
+          (then (at-put-byte7 .put-byte7 .ensures .0) (then (put-digit (at-tail-byte4 .tail-byte4 .ensures) (at-put-byte8 .put-byte8 .ensures .0))
+          (then (put-digit (at-tail-byte5 .tail-byte5 .ensures) (at-put-byte9 .put-byte9 .ensures .0))
+          (put-digit (at-tail-byte6 .tail-byte6 .ensures) (at-put-byte10 .put-byte10 .ensures .0))))),
+      omega arith,
+    )
 
 pub put-utf8-spec : {M : Type 1} → statement M
 put-utf8-spec =

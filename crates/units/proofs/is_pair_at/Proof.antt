@@ -13,8 +13,10 @@ is-high-requires c κs = search needs
 
 returns : tie.Need-returns
 returns c =
-    let start = c .before .before .before .before in
-    let a = start .args in pair-none (halves (a .us .now)) (a .j) (c .before .before .unit-at .ensures) (c .before .is-high .ensures) (c .if1 .taken)
+    let at-is-high = c .before in
+    let at-unit-at = at-is-high .before in
+    let at-start = at-unit-at .before .before in
+    let a = at-start .args in pair-none (halves (a .us .now)) (a .j) (at-unit-at .unit-at .ensures) (at-is-high .is-high .ensures) (c .if1 .taken)
 
 add-unit-at : tie.Need-add-unit-at
 add-unit-at c = search needs

@@ -32,12 +32,14 @@ unit-ok-requires c κs = search needs
 
 returns : tie.Need-returns Inv-loop μ-loop
 returns c =
-    let at-loop = c .before .before .before .before in
+    let at-unit-ok = c .before in
+    let at-unit-at = at-unit-ok .before in
+    let at-loop = at-unit-at .before .before in
     let at-unit-count = at-loop .before in
-    let start = at-unit-count .before .before in
-    let us = start .args .us .now in
+    let at-start = at-unit-count .before .before in
+    let us = at-start .args .us .now in
     stops _ _ (at-loop .loop .inv) (proper-here (at-loop .loop .half) (halves us) (at-loop .loop .j) (omega (arith, at-unit-count .unit-count .ensures .0))
-    (c .before .before .unit-at .ensures) (omega arith)) (c .before .unit-ok .ensures) (c .if1 .taken)
+    (at-unit-at .unit-at .ensures) (omega arith)) (at-unit-ok .unit-ok .ensures) (c .if1 .taken)
 
 next-half-requires : tie.Need-next-half-requires Inv-loop μ-loop
 next-half-requires c κs = search needs
@@ -61,8 +63,11 @@ loop-again c =
 
 returns-2 : tie.Need-returns-2 Inv-loop μ-loop
 returns-2 c =
-    let us = c .before .before .before .before .args .us .now in
-    sym (c .before .loop .inv ∙ proper-end (c .before .loop .half) (halves us) (c .before .loop .j) (omega (arith, c .before .before .unit-count .ensures .0)))
+    let at-loop = c .before in
+    let at-unit-count = at-loop .before in
+    let at-start = at-unit-count .before .before in
+    let us = at-start .args .us .now in
+    sym (at-loop .loop .inv ∙ proper-end (at-loop .loop .half) (halves us) (at-loop .loop .j) (omega (arith, at-unit-count .unit-count .ensures .0)))
 
 pub proper-units-spec : {M : Type 1} → statement M
 proper-units-spec =

@@ -18,19 +18,31 @@ loop-holds : tie.Need-loop-holds Inv-loop μ-loop
 loop-holds c = search needs
 
 returns : tie.Need-returns Inv-loop μ-loop
-returns c = let a = c .before .before in sym (trail-short (a .before .args .s .now) (a .loop .k) (a .loop .l) (a .loop .h) (a .loop .i) (search needs) (search needs)) ∙ a .loop .inv .1
+returns c =
+    let at-loop = c .before .before in
+    let at-start = at-loop .before in
+    sym (trail-short (at-start .args .s .now) (at-loop .loop .k) (at-loop .loop .l) (at-loop .loop .h) (at-loop .loop .i) (search needs) (search needs))
+    ∙ at-loop .loop .inv .1
 
 shared-slice-read-if2 : tie.Need-shared-slice-read-if2 Inv-loop μ-loop
 shared-slice-read-if2 c = search needs
 
 returns-2 : tie.Need-returns-2 Inv-loop μ-loop
-returns-2 c = let a = c .before .before .before .before in sym (trail-low (a .before .args .s .now) (a .loop .k) (a .loop .l) (a .loop .h) (a .loop .i) (search needs) (search needs) (search needs)) ∙ a .loop .inv .1
+returns-2 c =
+    let at-loop = c .before .before .before .before in
+    let at-start = at-loop .before in
+    sym (trail-low (at-start .args .s .now) (at-loop .loop .k) (at-loop .loop .l) (at-loop .loop .h) (at-loop .loop .i) (search needs) (search needs)
+    (search needs)) ∙ at-loop .loop .inv .1
 
 shared-slice-read-if3 : tie.Need-shared-slice-read-if3 Inv-loop μ-loop
 shared-slice-read-if3 c = search needs
 
 returns-3 : tie.Need-returns-3 Inv-loop μ-loop
-returns-3 c = let a = c .before .before .before .before .before .before in sym (trail-high (a .before .args .s .now) (a .loop .k) (a .loop .l) (a .loop .h) (a .loop .i) (search needs) (search needs) (search needs)) ∙ a .loop .inv .1
+returns-3 c =
+    let at-loop = c .before .before .before .before .before .before in
+    let at-start = at-loop .before in
+    sym (trail-high (at-start .args .s .now) (at-loop .loop .k) (at-loop .loop .l) (at-loop .loop .h) (at-loop .loop .i) (search needs) (search needs)
+    (search needs)) ∙ at-loop .loop .inv .1
 
 add-i : tie.Need-add-i Inv-loop μ-loop
 add-i c = search needs
@@ -42,10 +54,17 @@ loop-less : tie.Need-loop-less Inv-loop μ-loop
 loop-less c = search needs
 
 loop-again : tie.Need-loop-again Inv-loop μ-loop
-loop-again c = let a = c .before .before .before .before .before .before in (search needs, sym (trail-next (a .before .args .s .now) (a .loop .k) (a .loop .l) (a .loop .h) (a .loop .i) (search needs) (search needs) (search needs) (search needs)) ∙ a .loop .inv .1)
+loop-again c =
+    let at-loop = c .before .before .before .before .before .before in
+    let at-start = at-loop .before in (
+      search needs,
+      sym (trail-next (at-start .args .s .now) (at-loop .loop .k) (at-loop .loop .l) (at-loop .loop .h) (at-loop .loop .i) (search needs)
+          (search needs) (search needs) (search needs)) ∙ at-loop .loop .inv .1,
+    )
 
 returns-4 : tie.Need-returns-4 Inv-loop μ-loop
 returns-4 c = sym (trail-done _ _ _ _ (search needs)) ∙ c .before .loop .inv .1
 
 pub follows-spec : {M : Type 1} → statement M
-follows-spec = tie.close (tie.spec Inv-loop μ-loop loop-holds returns shared-slice-read-if2 returns-2 shared-slice-read-if3 returns-3 add-i sub-k loop-less loop-again returns-4)
+follows-spec = tie.close (tie.spec Inv-loop μ-loop loop-holds returns shared-slice-read-if2 returns-2 shared-slice-read-if3 returns-3 add-i sub-k loop-less
+    loop-again returns-4)

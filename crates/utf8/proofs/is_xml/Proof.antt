@@ -21,13 +21,24 @@ returns-3 : tie.Need-returns-3
 returns-3 c = sym (xml-gap (c .before .before .before .args .c) (c .before .before .if1 .left) (c .before .if2 .left) (c .if3 .taken))
 
 returns-4 : tie.Need-returns-4
-returns-4 c = sym (xml-plane (c .before .before .before .before .args .c) (c .before .before .before .if1 .left) (c .before .if3 .left) (c .if4 .taken))
+returns-4 c =
+    let at-if3 = c .before in
+    let at-if1 = at-if3 .before .before in
+    let at-start = at-if1 .before in
+    sym (xml-plane (at-start .args .c) (at-if1 .if1 .left) (at-if3 .if3 .left) (c .if4 .taken))
 
 returns-5 : tie.Need-returns-5
-returns-5 c = sym (xml-non (c .before .before .before .before .before .args .c) (c .before .before .before .before .if1 .left) (c .before .if4 .left) (c .if5 .taken))
+returns-5 c =
+    let at-if4 = c .before in
+    let at-if1 = at-if4 .before .before .before in
+    let at-start = at-if1 .before in
+    sym (xml-non (at-start .args .c) (at-if1 .if1 .left) (at-if4 .if4 .left) (c .if5 .taken))
 
 returns-6 : tie.Need-returns-6
-returns-6 c = sym (xml-high (c .before .before .before .before .before .args .c) (c .before .before .before .before .if1 .left) (c .if5 .left))
+returns-6 c =
+    let at-if1 = c .before .before .before .before in
+    let at-start = at-if1 .before in
+    sym (xml-high (at-start .args .c) (at-if1 .if1 .left) (c .if5 .left))
 
 pub is-xml-spec : {M : Type 1} → statement M
 is-xml-spec =

@@ -97,7 +97,36 @@ unfolding table
 returns-9 c = c .row9 .ensures ∙ by-row 8 _ (c .before .before .is-within9 .ensures) (c .before .if9 .taken)
 
 returns-10 : tie.Need-returns-10
-returns-10 c = rw (lead-rows _, sym (c .before .before .before .before .before .before .before .before .before .before .before .before .before .before .before .before .before .is-within .ensures) ∙ c .before .before .before .before .before .before .before .before .before .before .before .before .before .before .before .before .if1 .left, sym (c .before .before .before .before .before .before .before .before .before .before .before .before .before .before .before .is-within2 .ensures) ∙ c .before .before .before .before .before .before .before .before .before .before .before .before .before .before .if2 .left, sym (c .before .before .before .before .before .before .before .before .before .before .before .before .before .is-within3 .ensures) ∙ c .before .before .before .before .before .before .before .before .before .before .before .before .if3 .left, sym (c .before .before .before .before .before .before .before .before .before .before .before .is-within4 .ensures) ∙ c .before .before .before .before .before .before .before .before .before .before .if4 .left, sym (c .before .before .before .before .before .before .before .before .before .is-within5 .ensures) ∙ c .before .before .before .before .before .before .before .before .if5 .left, sym (c .before .before .before .before .before .before .before .is-within6 .ensures) ∙ c .before .before .before .before .before .before .if6 .left, sym (c .before .before .before .before .before .is-within7 .ensures) ∙ c .before .before .before .before .if7 .left, sym (c .before .before .before .is-within8 .ensures) ∙ c .before .before .if8 .left, sym (c .before .is-within9 .ensures) ∙ c .if9 .left)
+returns-10 c =
+    let at-is-within9 = c .before in
+    let at-if8 = at-is-within9 .before in
+    let at-is-within8 = at-if8 .before in
+    let at-if7 = at-is-within8 .before in
+    let at-is-within7 = at-if7 .before in
+    let at-if6 = at-is-within7 .before in
+    let at-is-within6 = at-if6 .before in
+    let at-if5 = at-is-within6 .before in
+    let at-is-within5 = at-if5 .before in
+    let at-if4 = at-is-within5 .before in
+    let at-is-within4 = at-if4 .before in
+    let at-if3 = at-is-within4 .before in
+    let at-is-within3 = at-if3 .before in
+    let at-if2 = at-is-within3 .before in
+    let at-is-within2 = at-if2 .before in
+    let at-if1 = at-is-within2 .before in
+    let at-is-within = at-if1 .before in
+    rw (
+      lead-rows _,
+      sym (at-is-within .is-within .ensures) ∙ at-if1 .if1 .left,
+      sym (at-is-within2 .is-within2 .ensures) ∙ at-if2 .if2 .left,
+      sym (at-is-within3 .is-within3 .ensures) ∙ at-if3 .if3 .left,
+      sym (at-is-within4 .is-within4 .ensures) ∙ at-if4 .if4 .left,
+      sym (at-is-within5 .is-within5 .ensures) ∙ at-if5 .if5 .left,
+      sym (at-is-within6 .is-within6 .ensures) ∙ at-if6 .if6 .left,
+      sym (at-is-within7 .is-within7 .ensures) ∙ at-if7 .if7 .left,
+      sym (at-is-within8 .is-within8 .ensures) ∙ at-if8 .if8 .left,
+      sym (at-is-within9 .is-within9 .ensures) ∙ c .if9 .left,
+    )
 
 pub row-of-spec : {M : Type 1} → statement M
 row-of-spec =

@@ -27,7 +27,8 @@ number-count-requires-2 c κs = search needs
 
 loop-holds : tie.Need-loop-holds Inv-loop μ-loop
 loop-holds c =
-    let a = c .before .before .before .before .before .args in
+    let at-start = c .before .before .before .before .before in
+    let a = at-start .args in
     (left-as (indices-start (words (a .cs .now)) (words (a .gs .now))) left-start, search needs, search needs, search needs)
 
 sub-loop : tie.Need-sub-loop Inv-loop μ-loop
@@ -55,8 +56,8 @@ loop-again c =
     let at-loop-test = at-if1 .before in
     let at-loop = at-loop-test .before in
     let at-number-count2 = at-loop .before in
-    let start = at-number-count2 .before .before .before .before .before in
-    let a = start .args in
+    let at-start = at-number-count2 .before .before .before .before .before in
+    let a = at-start .args in
     let l = at-loop .loop in (
       entry-stored _ _ _ (rest-further (words (a .cs .now)) (words (a .gs .now)) (l .owed) (l .lack) (l .i) (l .k)
           (omega (arith, at-number-count2 .number-count2 .ensures .0, at-loop-test .loop-test .taken)) (at-if1 .if1 .taken)) (l .inv .0)
@@ -74,14 +75,15 @@ same-length c = c .before .before .before .loop .inv .0 .same
 
 returns : tie.Need-returns Inv-loop μ-loop
 returns c =
-    let at-loop = c .before .before .before in
+    let at-loop-test = c .before .before in
+    let at-loop = at-loop-test .before in
     let at-number-count2 = at-loop .before in
     let at-number-count = at-number-count2 .before in
-    let start = at-number-count .before .before .before .before in
-    let a = start .args in
+    let at-start = at-number-count .before .before .before .before in
+    let a = at-start .args in
     let l = at-loop .loop in
     left-end (left-as (rest-none (words (a .cs .now)) (words (a .gs .now)) (l .owed) (l .lack) (l .i) (l .k)
-    (omega (arith, at-number-count2 .number-count2 .ensures .0, c .before .before .loop-test .taken)) (omega arith)
+    (omega (arith, at-number-count2 .number-count2 .ensures .0, at-loop-test .loop-test .taken)) (omega arith)
     (omega (arith, at-number-count .number-count .ensures .0, c .if2 .taken))) (l .inv .0))
 
 number-at-requires : tie.Need-number-at-requires Inv-loop μ-loop
@@ -122,7 +124,9 @@ loop-less-2 c = search needs
 
 loop-again-2 : tie.Need-loop-again-2 Inv-loop μ-loop
 loop-again-2 c =
-    let at-put-next2 = c .before .before .before .before .before in
+    let at-widened = c .before in
+    let at-owes2 = at-widened .before in
+    let at-put-next2 = at-owes2 .before .before .before in
     let at-nat2 = at-put-next2 .before .before in
     let at-number-at2 = at-nat2 .before in
     let at-nat = at-number-at2 .before in
@@ -132,16 +136,16 @@ loop-again-2 c =
     let at-loop = at-loop-test .before in
     let at-number-count2 = at-loop .before in
     let at-number-count = at-number-count2 .before in
-    let start = at-number-count .before .before .before .before in
-    let a = start .args in
+    let at-start = at-number-count .before .before .before .before in
+    let a = at-start .args in
     let l = at-loop .loop in
-    let d = c .less-one .ensures ∙ ap (λ (z : ℕ). z - 1) (c .before .widened .ensures .0) in (
+    let d = c .less-one .ensures ∙ ap (λ (z : ℕ). z - 1) (at-widened .widened .ensures .0) in (
       entry-stored _ _ _ (rest-opens (words (a .cs .now)) (words (a .gs .now)) (l .owed) (l .lack) (l .i) (l .k)
           (at-nat .nat .ensures .0 ∙ ap natOf (at-number-at .number-at .ensures)) (at-nat2 .nat2 .ensures .0 ∙ ap natOf (at-number-at2 .number-at2 .ensures)) d
           (omega (arith, at-number-count2 .number-count2 .ensures .0, at-loop-test .loop-test .taken)) (omega arith)
           (omega (arith, at-number-count .number-count .ensures .0, at-if2 .if2 .left))) (l .inv .0) (at-put-next2 .put-next2 .ensures .0)
-          (c .before .before .owes2 .ensures .0),
-      owes-bound (l .at) _ (l .owed) (l .k) _ (c .before .before .owes2 .ensures .0) (omega (arith, at-put-next2 .put-next2 .ensures .0 .behind))
+          (at-owes2 .owes2 .ensures .0),
+      owes-bound (l .at) _ (l .owed) (l .k) _ (at-owes2 .owes2 .ensures .0) (omega (arith, at-put-next2 .put-next2 .ensures .0 .behind))
           (at-put-next2 .put-next2 .ensures .1) (l .inv .1),
       omega arith,
       omega arith,
@@ -152,11 +156,13 @@ same-length-2 c = c .before .loop .inv .0 .same
 
 returns-2 : tie.Need-returns-2 Inv-loop μ-loop
 returns-2 c =
-    let start = c .before .before .before .before .before .before .before in
-    let a = start .args in
-    let l = c .before .loop in
+    let at-loop = c .before in
+    let at-number-count2 = at-loop .before in
+    let at-start = at-number-count2 .before .before .before .before .before in
+    let a = at-start .args in
+    let l = at-loop .loop in
     left-end (left-as (rest-end (words (a .cs .now)) (words (a .gs .now)) (l .owed) (l .lack) (l .i) (l .k)
-    (omega (arith, c .before .before .number-count2 .ensures .0, c .loop-test .left))) (l .inv .0))
+    (omega (arith, at-number-count2 .number-count2 .ensures .0, c .loop-test .left))) (l .inv .0))
 
 pub put-indices-spec : {M : Type 1} → statement M
 put-indices-spec =

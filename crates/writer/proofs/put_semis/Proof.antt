@@ -29,9 +29,10 @@ loop-less c = search needs
 
 loop-again : tie.Need-loop-again Inv-loop μ-loop
 loop-again c =
-    let at-loop-test = c .before .before .before .before in
+    let at-put-byte = c .before .before in
+    let at-loop-test = at-put-byte .before .before in
     let at-loop = at-loop-test .before in (
-      left-next (left-as (semis-step (at-loop .loop .m) (at-loop-test .loop-test .taken)) (at-loop .loop .inv .0)) (c .before .before .put-byte .ensures .0),
+      left-next (left-as (semis-step (at-loop .loop .m) (at-loop-test .loop-test .taken)) (at-loop .loop .inv .0)) (at-put-byte .put-byte .ensures .0),
       omega arith,
     )
 

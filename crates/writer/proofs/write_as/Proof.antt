@@ -12,57 +12,66 @@ refused-requires c κs = search needs
 
 returns : tie.Need-returns
 returns c =
-    let start = c .before .before .before .before .before .before .before .before in
-    let a = start .args in
-    refuses-19 (a .escape) (a .units .now) (a .clusters .now) (a .glyphs .now) (a .text .now) (a .indices .now) (c .before .before .is-sound .ensures)
-    (c .refused .ensures) (c .before .if1 .taken)
+    let at-if1 = c .before in
+    let at-is-sound = at-if1 .before in
+    let at-start = at-is-sound .before .before .before .before .before .before in
+    let a = at-start .args in
+    refuses-19 (a .escape) (a .units .now) (a .clusters .now) (a .glyphs .now) (a .text .now) (a .indices .now) (at-is-sound .is-sound .ensures)
+    (c .refused .ensures) (at-if1 .if1 .taken)
 
 text-length-requires : tie.Need-text-length-requires
 text-length-requires c κs =
-    let a = c .before .before .before .before .before .before .before .args in
-    units-few (a .escape) (a .units .now) (a .clusters .now) (a .glyphs .now) (a .text .now) (a .indices .now) (c .before .is-sound .ensures) (c .if1 .left)
+    let at-is-sound = c .before in
+    let at-start = at-is-sound .before .before .before .before .before .before in
+    let a = at-start .args in
+    units-few (a .escape) (a .units .now) (a .clusters .now) (a .glyphs .now) (a .text .now) (a .indices .now) (at-is-sound .is-sound .ensures) (c .if1 .left)
 
 refused-requires-2 : tie.Need-refused-requires-2
 refused-requires-2 c κs = search needs
 
 returns-2 : tie.Need-returns-2
 returns-2 c =
-    let at-if1 = c .before .before .before in
+    let at-if2 = c .before in
+    let at-text-length = at-if2 .before in
+    let at-if1 = at-text-length .before in
     let at-is-sound = at-if1 .before in
-    let start = at-is-sound .before .before .before .before .before .before in
-    let a = start .args in
+    let at-start = at-is-sound .before .before .before .before .before .before in
+    let a = at-start .args in
     refuses-20 (a .escape) (a .units .now) (a .clusters .now) (a .glyphs .now) (a .text .now) (a .indices .now) (at-is-sound .is-sound .ensures)
-    (at-if1 .if1 .left) (c .before .before .text-length .ensures) (c .refused2 .ensures) (c .before .if2 .taken)
+    (at-if1 .if1 .left) (at-text-length .text-length .ensures) (c .refused2 .ensures) (at-if2 .if2 .taken)
 
 indices-length-requires : tie.Need-indices-length-requires
 indices-length-requires c κs =
-    let at-is-sound = c .before .before .before in
-    let start = at-is-sound .before .before .before .before .before .before in
-    let a = start .args in
+    let at-if1 = c .before .before in
+    let at-is-sound = at-if1 .before in
+    let at-start = at-is-sound .before .before .before .before .before .before in
+    let a = at-start .args in
     numbers-few (a .escape) (a .units .now) (a .clusters .now) (a .glyphs .now) (a .text .now) (a .indices .now) (at-is-sound .is-sound .ensures)
-    (c .before .before .if1 .left)
+    (at-if1 .if1 .left)
 
 refused-requires-3 : tie.Need-refused-requires-3
 refused-requires-3 c κs = search needs
 
 returns-3 : tie.Need-returns-3
 returns-3 c =
-    let at-if2 = c .before .before .before in
+    let at-if3 = c .before in
+    let at-indices-length = at-if3 .before in
+    let at-if2 = at-indices-length .before in
     let at-text-length = at-if2 .before in
     let at-if1 = at-text-length .before in
     let at-is-sound = at-if1 .before in
-    let start = at-is-sound .before .before .before .before .before .before in
-    let a = start .args in
+    let at-start = at-is-sound .before .before .before .before .before .before in
+    let a = at-start .args in
     refuses-21 (a .escape) (a .units .now) (a .clusters .now) (a .glyphs .now) (a .text .now) (a .indices .now) (at-is-sound .is-sound .ensures)
-    (at-if1 .if1 .left) (at-text-length .text-length .ensures) (at-if2 .if2 .left) (c .before .before .indices-length .ensures) (c .refused3 .ensures)
-    (c .before .if3 .taken)
+    (at-if1 .if1 .left) (at-text-length .text-length .ensures) (at-if2 .if2 .left) (at-indices-length .indices-length .ensures) (c .refused3 .ensures)
+    (at-if3 .if3 .taken)
 
 put-text-requires : tie.Need-put-text-requires
 put-text-requires c κs =
     let at-if1 = c .before .before .before .before .before in
     let at-is-sound = at-if1 .before in
-    let start = at-is-sound .before .before .before .before .before .before in
-    let a = start .args in
+    let at-start = at-is-sound .before .before .before .before .before .before in
+    let a = at-start .args in
     units-few (a .escape) (a .units .now) (a .clusters .now) (a .glyphs .now) (a .text .now) (a .indices .now) (at-is-sound .is-sound .ensures)
     (at-if1 .if1 .left)
 
@@ -70,8 +79,8 @@ put-indices-requires : tie.Need-put-indices-requires
 put-indices-requires c κs =
     let at-if1 = c .before .before .before .before .before .before .before .before .before in
     let at-is-sound = at-if1 .before in
-    let start = at-is-sound .before .before .before .before .before .before in
-    let a = start .args in
+    let at-start = at-is-sound .before .before .before .before .before .before in
+    let a = at-start .args in
     numbers-few (a .escape) (a .units .now) (a .clusters .now) (a .glyphs .now) (a .text .now) (a .indices .now) (at-is-sound .is-sound .ensures)
     (at-if1 .if1 .left)
 
@@ -83,18 +92,19 @@ same-length-2 c = search needs
 
 returns-4 : tie.Need-returns-4
 returns-4 c =
-    let at-put-text = c .before .before .before .before .before .before in
+    let at-put-indices = c .before .before in
+    let at-put-text = at-put-indices .before .before .before .before in
     let at-if3 = at-put-text .before .before in
     let at-indices-length = at-if3 .before in
     let at-if2 = at-indices-length .before in
     let at-text-length = at-if2 .before in
     let at-if1 = at-text-length .before in
     let at-is-sound = at-if1 .before in
-    let start = at-is-sound .before .before .before .before .before .before in
-    let a = start .args in
+    let at-start = at-is-sound .before .before .before .before .before .before in
+    let a = at-start .args in
     writes (a .escape) (a .units .now) (a .clusters .now) (a .glyphs .now) (a .text .now) (a .indices .now) (at-is-sound .is-sound .ensures)
     (at-if1 .if1 .left) (at-text-length .text-length .ensures) (at-if2 .if2 .left) (at-indices-length .indices-length .ensures) (at-if3 .if3 .left)
-    (at-put-text .put-text .ensures) (c .before .before .put-indices .ensures)
+    (at-put-text .put-text .ensures) (at-put-indices .put-indices .ensures)
 
 pub write-as-spec : {M : Type 1} → statement M
 write-as-spec =
