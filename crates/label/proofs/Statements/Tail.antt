@@ -214,6 +214,7 @@ thirteen t i p h =
   where
     text-lacks : lacks 13 (textChecks t) ≡ true
     text-lacks = lacks-append 13 (each charChecks (characters t)) _ (chars-lack (characters t)) refl
+
     only : (v : Outcome (Unit {0})) → _≡_ {A = Outcome Run} (v >> ok (saidRun t i)) (no 13 p) → v ≡ no 13 p
     only (ok x) e = no-ok 13 p (saidRun t i) (sym e)
     only (no m q) e = cc
@@ -241,6 +242,7 @@ unmapped st s ss o p h m = passed (entryChecks (st .k) s) _ h ∙ placed-thirtee
   where
     low : isLow (getD (st .rest) 1 0) ≡ true
     low = and-r (isHigh (getD (st .rest) 0 0)) (isLow (getD (st .rest) 1 0)) p
+
     placed-thirteen : verdict (placeChecks false st (entryOf s) ++ walkChecks false (next false st (entryOf s)) ss) ≡ no 13 (st .at + 1)
     placed-thirteen = unfold placeChecks verdict entryOf mapUnits mapGlyphs in rw (m, o, low, some-units (st .rest) low)
 

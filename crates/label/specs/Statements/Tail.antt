@@ -38,6 +38,7 @@ pub record SplitByEntry (bare : Bool) (st : State) (ss : List (List ℕ)) (p : �
 abbrev pub OwnGlyphs : List Cluster → List Glyph → Type 0
 OwnGlyphs cs gs = partStart (glyphCounts cs) (length cs) ≡ length gs
 
+-- CR 4, sentence by sentence
 pub record Tail : Type 0 where
   -- "a pair in the tail is one cluster of 2 units and 1 glyph, wholly the font's"; every other unit left is one of 1 and 1
   pub pair : (u v : ℕ) (us : List ℕ) → isPair (u ∷ v ∷ us) ≡ true → tail (u ∷ v ∷ us) ≡ addGlyph true (cluster 2 1) fontGlyph (tail us)
