@@ -91,6 +91,7 @@ unfoldable pub decimalFrom : ℕ → ℕ → List ℕ
 decimalFrom zero n = []
 decimalFrom (suc fuel) n = let r = decimalFrom fuel (n / 10) ++ ((48 + n % 10) ∷ []) in cond (ltb n 10) ((48 + n) ∷ []) r
 
+-- the same for any number
 unfoldable pub decimal : ℕ → List ℕ
 decimal n = decimalFrom (suc n) n
 
@@ -105,6 +106,7 @@ pub record Piece : Type 0 where
   pub byte : ℕ
   pub behind : List ℕ
 
+-- a piece from its three parts
 abbrev pub piece : ℕ → ℕ → List ℕ → Piece
 piece p b bs = record { place = p; byte = b; behind = bs }
 

@@ -35,7 +35,7 @@ use Rattle.label.specs.declared.Filling.the-variants as F
 abbrev pub refusal : ℕ → ℕ → Refusal
 refusal n p = record { number = n; place = p }
 
--- "If an answer is an enum, a definition gives this paper's number and values for every case of the enum"
+-- "If an answer is an enum, a definition gives this paper's number and values for every case of the enum": of a reading
 abbrev pub readingOutcome : Reading → Outcome Counts
 readingOutcome (R.Read c n) = ok c
 readingOutcome (R.Refused x) = no (x .number) (x .place)
@@ -45,14 +45,17 @@ abbrev pub readingRounded : Reading → ℕ
 readingRounded (R.Read c n) = n
 readingRounded (R.Refused x) = 0
 
+-- the same of a writing
 abbrev pub writingOutcome : Writing → Outcome Lengths
 writingOutcome (W.Written n) = ok n
 writingOutcome (W.Refused x) = no (x .number) (x .place)
 
+-- of a pick
 abbrev pub pickOutcome : Pick → Outcome Stretch
 pickOutcome (P.Picked s) = ok s
 pickOutcome (P.Refused x) = no (x .number) (x .place)
 
+-- and of a call that fills one list or buffer
 abbrev pub fillingOutcome : Filling → Outcome ℕ
 fillingOutcome (F.Filled n) = ok n
 fillingOutcome (F.Refused x) = no (x .number) (x .place)
@@ -113,13 +116,15 @@ abbrev pub counted : Outcome Run → Outcome Counts
 counted (ok r) = ok (counts r)
 counted (no n p) = no n p
 
--- the three buffers after a reading: "Places behind the run stay", and bytes left over do too
+-- the unit buffer after a reading: "Places behind the run stay", and bytes left over do too
 abbrev pub unitsAfter : Outcome Run → List ℕ → List ℕ
 unitsAfter o old = bufferAfter (λ (r : Run). placesOf r .units) o old
 
+-- the cluster buffer
 abbrev pub clustersAfter : Outcome Run → List ℕ → List ℕ
 clustersAfter o old = bufferAfter (λ (r : Run). placesOf r .clusters) o old
 
+-- the glyph buffer
 abbrev pub glyphsAfter : Outcome Run → List ℕ → List ℕ
 glyphsAfter o old = bufferAfter (λ (r : Run). placesOf r .glyphs) o old
 
@@ -165,10 +170,11 @@ abbrev pub lengths : Outcome Label → Outcome Lengths
 lengths (ok l) = ok (lengthsOf l)
 lengths (no n p) = no n p
 
--- "Bytes behind either output stay."
+-- the text output after a writing: "Bytes behind either output stay."
 abbrev pub textAfter : Outcome Label → List ℕ → List ℕ
 textAfter o old = bufferAfter (λ (l : Label). l .text) o old
 
+-- the indices output
 abbrev pub indicesAfter : Outcome Label → List ℕ → List ℕ
 indicesAfter o old = bufferAfter (λ (l : Label). l .indices) o old
 

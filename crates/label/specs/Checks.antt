@@ -28,7 +28,7 @@ textChecks text =
     check (above (length (saidUnits text)) maxUnits) 5 0 ∷
     [])
 
--- 7, 8, 9 of entry number k
+-- 7, 8, 9 of entry number k. "In 8 and 9 the entry's numbers go from left to right": 8 judges one number, and every 9 of an entry has the same place.
 unfoldable pub entryChecks : ℕ → List ℕ → List Check
 entryChecks k s =
     check (not (wellFormed s)) 7 k ∷

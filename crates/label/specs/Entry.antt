@@ -16,10 +16,11 @@ use Rattle.label.specs.declared.Glyph.{Glyph}
 
 -- ── numbers ──
 
--- the sign at the front
+-- the sign at the front: `-`
 abbrev pub minus : List ℕ → Bool
 minus s = eqb (getD s 0 0) 45
 
+-- or `+`
 abbrev pub plus : List ℕ → Bool
 plus s = eqb (getD s 0 0) 43
 
@@ -80,7 +81,7 @@ scaled m f down e = cond down (nearest (m * 10 ^ 3) (10 ^ (f + e))) (nearest (m 
 unfoldable pub thousandths : List ℕ → ℕ
 thousandths s = scaled (value (mantissaDigits s)) (length (fractionDigits s)) (minus (atExponent s .after)) (value (exponentDigits s))
 
--- 9 does not hold: not "above 18 digits before the exponent, above 2 in it, or size above 1,000,000,000 thousandths"
+-- 9 does not hold: not "above 18 digits before the exponent, above 2 in it, or size above 1,000,000,000 thousandths". "Leading zeros count as digits."
 unfoldable pub numberFits : List ℕ → Bool
 numberFits s = leb (length (mantissaDigits s)) maxDigits && leb (length (exponentDigits s)) maxExponentDigits && leb (thousandths s) maxThousandths
 
@@ -114,10 +115,11 @@ isIndexPart p =
 unfoldable pub indexDigits : List ℕ → List ℕ
 indexDigits p = cond (hasMap p) (atParenthesis p .after) p
 
--- a and b; "`(a)` means b = 1"; 1 and 1 without a map
+-- a; 1 without a map
 unfoldable pub mapUnits : List ℕ → ℕ
 mapUnits p = cond (hasMap p) (value (atColon p .before)) 1
 
+-- b; "`(a)` means b = 1"; 1 without a map
 unfoldable pub mapGlyphs : List ℕ → ℕ
 mapGlyphs p = cond (hasMap p && atColon p .found) (value (atColon p .after)) 1
 
@@ -137,7 +139,7 @@ wellFormed s = leb (length (split 44 s)) 4 && isIndexPart (entryPart 0 s) && isA
 unfoldable pub fieldFits : List ℕ → Bool
 fieldFits s = empty s || numberFits (unsigned s)
 
--- "The index is either named by the label or chosen by the font"
+-- "The index is either named by the label or chosen by the font". "A named index equal to the font's choice is still another run.": no definition knows a font.
 unfoldable pub indexOf : List ℕ → Index
 indexOf p = cond (empty (indexDigits p)) Font (Named (value (indexDigits p)))
 
@@ -156,6 +158,7 @@ pub record Entry : Type 0 where
   pub glyphs : ℕ
   pub glyph : Glyph
 
+-- "Fields in order: advance, u offset, v offset": what these bytes say
 unfoldable pub entryOf : List ℕ → Entry
 entryOf s =
     record {

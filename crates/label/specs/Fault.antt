@@ -35,9 +35,10 @@ faultPart text indices number place =
     (portion true (entryStart (entries indices) place) (length (getD (entries indices) place [])))
     (portion false 0 0))
 
--- its bytes, and where they stand, for a text at p and indices at q: "the caller's own bytes"
+-- its bytes
 abbrev pub partBytes : List ℕ → List ℕ → Part → List ℕ
 partBytes text indices x = take (x .length) (drop (x .start) (cond (x .«in_indices») indices text))
 
+-- where they stand, for a text at p and indices at q: "the caller's own bytes"
 abbrev pub partPtr : ℕ × ℕ → ℕ × ℕ → Part → ℕ × ℕ
 partPtr p q x = (cond (x .«in_indices») q p .0, x .start + cond (x .«in_indices») q p .1)

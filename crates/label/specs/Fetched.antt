@@ -25,12 +25,13 @@ words (a ∷ b ∷ []) = []
 words (a ∷ b ∷ c ∷ []) = []
 words (a ∷ b ∷ c ∷ d ∷ s) = signed (a + 256 * b + 65536 * c + 16777216 * d) ∷ words s
 
--- no byte is left over
+-- no byte is left over behind units
 unfoldable pub evenBytes : List ℕ → Bool
 evenBytes [] = true
 evenBytes (a ∷ []) = false
 evenBytes (a ∷ b ∷ s) = evenBytes s
 
+-- no byte is left over behind other numbers
 unfoldable pub wordBytes : List ℕ → Bool
 wordBytes [] = true
 wordBytes (a ∷ []) = false

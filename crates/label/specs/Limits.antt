@@ -2,10 +2,11 @@
 -- Assumes nothing.
 use Prim.Native.Nat.{ℕ}
 
--- "text above 16,384 bytes or indices above 262,144" (1)
+-- "text above 16,384 bytes" (1)
 abbrev pub maxTextBytes : ℕ
 maxTextBytes = 16384
 
+-- "or indices above 262,144" (1)
 abbrev pub maxIndicesBytes : ℕ
 maxIndicesBytes = 262144
 
@@ -21,13 +22,15 @@ maxGlyphs = 4096
 abbrev pub maxIndex : ℕ
 maxIndex = 65535
 
--- "above 18 digits before the exponent, above 2 in it, or size above 1,000,000,000 thousandths" (9)
+-- "above 18 digits before the exponent" (9)
 abbrev pub maxDigits : ℕ
 maxDigits = 18
 
+-- "above 2 in it" (9)
 abbrev pub maxExponentDigits : ℕ
 maxExponentDigits = 2
 
+-- "or size above 1,000,000,000 thousandths" (9)
 abbrev pub maxThousandths : ℕ
 maxThousandths = 1000000000
 

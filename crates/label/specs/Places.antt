@@ -15,11 +15,12 @@ use Rattle.label.specs.declared.Glyph.{Glyph}
 use Rattle.label.specs.declared.Index.{Index}
 use Rattle.label.specs.declared.Index.the-variants.{Font, Named}
 
--- "index or −1 for the font, advance or −1"
+-- "index or −1 for the font"
 abbrev pub indexNumber : Index → ℤ
 indexNumber (Named n) = pos n
 indexNumber Font = negsuc 0
 
+-- "advance or −1"
 abbrev pub advanceNumber : Advance → ℤ
 advanceNumber (Given n) = pos n
 advanceNumber Own = negsuc 0
@@ -40,6 +41,7 @@ pub record Places : Type 0 where
   pub clusters : List ℕ
   pub glyphs : List ℕ
 
+-- the places in these buffers
 abbrev pub places : List ℕ → List ℕ → List ℕ → Places
 places us cs gs = record { units = us; clusters = cs; glyphs = gs }
 

@@ -54,9 +54,8 @@ addGlyph false c g p = record { clusters = p .clusters; glyphs = g ∷ p .glyphs
 abbrev pub keepsPair : ℕ → List ℕ → Bool
 keepsPair a us = not (isLow (getD us a 0))
 
--- "When entries end before the text, each unit left is a 1:1 cluster, all chosen by the font: this is the unwritten tail."
--- "A cluster may not end between the halves of a pair (house), the tail included." Document 02, CR 4: "Now a pair in the tail is one cluster of 2
--- units and 1 glyph, wholly the font's."
+-- "When entries end before the text, each unit left is a 1:1 cluster, all chosen by the font: this is the unwritten tail." But of a pair, which document 01
+-- refuses there, document 02, CR 4, has: "Now a pair in the tail is one cluster of 2 units and 1 glyph, wholly the font's."
 unfoldable pub tail : List ℕ → Parts
 tail [] = record { clusters = []; glyphs = [] }
 tail (u ∷ []) = addGlyph true (cluster 1 1) fontGlyph (tail [])
@@ -117,9 +116,10 @@ walkParts bare st (s ∷ ss) =
 abbrev pub saidParts : List ℕ → List ℕ → Parts
 saidParts us indices = walkParts (empty us) (startState us) (entries indices)
 
--- the run that they say, and the run that a label says
+-- units with such parts make a run
 abbrev pub runWith : List ℕ → Parts → Run
 runWith us p = record { units = us; clusters = p .clusters; glyphs = p .glyphs }
 
+-- the run that a label says
 unfoldable pub saidRun : List ℕ → List ℕ → Run
 saidRun text indices = runWith (saidUnits text) (saidParts (saidUnits text) indices)

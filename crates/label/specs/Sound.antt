@@ -20,21 +20,23 @@ use Rattle.label.specs.declared.Glyph.{Glyph}
 use Rattle.label.specs.declared.Index.{Index}
 use Rattle.label.specs.declared.Index.the-variants.{Font, Named}
 
--- a number that is not below 0; the same, with −1 allowed
+-- a number that is not below 0
 abbrev pub natural : ℤ → Bool
 natural (pos n) = true
 natural (negsuc n) = false
 
+-- the same, with −1 allowed
 abbrev pub choice : ℤ → Bool
 choice (pos n) = true
 choice (negsuc n) = eqb n 0
 
--- "the lengths are whole clusters and glyphs"; counts are not below 0, an index and an advance not below −1
+-- "the lengths are whole clusters [...]"; counts are not below 0
 unfoldable pub wholeClusters : List ℤ → Bool
 wholeClusters [] = true
 wholeClusters (a ∷ []) = false
 wholeClusters (a ∷ b ∷ zs) = natural a && natural b && wholeClusters zs
 
+-- "[...] and glyphs"; an index and an advance are not below −1
 unfoldable pub wholeGlyphs : List ℤ → Bool
 wholeGlyphs [] = true
 wholeGlyphs (i ∷ []) = false
@@ -42,25 +44,28 @@ wholeGlyphs (i ∷ a ∷ []) = false
 wholeGlyphs (i ∷ a ∷ u ∷ []) = false
 wholeGlyphs (i ∷ a ∷ u ∷ v ∷ zs) = choice i && choice a && wholeGlyphs zs
 
--- a count, an index and an advance from their numbers, −1 for the font
+-- a count from its number
 abbrev pub nat : ℤ → ℕ
 nat (pos n) = n
 nat (negsuc n) = 0
 
+-- an index from its number, −1 for the font
 abbrev pub numberIndex : ℤ → Index
 numberIndex (pos n) = Named n
 numberIndex (negsuc n) = Font
 
+-- an advance likewise
 abbrev pub numberAdvance : ℤ → Advance
 numberAdvance (pos n) = Given n
 numberAdvance (negsuc n) = Own
 
--- the clusters and the glyphs whose numbers these are
+-- the clusters whose numbers these are
 unfoldable pub clustersOf : List ℤ → List Cluster
 clustersOf [] = []
 clustersOf (a ∷ []) = []
 clustersOf (a ∷ b ∷ zs) = cluster (nat a) (nat b) ∷ clustersOf zs
 
+-- the glyphs whose numbers these are
 unfoldable pub glyphsOf : List ℤ → List Glyph
 glyphsOf [] = []
 glyphsOf (i ∷ []) = []
@@ -79,15 +84,17 @@ abbrev pub size : ℤ → ℕ
 size (pos n) = n
 size (negsuc n) = suc n
 
--- "limits hold": 8 and 9 do not hold of a glyph's numbers
+-- "limits hold": 8 does not hold of an index
 abbrev pub indexFits : Index → Bool
 indexFits (Named n) = leb n maxIndex
 indexFits Font = true
 
+-- 9 does not hold of an advance
 abbrev pub advanceFits : Advance → Bool
 advanceFits (Given n) = leb n maxThousandths
 advanceFits Own = true
 
+-- neither holds of a glyph's numbers
 abbrev pub glyphFits : Glyph → Bool
 glyphFits g = indexFits (g .index) && advanceFits (g .advance) && leb (size (g .u)) maxThousandths && leb (size (g .v)) maxThousandths
 

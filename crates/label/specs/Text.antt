@@ -16,11 +16,12 @@ pub record Range : Type 0 where
   pub lo : ℕ
   pub hi : ℕ
 
--- as the table prints it: lo..hi, or one byte alone
+-- as the table prints it: lo..hi
 infixl 80 _‥_
 abbrev pub _‥_ : ℕ → ℕ → Range
 l ‥ h = record { lo = l; hi = h }
 
+-- or one byte alone
 abbrev pub byte : ℕ → Range
 byte b = b ‥ b
 
@@ -100,10 +101,11 @@ unfoldable pub xmlChar : ℕ → Bool
 xmlChar c =
     eqb c 0x9 || eqb c 0xa || eqb c 0xd || within 0x20 0xd7ff c || within 0xe000 0xfffd c || within 0x10000 0x10ffff c
 
--- the high halves, U+D800 to U+DBFF, and the low halves, U+DC00 to U+DFFF
+-- the high halves, U+D800 to U+DBFF
 abbrev pub isHigh : ℕ → Bool
 isHigh u = within 0xd800 0xdbff u
 
+-- the low halves, U+DC00 to U+DFFF
 abbrev pub isLow : ℕ → Bool
 isLow u = within 0xdc00 0xdfff u
 
@@ -135,9 +137,10 @@ characters text = pieces following 0 0 text
 abbrev pub charUnits : Piece → List ℕ
 charUnits c = unitsOf (codePoint (c .byte) (c .behind))
 
--- the units of a text as lent, and without `{}`: "What remains becomes UTF-16 code units"
+-- the units of a text as lent
 abbrev pub lentUnits : List ℕ → List ℕ
 lentUnits text = each charUnits (characters text)
 
+-- and without `{}`: "What remains becomes UTF-16 code units"
 abbrev pub saidUnits : List ℕ → List ℕ
 saidUnits text = unmarked (lentUnits text)

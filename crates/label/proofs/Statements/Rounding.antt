@@ -122,6 +122,11 @@ unfolding offsetOf unsigned thousandths scaled nearest mantissaDigits fractionDi
 sign [] h k = refl
 sign (b ∷ bs) h k = rw (h, k)
 
+plus-sign : (s : List ℕ) → minus s ≡ false → plus s ≡ false → offsetOf (43 ∷ s) ≡ offsetOf s
+unfolding offsetOf unsigned thousandths scaled nearest mantissaDigits fractionDigits exponentDigits cut valueFrom
+plus-sign [] h k = refl
+plus-sign (b ∷ bs) h k = rw (h, k)
+
 pub rounding : Rounding
 rounding =
     record {
@@ -132,5 +137,6 @@ rounding =
       exact = λ n b h. nearest-exact (n * b) b n h refl;
       others = others;
       limit = limit;
+      plus-sign = plus-sign;
       sign = sign;
     }

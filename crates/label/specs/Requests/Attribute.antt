@@ -53,10 +53,11 @@ referred s =
     (cond (eqb (getD s 1 0) 120) (numbered 16 (drop 2 s)) (numbered 10 (drop 1 s)))
     (predefined s)
 
--- what stands behind a `&`, up to the first `;`, and whether there is one
+-- what stands behind a `&`, up to the first `;`
 unfoldable pub body : List ℕ → List ℕ
 body bs = cut (λ b. eqb b 59) bs .before
 
+-- there is such a `;`
 unfoldable pub isClosed : List ℕ → Bool
 isClosed bs = cut (λ b. eqb b 59) bs .found
 
@@ -86,13 +87,15 @@ further b bs = cond (eqb b 38) (suc (length (body bs))) (cond (eqb b 13 && eqb (
 abbrev pub rawCheck : Piece → List Check
 rawCheck r = check (not (isGood (r .byte) (r .behind))) 23 (r .place) ∷ []
 
+-- what comes out of a piece
 abbrev pub rawBytes : Piece → List ℕ
 rawBytes r = gives (r .byte) (r .behind)
 
--- a raw value's checks, from its left, and the bytes that come out, which are not looked at again
+-- a raw value's checks, from its left
 abbrev pub rawChecks : List ℕ → List Check
 rawChecks raw = each rawCheck (pieces further 0 0 raw)
 
+-- the bytes that come out, which are not looked at again
 abbrev pub rawGives : List ℕ → List ℕ
 rawGives raw = each rawBytes (pieces further 0 0 raw)
 
@@ -124,5 +127,6 @@ asAsked false s = s
 unfoldable pub resolveChecks : ℕ → List ℕ → List Check
 resolveChecks room raw = rawChecks raw ++ (check (above (length (rawGives raw)) room) 24 (length (rawGives raw)) ∷ [])
 
+-- "It works on one attribute a call [...], into a lent buffer"
 unfoldable pub resolveInto : ℕ → List ℕ → Outcome (List ℕ)
 resolveInto room raw = verdict (resolveChecks room raw) >> ok (rawGives raw)

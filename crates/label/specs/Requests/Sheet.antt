@@ -18,11 +18,12 @@ use Rattle.label.specs.Write.{Label}
 unfoldable pub header : List ℕ
 header = ascii "SLB" ++ fromHalves (1 ∷ [])
 
--- "a 16-bit text length, a 32-bit indices length, the text, the indices"; "low byte first": the two lengths of the record that starts here; a byte that is
--- not there counts as 0, and then the record does not end in the file
+-- "a 16-bit text length [...]"; "low byte first": of the record that starts here; a byte that is not there counts as 0, and then the record does not end in
+-- the file
 unfoldable pub textLength : List ℕ → ℕ
 textLength s = getD s 0 0 + 256 * getD s 1 0
 
+-- "a 32-bit indices length"
 unfoldable pub indicesLength : List ℕ → ℕ
 indicesLength s = getD s 2 0 + 256 * getD s 3 0 + 65536 * getD s 4 0 + 16777216 * getD s 5 0
 
@@ -46,13 +47,15 @@ recordMore b bs = recordLength (b ∷ bs) - 1
 abbrev pub recordCheck : ℕ → Piece → List Check
 recordCheck k r = check (not (isRecord (fromPiece r))) 26 k ∷ []
 
+-- the label of a piece that is a record, as a list of one
 abbrev pub recordLabels : Piece → List Label
 recordLabels r = recordLabel (fromPiece r) ∷ []
 
--- the records of a file, behind its header, and their labels
+-- the records of a file, behind its header
 abbrev pub sheetRecords : List ℕ → List Piece
 sheetRecords file = pieces recordMore 0 0 (drop 5 file)
 
+-- their labels
 abbrev pub saidLabels : List ℕ → List Label
 saidLabels file = each recordLabels (sheetRecords file)
 
@@ -86,5 +89,6 @@ answers (l ∷ ls) = answer l ++ answers ls
 unfoldable pub sheetChecks : ℕ → List ℕ → List Check
 sheetChecks room file = fileChecks file ++ (check (above (2 * length (saidLabels file)) room) 27 (length (saidLabels file)) ∷ [])
 
+-- "The lent answer list gets two numbers a label": the call
 unfoldable pub sheetInto : ℕ → List ℕ → Outcome (List ℤ)
 sheetInto room file = verdict (sheetChecks room file) >> ok (answers (saidLabels file))

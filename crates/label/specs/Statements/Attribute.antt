@@ -39,10 +39,11 @@ readRaw room text indices = verdict (rawLabelChecks room text indices) >> ok (sa
 abbrev pub cameOut : ℕ → List ℕ → List ℕ → List ℕ
 cameOut n s old = take n (filledAfter (resolveInto (length old) s) old)
 
--- the escaped text and the escaped indices of the run r, with outcome w of its writing, in the outputs
+-- the escaped text of the run r, with outcome w of its writing, in the outputs
 abbrev pub escapedText : Run → Outcome Label → List ℕ → List ℕ
 escapedText r w tx = take (length (escape (normal r .text))) (textAfter w tx)
 
+-- and its escaped indices
 abbrev pub escapedIndices : Run → Outcome Label → List ℕ → List ℕ
 escapedIndices r w ix = take (length (escape (normal r .indices))) (indicesAfter w ix)
 
@@ -57,6 +58,7 @@ pub record Restored (r : Run) (w : Outcome Label) (reads : List ℕ → List ℕ
 abbrev pub isMarkup : ℕ → Bool
 isMarkup b = eqb b 60 || eqb b 34 || eqb b 9 || eqb b 10 || eqb b 13
 
+-- CR 2, sentence by sentence
 pub record Restoring : Type 0 where
   -- "resolving restores the bytes": of every list of bytes, not only of a writing; into any buffer with room for them
   pub restores : (s : List ℕ) → resolve (escape s) ≡ ok s

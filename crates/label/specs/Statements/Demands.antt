@@ -16,7 +16,7 @@ use Rattle.label.specs.Places.{Places, places, placesOf, Readable}
 use Rattle.label.specs.Sound.{runOf, sound}
 use Rattle.label.specs.Write.{Label, normal}
 use Rattle.label.specs.Pick.{pickChecks, pickUnits, pickGlyphs}
-use Rattle.label.specs.Calls.{filled, roomOf, readChecks, readInto, counts, counted, unitsAfter, clustersAfter, glyphsAfter, saidLabel, writeChecks, writeInto, outputs, lengthsOf, lengths, textAfter, indicesAfter}
+use Rattle.label.specs.Calls.{filled, roomOf, bufferChecks, readChecks, readInto, counts, counted, unitsAfter, clustersAfter, glyphsAfter, saidLabel, outputChecks, writeChecks, writeInto, outputs, lengthsOf, lengths, textAfter, indicesAfter}
 use Rattle.label.specs.Statements.Memory.{Kept}
 use Rattle.label.specs.declared.Cluster.{Cluster}
 use Rattle.label.specs.declared.Counts.{Counts}
@@ -44,11 +44,12 @@ pub record Divided (n : ℕ) (ns : List ℕ) : Type 0 where
   pub ordered : (i i′ j k : ℕ) → i ≤ i′ → In ns j i → In ns k i′ → j ≤ k
   pub no-more : (i j : ℕ) → In ns j i → i < n
 
--- the clusters' counts of units, and of glyphs
+-- the clusters' counts of units
 abbrev pub unitCounts : List Cluster → List ℕ
 unitCounts [] = []
 unitCounts (c ∷ cs) = c .units ∷ unitCounts cs
 
+-- and of glyphs
 abbrev pub glyphCounts : List Cluster → List ℕ
 glyphCounts [] = []
 glyphCounts (c ∷ cs) = c .glyphs ∷ glyphCounts cs
@@ -76,12 +77,13 @@ pub record ClustersTouched (ns to : List ℕ) (first end : ℕ) (s : Stretch) : 
 
 -- ── large enough ──
 
--- "Buffers are large enough when 16 to 18, for the writer 20 and 21, don't hold."
+-- "Buffers are large enough when 16 to 18 [...] don't hold" (`Demand3.large`)
 pub record Roomy (r : Run) (room : Counts) : Type 0 where
   pub for-units : length (r .units) ≤ room .units
   pub for-clusters : length (r .clusters) ≤ room .clusters
   pub for-glyphs : length (r .glyphs) ≤ room .glyphs
 
+-- "for the writer 20 and 21" (`Demand3.large-outputs`)
 pub record RoomyFor (l : Label) (room : Lengths) : Type 0 where
   pub for-text : length (l .text) ≤ room .text
   pub for-indices : length (l .indices) ≤ room .indices
@@ -107,13 +109,15 @@ storedRun r = placesOf r .units ∷ placesOf r .clusters ∷ placesOf r .glyphs 
 abbrev pub buffersAfter : Outcome Run → List ℕ → List ℕ → List ℕ → List (List ℕ)
 buffersAfter o us cs gs = unitsAfter o us ∷ clustersAfter o cs ∷ glyphsAfter o gs ∷ []
 
--- what a writing stores of a label in the two outputs, and the outputs after a writing
+-- what a writing stores of a label in the two outputs
 abbrev pub storedLabel : Label → List (List ℕ)
 storedLabel l = l .text ∷ l .indices ∷ []
 
+-- the outputs after a writing
 abbrev pub outputsAfter : Outcome Label → List ℕ → List ℕ → List (List ℕ)
 outputsAfter o tx ix = textAfter o tx ∷ indicesAfter o ix ∷ []
 
+-- demand 1, sentence by sentence
 pub record Demand1 : Type 0 where
   -- "The lent memory holds, after a reading, either the complete run of the label or exactly what it held before, for every text and every indices bytes,
   -- of any length."
@@ -140,6 +144,7 @@ clusterMap g (c ∷ cs) = replicate (c .units) g ++ clusterMap (g + c .glyphs) c
 abbrev pub PicksWhole : List ℕ → List ℕ → ℕ → ℕ → Outcome Stretch → Type 0
 PicksWhole ns to first end o = (s : Stretch) × (o ≡ ok s) × ClustersTouched ns to first end s
 
+-- demand 2, sentence by sentence
 pub record Demand2 : Type 0 where
   -- "The reading is the one that ECMA-388 [...] defines within the limits and house choices of document 01": the run is the one that text and entries say,
   -- character by character and entry by entry, and its clusters make up the cluster map of the standard
@@ -179,10 +184,11 @@ handedOn r o us cs gs =
 abbrev pub passedOn : Run → List ℕ → List ℕ → List ℕ → List ℕ → List ℕ → Lengths → Outcome Label
 passedOn r t i us cs gs room = writeInto room (handedOn r (readInto (roomOf us cs gs) t i) us cs gs)
 
--- the text bytes and the indices bytes that a writing of the run r with outcome w leaves in the outputs
+-- the text bytes that a writing of the run r with outcome w leaves in its output
 abbrev pub textWritten : Run → Outcome Label → List ℕ → List ℕ
 textWritten r w tx = take (length (normal r .text)) (textAfter w tx)
 
+-- and the indices bytes
 abbrev pub indicesWritten : Run → Outcome Label → List ℕ → List ℕ
 indicesWritten r w ix = take (length (normal r .indices)) (indicesAfter w ix)
 
@@ -202,7 +208,11 @@ pub record Passed (r : Run) (o : Outcome Run) (w : Outcome Label) (tx ix : List 
   -- the bytes written are accepted and read back to the run
   pub back : read (textWritten r w tx) (indicesWritten r w ix) ≡ ok r
 
+-- demand 3, sentence by sentence
 pub record Demand3 : Type 0 where
+  -- "Buffers are large enough when 16 to 18, for the writer 20 and 21, don't hold."
+  pub large : (r : Run) (room : Counts) → Roomy r room ↔ (refuses (bufferChecks room r) ≡ false)
+  pub large-outputs : (l : Label) (room : Lengths) → RoomyFor l room ↔ (refuses (outputChecks room l) ≡ false)
   -- "For every two labels that document 01 accepts, whatever the lent buffers, all large enough, held before, the reader accepts both, with the runs
   -- defined there" (of each of the two labels)
   pub reads : (t i : List ℕ) (r : Run) (room : Counts) → read t i ≡ ok r → Roomy r room → readInto room t i ≡ ok r

@@ -59,6 +59,7 @@ abbrev pub Each : (Row → Type 0) → List Row → Type 0
 Each P [] = Unit {0}
 Each P (r ∷ rs) = P r × Each P rs
 
+-- CR 5, sentence by sentence
 pub record Encoding : Type 0 where
   -- "the nine rows of Unicode's Table 3-7"
   pub nine : length table ≡ 9

@@ -14,6 +14,7 @@ use Rattle.label.specs.Calls.{filledAfter, listChecks, listInto}
 use Rattle.label.specs.Statements.Memory.{Kept}
 use Rattle.label.specs.declared.Glyph.{Glyph}
 
+-- the call, sentence by sentence
 pub record Records : Type 0 where
   -- the records are those of the run that some label reads as, where the list has room for them
   pub lists : (room : ℕ) (z : Places) (w : Readable z) → length (w .run .glyphs) ≤ room → listInto room z ≡ ok (w .run .glyphs)

@@ -19,6 +19,7 @@ abbrev pub oneLine : List ℕ → Bool
 oneLine [] = true
 oneLine (b ∷ bs) = not (eqb b 10) && oneLine bs
 
+-- the program, sentence by sentence
 pub record Relabelling : Type 0 where
   -- "reads two lines, text and indices": "A line feed ends a line and is no part of it", and what follows is not looked at
   pub two-lines : (t i rest : List ℕ) → oneLine t ≡ true → oneLine i ≡ true → relabel (t ++ (10 ∷ (i ++ (10 ∷ rest)))) ≡ printed (relabelRead t i)

@@ -15,6 +15,7 @@ use Rattle.label.specs.Calls.{readInto}
 use Rattle.label.specs.Requests.RoundedCount.{isWhole, rounded, beside}
 use Rattle.label.specs.declared.Counts.{Counts}
 
+-- CR 1, sentence by sentence
 pub record RoundedCount : Type 0 where
   -- "whether its exact value was a whole count of thousandths": m × 10^(e − f) × 1000 is the value that the number reads as
   pub exact : (m f : ℕ) (down : Bool) (e : ℕ) → (isWhole m f down e ≡ true)

@@ -22,6 +22,7 @@ pub record Rounds (a b n : ℕ) : Type 0 where
   -- "Halves go to the even neighbour.": of two as near, it is the even one
   pub even : (k : ℕ) → (k ≡ n → ⊥) → apart a b k ≡ apart a b n → n % 2 ≡ 0
 
+-- CR 6, sentence by sentence
 pub record Rounding : Type 0 where
   -- a ratio has one rounded value, and `nearest` gives it
   pub rounds : (a b : ℕ) → 0 < b → Rounds a b (nearest a b)
@@ -36,5 +37,7 @@ pub record Rounding : Type 0 where
   -- "`1000000.0005` is accepted as 1,000,000,000": `numberFits` (Entry) judges the rounded size, and as the limit is even, that is within it exactly up to half
   -- a thousandth above it, the half included
   pub limit : (a b : ℕ) → 0 < b → (nearest a b ≤ maxThousandths) ↔ (2 * a ≤ (2 * maxThousandths + 1) * b)
+  -- "an offset may have either" sign: with a plus it is that without
+  pub plus-sign : (s : List ℕ) → minus s ≡ false → plus s ≡ false → offsetOf (43 ∷ s) ≡ offsetOf s
   -- "then the sign": an offset with a minus is the negative of that without
   pub sign : (s : List ℕ) → minus s ≡ false → plus s ≡ false → offsetOf (45 ∷ s) ≡ negℤ (offsetOf s)

@@ -71,6 +71,7 @@ answerAt k list = words (take 8 (drop (8 * k) list))
 abbrev pub Large : Label → Counts → Type 0
 Large l room = (r : Run) → read (l .text) (l .indices) ≡ ok r → Roomy r room
 
+-- CR 3, sentence by sentence
 pub record Answering : Type 0 where
   -- the file of every list of labels that fits the format is read as that list
   pub back : (ls : List Label) → fitsFile ls ≡ true → labelsOf (sheetFile ls) ≡ ok ls
