@@ -26,6 +26,7 @@ use Rattle.label.specs.Statements.Demands.{unitCounts, glyphCounts, Room
 use Rattle.label.specs.declared.Counts.{Counts}
 use Rattle.label.specs.declared.Lengths.{Lengths}
 use Rattle.label.proofs.Basics.{and-i, cases, bind-ok, need-ok, no-ok}
+use Rattle.label.proofs.Values.{normal-writer}
 use Rattle.label.proofs.Run.{ok-path}
 use Rattle.label.proofs.Sound.{read-sound, read-back, SoundRun, sound-parts}
 use Rattle.label.proofs.Steps.{into-steps, write-steps, units-steps, glyphs-steps}
@@ -227,7 +228,7 @@ demand-2 =
 -- ── demand 3 ──
 
 same-back : (A B : Run) → soundRun A ≡ true → soundRun B ≡ true → normal A .text ≡ normal B .text → normal A .indices ≡ normal B .indices → A ≡ B
-same-back A B a b p q = ok-path A B (sym (read-back A a) ∙ rw (p, q) (read-back B b))
+same-back A B a b p q = ok-path A B (sym (read-back normal-writer A a) ∙ rw (p, q) (read-back normal-writer B b))
 
 same : (A B : Run) (lA lB : Label) → soundRun A ≡ true → soundRun B ≡ true → lA ≡ normal A → lB ≡ normal B
     → (A ≡ B) ↔ ((lA .text ≡ lB .text) × (lA .indices ≡ lB .indices))
@@ -260,7 +261,8 @@ passed r o w tx ix s eo ew n =
     record {
       counts-are = rw eo;
       wrote = rw ew (wrote (normal r) (normal r) tx ix refl n);
-      back = rw (ew, held (normal r .text) tx (length (normal r .text)) refl, held (normal r .indices) ix (length (normal r .indices)) refl) (read-back r s);
+      back = rw (ew, held (normal r .text) tx (length (normal r .text)) refl, held (normal r .indices) ix (length (normal r .indices)) refl)
+          (read-back normal-writer r s);
     }
 
 module _ (r : Run) (o : Outcome Run) (w : Outcome Label) (tx ix : List ℕ) (p : Passed r o w tx ix) where
@@ -290,8 +292,8 @@ demand-3 =
       same = λ tA iA tB iB A B lA lB x y a b p q. same A B lA lB (read-sound tA iA A a) (read-sound tB iB B b)
           (written-as false (placesOf A) lA x (own tA iA A a) p) (written-as false (placesOf B) lB y (own tB iB B b) q);
       normally = λ t i r room h m. written-from false (placesOf r) room (own t i r h) m;
-      back = λ t i r h. read-back r (read-sound t i r h);
-      again = λ t i r s room h k m. let e : s ≡ r = ok-path s r (sym k ∙ read-back r (read-sound t i r h)) in
+      back = λ t i r h. read-back normal-writer r (read-sound t i r h);
+      again = λ t i r s room h k m. let e : s ≡ r = ok-path s r (sym k ∙ read-back normal-writer r (read-sound t i r h)) in
           subst (λ (q : Run). writeInto room (placesOf q) ≡ ok (normal r)) (sym e) (written-from false (placesOf r) room (own t i r h) m);
       units = λ t i r h. let s : SoundRun r = sound-parts r (read-sound t i r h) in
           divided (length (r .units)) (unitCounts (r .clusters)) (fits-units (r .glyphs) (empty (r .units)) (r .clusters) (r .units) 0 (s .fit));

@@ -14,7 +14,7 @@ use Rattle.label.specs.Entry.{entries}
 use Rattle.label.specs.Run.{Run, keepsPair, addGlyph, cluster, fontGlyph, tail, saidRun}
 use Rattle.label.specs.Checks.{charChecks, textChecks, walkChecks, runChecks, labelChecks, read}
 use Rattle.label.specs.Sound.{allFont, fits}
-use Rattle.label.specs.Write.{indicesOf}
+use Rattle.label.specs.Write.{valueBytes, indicesBy, indicesOf}
 use Rattle.label.specs.Statements.Tail.{Tail}
 use Rattle.label.specs.declared.Glyph.{Glyph}
 use Rattle.label.specs.declared.Cluster.{Cluster}
@@ -41,8 +41,8 @@ last us cs g gs h =
     and-r (isPair us) (allFont gs) (and-r (leb 2 (length us) && keepsPair 2 us) (isPair us && allFont gs) m)
 
 drops : (cs : List Cluster) (gs : List Glyph) → allFont gs ≡ true → indicesOf cs gs ≡ []
-unfolding indicesOf join
-drops cs gs h = rw (font-written gs 0 cs h)
+unfolding indicesBy join
+drops cs gs h = rw (font-written valueBytes gs 0 cs h)
 
 -- ── which numbers ──
 
