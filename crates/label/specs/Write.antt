@@ -1,4 +1,4 @@
--- "The normal writing" of a run.
+-- "The normal writing" of a run, over how a value is written.
 -- Assumes nothing.
 use Prim.Native.Nat.{ℕ, zero, suc, _+_, _*_, _-_, _/_, _%_}
 use mathlib.Core.Bool.{cond, _&&_}
@@ -100,13 +100,14 @@ pub record Label : Type 0 where
   pub text : List ℕ
   pub indices : List ℕ
 
--- a run as a label whose values `w` writes
+-- a run written as a label, its values by `w`
 abbrev pub writtenLabel : (ℕ → List ℕ) → Run → Label
 writtenLabel w r = record { text = textOf (r .units); indices = indicesBy w (r .clusters) (r .glyphs) }
 
--- the normal writing of a run, and its indices
+-- the normal writing of a run
 abbrev pub normal : Run → Label
 normal r = writtenLabel valueBytes r
 
+-- the indices of the normal writing
 abbrev pub indicesOf : List Cluster → List Glyph → List ℕ
 indicesOf cs gs = indicesBy valueBytes cs gs

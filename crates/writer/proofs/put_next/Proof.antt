@@ -3,10 +3,11 @@ use native.Mathlib.Omega.{arith}
 use Rattle.octets.proofs.Puts.{none, then, put-as}
 use Rattle.writer.proofs.Stores.{glyph-is, led-none, led-some}
 use Rattle.wire.specs.Numbers.{glyphAt}
+use Rattle.label.proofs.Values.{normal-writer}
 use Rattle.label.proofs.Outputs.{empty-is-font}
 use Rattle.label.specs.Fetched.{words}
 use Rattle.label.specs.Sound.{isFont}
-use Rattle.label.specs.Write.{entryBytes}
+use Rattle.label.specs.Write.{valueBytes, entryBy}
 use mathlib.Core.Path.{sym, ap, _∙_}
 use Rattle.wire.proofs.Fetched.{words-length}
 use borrow.Author.Needs.{needs}
@@ -46,8 +47,9 @@ returns c =
     let a = start .args in
     let g = glyph-is (words (a .gs .now)) (a .k) _ _ _ _ (at-number-at .number-at .ensures) (at-number-at2 .number-at2 .ensures)
     (at-number-at3 .number-at3 .ensures) (c .before .before .number-at4 .ensures) in (
-      put-as (led-none (a .owed) _ (c .before .is-font .ensures ∙ ap isFont g ∙ sym (empty-is-font (a .a) (a .b) (glyphAt (words (a .gs .now)) (a .k))))
-          (c .if1 .taken)) none,
+      put-as (led-none (a .owed) _
+          (c .before .is-font .ensures ∙ ap isFont g ∙ sym (empty-is-font normal-writer (a .a) (a .b) (glyphAt (words (a .gs .now)) (a .k)))) (c .if1 .taken))
+          none,
       omega arith,
     )
 
@@ -73,9 +75,10 @@ returns-2 c =
     let a = start .args in
     let g = glyph-is (words (a .gs .now)) (a .k) _ _ _ _ (at-number-at .number-at .ensures) (at-number-at2 .number-at2 .ensures)
     (at-number-at3 .number-at3 .ensures) (at-number-at4 .number-at4 .ensures) in (
-      put-as (led-some (a .owed) _ (at-is-font .is-font .ensures ∙ ap isFont g ∙ sym (empty-is-font (a .a) (a .b) (glyphAt (words (a .gs .now)) (a .k))))
+      put-as (led-some (a .owed) _
+          (at-is-font .is-font .ensures ∙ ap isFont g ∙ sym (empty-is-font normal-writer (a .a) (a .b) (glyphAt (words (a .gs .now)) (a .k))))
           (at-if1 .if1 .left)) (then (at-put-semis .put-semis .ensures .0)
-          (put-as (ap (entryBytes (a .a) (a .b)) g) (c .before .before .put-entry .ensures .0))),
+          (put-as (ap (entryBy valueBytes (a .a) (a .b)) g) (c .before .before .put-entry .ensures .0))),
       omega (arith, at-put-semis .put-semis .ensures .1, c .before .before .put-entry .ensures .1),
     )
 
