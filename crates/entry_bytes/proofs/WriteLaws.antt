@@ -8,9 +8,10 @@ use lib.Dec.{leb, eqb}
 use lib.IntN.{ℤ, pos, negsuc}
 use Rattle.label.specs.Bytes.{empty, joinRest, join, trim, decimal}
 use Rattle.label.specs.Sound.{natural, numberIndex, numberAdvance, size}
-use Rattle.label.specs.Write.{fraction, valueBytes, advanceBytes, offsetBytes, mapBytes, indexBytes, entryBytes}
+use Rattle.label.specs.Write.{fraction, valueBytes, advanceBy, offsetBy, mapBytes, indexBytes, entryBy}
 use Rattle.label.proofs.Basics.{clash}
 use Rattle.label.proofs.Splits.{empty-nil, trim-empty}
+use Rattle.label.proofs.Values.{normal-writer}
 use Rattle.label.proofs.Outputs.{advance-empty, offset-empty}
 use Rattle.wire.specs.Numbers.{glyphOf}
 use Rattle.wire.proofs.Tests.{given-is}
@@ -47,23 +48,23 @@ module _ (n : ℕ) where
   value-point h = rw (ne-eqb (n % 1000) 0 h)
 
 module _ (z : ℤ) {n : ℕ} (e : n ≡ size z) where
-  pub offset-none : n ≡ 0 → [] ≡ offsetBytes z
-  offset-none h = sym (empty-nil (offsetBytes z) (offset-empty z ∙ eq-eqb (size z) 0 (sym e ∙ h)))
+  pub offset-none : n ≡ 0 → [] ≡ offsetBy valueBytes z
+  offset-none h = sym (empty-nil (offsetBy valueBytes z) (offset-empty normal-writer z ∙ eq-eqb (size z) 0 (sym e ∙ h)))
 
   module _ (h : n ≡ 0 → ⊥) {b : Bool} (f : b ≡ natural z) where
-    pub offset-plus : b ≡ true → valueBytes n ≡ offsetBytes z
-    unfolding offsetBytes
+    pub offset-plus : b ≡ true → valueBytes n ≡ offsetBy valueBytes z
+    unfolding offsetBy
     offset-plus k = by z e (sym f ∙ k)
       where
-        by : (y : ℤ) → n ≡ size y → natural y ≡ true → valueBytes n ≡ offsetBytes y
+        by : (y : ℤ) → n ≡ size y → natural y ≡ true → valueBytes n ≡ offsetBy valueBytes y
         by (pos m) d t = rw (d, ne-eqb m 0 (λ z. h (d ∙ z)))
         by (negsuc m) d t = clash false t refl
 
-    pub offset-minus : b ≡ false → (45 ∷ []) ++ valueBytes n ≡ offsetBytes z
-    unfolding offsetBytes
+    pub offset-minus : b ≡ false → (45 ∷ []) ++ valueBytes n ≡ offsetBy valueBytes z
+    unfolding offsetBy
     offset-minus k = by z e (sym f ∙ k)
       where
-        by : (y : ℤ) → n ≡ size y → natural y ≡ false → (45 ∷ []) ++ valueBytes n ≡ offsetBytes y
+        by : (y : ℤ) → n ≡ size y → natural y ≡ false → (45 ∷ []) ++ valueBytes n ≡ offsetBy valueBytes y
         by (pos m) d t = clash true refl t
         by (negsuc m) d t = rw d
 
@@ -81,8 +82,8 @@ module _ {w : ℕ → List ℕ} {g : ℤ → List ℕ} (is : (z : ℤ) → chose
   chosen-none (pos m) {b} f k = clash b f k
   chosen-none (negsuc m) f k = is (negsuc m)
 
-pub advance-is : (z : ℤ) → chosen valueBytes z ≡ advanceBytes (numberAdvance z)
-unfolding advanceBytes
+pub advance-is : (z : ℤ) → chosen valueBytes z ≡ advanceBy valueBytes (numberAdvance z)
+unfolding advanceBy
 advance-is (pos n) = refl
 advance-is (negsuc n) = refl
 
@@ -104,15 +105,17 @@ module _ (a b : ℕ) {t : Bool} (e : t ≡ (leb a 1 && eqb b 1)) where
 
 pub blank-v-is : (v : ℤ) {n : ℕ} → n ≡ size v → eqb n 0 ≡ empty (trim (partsV v))
 unfolding partsV trim
-blank-v-is v e = rw e (sym (trim-empty (offsetBytes v) [] ∙ and-true (empty (offsetBytes v)) ∙ offset-empty v))
+blank-v-is v e = rw e (sym (trim-empty (offsetBy valueBytes v) [] ∙ and-true (empty (offsetBy valueBytes v)) ∙ offset-empty normal-writer v))
 
 pub blank-uv-is : (u v : ℤ) {n : ℕ} {b r : Bool} → n ≡ size u → b ≡ empty (trim (partsV v)) → r ≡ (eqb n 0 && b) → r ≡ empty (trim (partsUV u v))
 unfolding partsUV
-blank-uv-is u v e f g = g ∙ rw (e, f) (sym (trim-empty (offsetBytes u) (partsV v) ∙ rw (offset-empty u)))
+blank-uv-is u v e f g = g ∙ rw (e, f) (sym (trim-empty (offsetBy valueBytes u) (partsV v) ∙ rw (offset-empty normal-writer u)))
 
 pub blank-auv-is : (a u v : ℤ) {n b r : Bool} → n ≡ natural a → b ≡ empty (trim (partsUV u v)) → r ≡ (not n && b) → r ≡ empty (trim (partsAUV a u v))
 unfolding partsAUV
-blank-auv-is a u v e f g = g ∙ rw (e, f) (sym (trim-empty (advanceBytes (numberAdvance a)) (partsUV u v) ∙ rw (advance-empty (numberAdvance a), given-is a)))
+blank-auv-is a u v e f g =
+    let d = numberAdvance a in
+    g ∙ rw (e, f) (sym (trim-empty (advanceBy valueBytes d) (partsUV u v) ∙ rw (advance-empty normal-writer d, given-is a)))
 
 pub fields-blank : (l : List (List ℕ)) {b : Bool} → b ≡ empty (trim l) → b ≡ true → [] ≡ fields l
 unfolding fields joinRest
@@ -122,18 +125,19 @@ pub fields-more : (x : List ℕ) (l : List (List ℕ)) {b : Bool} → b ≡ empt
 unfolding fields joinRest trim
 fields-more x l e k = rw (sym (trim-empty x l) ∙ sym e ∙ k)
 
-pub fields-v : (v : ℤ) {b : Bool} → b ≡ empty (trim (partsV v)) → b ≡ false → (44 ∷ []) ++ offsetBytes v ≡ fields (partsV v)
+pub fields-v : (v : ℤ) {b : Bool} → b ≡ empty (trim (partsV v)) → b ≡ false → (44 ∷ []) ++ offsetBy valueBytes v ≡ fields (partsV v)
 unfolding partsV fields joinRest trim
-fields-v v e k = ap (λ (w : List ℕ). 44 ∷ w) (sym (append-nil (offsetBytes v))) ∙ fields-more (offsetBytes v) [] e k
+fields-v v e k = ap (λ (w : List ℕ). 44 ∷ w) (sym (append-nil (offsetBy valueBytes v))) ∙ fields-more (offsetBy valueBytes v) [] e k
 
-pub fields-uv : (u v : ℤ) {b : Bool} → b ≡ empty (trim (partsUV u v)) → b ≡ false → (44 ∷ []) ++ (offsetBytes u ++ fields (partsV v)) ≡ fields (partsUV u v)
+pub fields-uv : (u v : ℤ) {b : Bool} → b ≡ empty (trim (partsUV u v)) → b ≡ false
+    → (44 ∷ []) ++ (offsetBy valueBytes u ++ fields (partsV v)) ≡ fields (partsUV u v)
 unfolding partsUV
-fields-uv u v e k = fields-more (offsetBytes u) (partsV v) e k
+fields-uv u v e k = fields-more (offsetBy valueBytes u) (partsV v) e k
 
 pub fields-auv : (a u v : ℤ) {b : Bool} → b ≡ empty (trim (partsAUV a u v)) → b ≡ false
-    → (44 ∷ []) ++ (advanceBytes (numberAdvance a) ++ fields (partsUV u v)) ≡ fields (partsAUV a u v)
+    → (44 ∷ []) ++ (advanceBy valueBytes (numberAdvance a) ++ fields (partsUV u v)) ≡ fields (partsAUV a u v)
 unfolding partsAUV
-fields-auv a u v e k = fields-more (advanceBytes (numberAdvance a)) (partsUV u v) e k
+fields-auv a u v e k = fields-more (advanceBy valueBytes (numberAdvance a)) (partsUV u v) e k
 
 join-cond : (c : ℕ) (x : List ℕ) (l : List (List ℕ)) → join c (cond (empty x && empty l) [] (x ∷ l)) ≡ x ++ joinRest c l
 unfolding join joinRest
@@ -141,6 +145,6 @@ join-cond c [] [] = refl
 join-cond c [] (y ∷ l) = refl
 join-cond c (x ∷ xs) l = refl
 
-pub entry-is : (a b : ℕ) (i d u v : ℤ) → indexBytes a b (numberIndex i) ++ fields (partsAUV d u v) ≡ entryBytes a b (glyphOf i d u v)
-unfolding entryBytes glyphOf fields partsAUV partsUV partsV trim
+pub entry-is : (a b : ℕ) (i d u v : ℤ) → indexBytes a b (numberIndex i) ++ fields (partsAUV d u v) ≡ entryBy valueBytes a b (glyphOf i d u v)
+unfolding entryBy glyphOf fields partsAUV partsUV partsV trim
 entry-is a b i d u v = sym (join-cond 44 (indexBytes a b (numberIndex i)) (trim (partsAUV d u v)))

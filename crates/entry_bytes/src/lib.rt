@@ -7,7 +7,7 @@ ghost use lib.Dec.{eqb};
 ghost use Rattle.label.specs.Bytes.{empty, trim, decimal};
 ghost use Rattle.label.specs.Fetched.{signed};
 ghost use Rattle.label.specs.Sound.{numberIndex, numberAdvance};
-ghost use Rattle.label.specs.Write.{fraction, valueBytes, advanceBytes, offsetBytes, mapBytes, indexBytes, entryBytes};
+ghost use Rattle.label.specs.Write.{fraction, valueBytes, advanceBy, offsetBy, mapBytes, indexBytes, entryBy};
 ghost use Rattle.octets.specs.Puts.{Put};
 ghost use Rattle.wire.specs.Numbers.{glyphOf};
 ghost use Rattle.entry_bytes.specs.Fields.{partsV, partsUV, partsAUV, fields};
@@ -81,7 +81,7 @@ fn put_value(out: &mut [u8], at: usize, n: u32) -> usize
 // An offset; nothing for 0.
 fn put_offset(out: &mut [u8], at: usize, n: u32) -> usize
     requires { ⌜ at < 1152921504606844000 ⌝ }
-    ensures { λ r. ⌜ Put (now (out .entry)) at (offsetBytes (signed n)) r (now (out .exit)) ⌝ }
+    ensures { λ r. ⌜ Put (now (out .entry)) at (offsetBy valueBytes (signed n)) r (now (out .exit)) ⌝ }
     ensures bounds { λ r. ⌜ r ≤ at + 15 ⌝ }
 {
     let size = wire::size(n);
@@ -98,7 +98,7 @@ fn put_offset(out: &mut [u8], at: usize, n: u32) -> usize
 // An advance; nothing for the font's own.
 fn put_advance(out: &mut [u8], at: usize, n: u32) -> usize
     requires { ⌜ at < 1152921504606844000 ⌝ }
-    ensures { λ r. ⌜ Put (now (out .entry)) at (advanceBytes (numberAdvance (signed n))) r (now (out .exit)) ⌝ }
+    ensures { λ r. ⌜ Put (now (out .entry)) at (advanceBy valueBytes (numberAdvance (signed n))) r (now (out .exit)) ⌝ }
     ensures bounds { λ r. ⌜ r ≤ at + 14 ⌝ }
 {
     if wire::is_natural(n) {
@@ -219,7 +219,7 @@ pub fn put_entry(
     v: u32,
 ) -> usize
     requires { ⌜ at < 1152921504606840000 ⌝ }
-    ensures { λ r. ⌜ Put (now (out .entry)) at (entryBytes a b (glyphOf (signed index) (signed advance) (signed u) (signed v))) r (now (out .exit)) ⌝ }
+    ensures { λ r. ⌜ Put (now (out .entry)) at (entryBy valueBytes a b (glyphOf (signed index) (signed advance) (signed u) (signed v))) r (now (out .exit)) ⌝ }
     ensures bounds { λ r. ⌜ r ≤ at + 80 ⌝ }
 {
     let p = put_index(out, at, a, b, index);

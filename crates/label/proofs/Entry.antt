@@ -1,4 +1,4 @@
--- An entry that the writer makes is read back: its map and its glyph.
+-- An entry that a writer makes is read back: its map and its glyph.
 -- Assumes nothing.
 use Prim.Native.Nat.{ℕ, suc, _≤_, _<_}
 use native.Mathlib.Omega.{arith}
@@ -15,7 +15,7 @@ use Rattle.label.specs.Entry.{unsigned, entryPart, hasMap, isIndexPart, 
 use Rattle.label.specs.Run.{named}
 use Rattle.label.specs.Steps.{entry}
 use Rattle.label.specs.Sound.{size, indexFits, advanceFits, glyphFits}
-use Rattle.label.specs.Write.{valueBytes, advanceBytes, offsetBytes, mapBytes, indexBytes, entryBytes}
+use Rattle.label.specs.Write.{advanceBy, offsetBy, mapBytes, indexBytes, entryBy}
 use Rattle.label.specs.Requests.RoundedCount.{roundedField, roundedEntry}
 use Rattle.label.specs.declared.Index.{Index}
 use Rattle.label.specs.declared.Index.the-variants.{Named, Font}
@@ -27,7 +27,7 @@ use Rattle.label.proofs.Steps.{entry-steps}
 use Rattle.label.proofs.Splits.{none, free, allFree, none-append, parts-joined, length-joined, join-free, free-trim, total, join-total, total-trim}
 use Rattle.label.proofs.Outputs.{empty-is-font}
 use Rattle.label.proofs.Decimals.{value-decimal, all-decimal, empty-decimal, length-decimal, digits-decimal, digits-none, cut-none, cut-found}
-use Rattle.label.proofs.Values.{digit-not, head-digit, Writes, value-writes}
+use Rattle.label.proofs.Values.{digit-not, head-digit, Writes, Writer}
 
 -- ── the fields ──
 
@@ -80,18 +80,19 @@ neg-read n v w = record {
   semi = w .semi;
 }
 
-advance-read : (a : Advance) → advanceFits a ≡ true → AdvanceRead a (advanceBytes a)
-unfolding advanceBytes isAdvance fieldFits roundedField advanceOf
-advance-read Own h = record { is = refl; small = refl; val = refl; exact = refl; short = omega arith; comma = refl; semi = refl }
-advance-read (Given n) h = given-read n (valueBytes n) (value-writes n (leb-true n 1000000000 h))
+module _ {w : ℕ → List ℕ} (y : Writer w) where
+  advance-read : (a : Advance) → advanceFits a ≡ true → AdvanceRead a (advanceBy w a)
+  unfolding advanceBy isAdvance fieldFits roundedField advanceOf
+  advance-read Own h = record { is = refl; small = refl; val = refl; exact = refl; short = omega arith; comma = refl; semi = refl }
+  advance-read (Given n) h = given-read n (w n) (y .writes n (leb-true n 1000000000 h))
 
-offset-read : (z : ℤ) → leb (size z) 1000000000 ≡ true → OffsetRead z (offsetBytes z)
-unfolding offsetBytes isOffset fieldFits roundedField offsetOf
-offset-read (pos n) h =
-    cases (eqb n 0)
-    (λ t. rw t (record { is = refl; small = refl; val = ap pos (sym (eqb-true n 0 t)); exact = refl; short = omega arith; comma = refl; semi = refl }))
-    (λ t. rw t (pos-read n (valueBytes n) (value-writes n (leb-true n 1000000000 h))))
-offset-read (negsuc n) h = neg-read n (valueBytes (suc n)) (value-writes (suc n) (leb-true (suc n) 1000000000 h))
+  offset-read : (z : ℤ) → leb (size z) 1000000000 ≡ true → OffsetRead z (offsetBy w z)
+  unfolding offsetBy isOffset fieldFits roundedField offsetOf
+  offset-read (pos n) h =
+      cases (eqb n 0)
+      (λ t. rw t (record { is = refl; small = refl; val = ap pos (sym (eqb-true n 0 t)); exact = refl; short = omega arith; comma = refl; semi = refl }))
+      (λ t. rw t (pos-read n (w n) (y .writes n (leb-true n 1000000000 h))))
+  offset-read (negsuc n) h = neg-read n (w (suc n)) (y .writes (suc n) (leb-true (suc n) 1000000000 h))
 
 -- ── the index part ──
 
@@ -200,8 +201,8 @@ index-small (Named n) p h e = rw (e, value-decimal n) h
 
 -- ── the entry ──
 
-abbrev entryParts : ℕ → ℕ → Glyph → List (List ℕ)
-entryParts a b g = indexBytes a b (g .index) ∷ advanceBytes (g .advance) ∷ offsetBytes (g .u) ∷ offsetBytes (g .v) ∷ []
+abbrev entryParts : (ℕ → List ℕ) → ℕ → ℕ → Glyph → List (List ℕ)
+entryParts w a b g = indexBytes a b (g .index) ∷ advanceBy w (g .advance) ∷ offsetBy w (g .u) ∷ offsetBy w (g .v) ∷ []
 
 -- what the reader makes of the entry written for a glyph that opens a cluster a:b
 abbrev pub back : ℕ → ℕ → Glyph → Entry
@@ -224,7 +225,7 @@ unfolding indexBytes
 index-short a b Font h ha hb = omega arith
 index-short a b (Named n) h ha hb = rw length-append (omega (arith, map-short a b ha hb, length-decimal n 4 (omega (arith, leb-true n 65535 h))))
 
-module _ (a b : ℕ) (g : Glyph) (m : glyphFits g ≡ true) where
+module _ {w : ℕ → List ℕ} (y : Writer w) (a b : ℕ) (g : Glyph) (m : glyphFits g ≡ true) where
   fits-v : leb (size (g .v)) 1000000000 ≡ true
   fits-v = and-r (indexFits (g .index) && advanceFits (g .advance) && leb (size (g .u)) 1000000000) (leb (size (g .v)) 1000000000) m
 
@@ -246,26 +247,26 @@ module _ (a b : ℕ) (g : Glyph) (m : glyphFits g ≡ true) where
   ri : IndexRead (mapped a b (g .index)) a b (g .index) (indexBytes a b (g .index))
   ri = index-read a b (g .index)
 
-  ra : AdvanceRead (g .advance) (advanceBytes (g .advance))
-  ra = advance-read (g .advance) fits-a
+  ra : AdvanceRead (g .advance) (advanceBy w (g .advance))
+  ra = advance-read y (g .advance) fits-a
 
-  ru : OffsetRead (g .u) (offsetBytes (g .u))
-  ru = offset-read (g .u) fits-u
+  ru : OffsetRead (g .u) (offsetBy w (g .u))
+  ru = offset-read y (g .u) fits-u
 
-  rv : OffsetRead (g .v) (offsetBytes (g .v))
-  rv = offset-read (g .v) fits-v
+  rv : OffsetRead (g .v) (offsetBy w (g .v))
+  rv = offset-read y (g .v) fits-v
 
-  parts-comma : allFree 44 (entryParts a b g) ≡ true
+  parts-comma : allFree 44 (entryParts w a b g) ≡ true
   parts-comma = rw (ri .comma, ra .comma, ru .comma, rv .comma)
 
-  parts-semi : allFree 59 (entryParts a b g) ≡ true
+  parts-semi : allFree 59 (entryParts w a b g) ≡ true
   parts-semi = rw (ri .semi, ra .semi, ru .semi, rv .semi)
 
-  the-part : (k : ℕ) → entryPart k (entryBytes a b g) ≡ getD (entryParts a b g) k []
-  unfolding entryBytes
-  the-part k = parts-joined 44 (entryParts a b g) k parts-comma
+  the-part : (k : ℕ) → entryPart k (entryBy w a b g) ≡ getD (entryParts w a b g) k []
+  unfolding entryBy
+  the-part k = parts-joined 44 (entryParts w a b g) k parts-comma
 
-  entry-formed : wellFormed (entryBytes a b g) ≡ true
+  entry-formed : wellFormed (entryBy w a b g) ≡ true
   unfolding wellFormed
   entry-formed =
       rw (
@@ -277,17 +278,17 @@ module _ (a b : ℕ) (g : Glyph) (m : glyphFits g ≡ true) where
         ra .is,
         ru .is,
         rv .is,
-        le-leb (length (split 44 (entryBytes a b g))) 4 (unfold entryBytes in (length-joined 44 (entryParts a b g) parts-comma (omega arith))),
+        le-leb (length (split 44 (entryBy w a b g))) 4 (unfold entryBy in (length-joined 44 (entryParts w a b g) parts-comma (omega arith))),
       )
 
-  entry-index : leb (value (indexDigits (entryPart 0 (entryBytes a b g)))) 65535 ≡ true
+  entry-index : leb (value (indexDigits (entryPart 0 (entryBy w a b g)))) 65535 ≡ true
   entry-index = rw (the-part 0) (index-small (g .index) (indexBytes a b (g .index)) fits-i (ri .figs))
 
-  entry-numbers : (fieldFits (entryPart 1 (entryBytes a b g)) && fieldFits (entryPart 2 (entryBytes a b g)) && fieldFits
-      (entryPart 3 (entryBytes a b g))) ≡ true
+  entry-numbers : (fieldFits (entryPart 1 (entryBy w a b g)) && fieldFits (entryPart 2 (entryBy w a b g)) && fieldFits
+      (entryPart 3 (entryBy w a b g))) ≡ true
   entry-numbers = rw (the-part 1, the-part 2, the-part 3, ra .small, ru .small, rv .small)
 
-  entry-is : entryOf (entryBytes a b g) ≡ back a b g
+  entry-is : entryOf (entryBy w a b g) ≡ back a b g
   unfolding entryOf
   entry-is =
       rw (
@@ -304,25 +305,25 @@ module _ (a b : ℕ) (g : Glyph) (m : glyphFits g ≡ true) where
         index-of (g .index) (indexBytes a b (g .index)) (ri .figs),
       )
 
-  pub entry-read : (k : ℕ) → entry k (entryBytes a b g) ≡ ok (back a b g)
-  entry-read k = entry-steps k (entryBytes a b g) ∙ rw (entry-formed, entry-index, entry-numbers, entry-is)
+  pub entry-read : (k : ℕ) → entry k (entryBy w a b g) ≡ ok (back a b g)
+  entry-read k = entry-steps k (entryBy w a b g) ∙ rw (entry-formed, entry-index, entry-numbers, entry-is)
 
-  pub entry-exact : roundedEntry (entryBytes a b g) ≡ 0
+  pub entry-exact : roundedEntry (entryBy w a b g) ≡ 0
   unfolding roundedEntry
   entry-exact = rw (the-part 1, the-part 2, the-part 3, ra .exact, ru .exact, rv .exact)
 
-  pub entry-semi : free 59 (entryBytes a b g) ≡ true
-  unfolding entryBytes
-  entry-semi = join-free (λ x. eqb x 59) 44 (trim (entryParts a b g)) refl (free-trim 59 (entryParts a b g) parts-semi)
+  pub entry-semi : free 59 (entryBy w a b g) ≡ true
+  unfolding entryBy
+  entry-semi = join-free (λ x. eqb x 59) 44 (trim (entryParts w a b g)) refl (free-trim 59 (entryParts w a b g) parts-semi)
 
-  pub entry-short : a < 100000 → b < 100000 → length (entryBytes a b g) ≤ 57
-  unfolding entryBytes
+  pub entry-short : a < 100000 → b < 100000 → length (entryBy w a b g) ≤ 57
+  unfolding entryBy
   entry-short ha hb =
       let i : length (indexBytes a b (g .index)) ≤ 18 = index-short a b (g .index) fits-i ha hb in
-      let j : length (join 44 (trim (entryParts a b g))) ≤ total (trim (entryParts a b g)) = join-total 44 (trim (entryParts a b g)) in
-      let t : total (trim (entryParts a b g)) ≤ total (entryParts a b g) = total-trim (entryParts a b g) in
+      let j : length (join 44 (trim (entryParts w a b g))) ≤ total (trim (entryParts w a b g)) = join-total 44 (trim (entryParts w a b g)) in
+      let t : total (trim (entryParts w a b g)) ≤ total (entryParts w a b g) = total-trim (entryParts w a b g) in
       omega (arith, ra .short, ru .short, rv .short)
 
 -- an entry that names its index has bytes
-pub entry-full : (a b : ℕ) (g : Glyph) → named (g .index) ≡ true → empty (entryBytes a b g) ≡ false
-entry-full a b g h = empty-is-font a b g ∙ rw h
+pub entry-full : {w : ℕ → List ℕ} (y : Writer w) (a b : ℕ) (g : Glyph) → named (g .index) ≡ true → empty (entryBy w a b g) ≡ false
+entry-full y a b g h = empty-is-font y a b g ∙ rw h

@@ -15,6 +15,7 @@ use Rattle.label.specs.Sound.{wholeClusters, wholeGlyphs, clustersOf, gl
 use Rattle.label.specs.Write.{normal}
 use Rattle.label.specs.Statements.Demands.{unitCounts, glyphCounts, allBytes, inBytes}
 use Rattle.label.proofs.Basics.{and-l, and-r}
+use Rattle.label.proofs.Values.{normal-writer}
 use Rattle.label.proofs.Sound.{read-sound, read-back, SoundRun, sound-parts}
 use Rattle.label.proofs.Parts.{sum, fits-units, fits-glyphs, clusters-flat, clusters-of, clusters-whole, glyphs-flat, glyphs-of, glyphs-whole}
 use Rattle.label.proofs.Wire.{halves-back, halves-even, halves-forth, words-back, words-forth, words-whole, glyphs-32, clusters-32}
@@ -104,7 +105,7 @@ sound-readable z b h =
       run = runOf z;
       text = normal (runOf z) .text;
       indices = normal (runOf z) .indices;
-      reads = read-back (runOf z) (s .run-is);
+      reads = read-back normal-writer (runOf z) (s .run-is);
       places-are = places-of z b s;
     }
 

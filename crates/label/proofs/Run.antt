@@ -1,4 +1,4 @@
--- The walk over the entries that the writer makes gives back the clusters and the glyphs.
+-- The walk over the entries that a writer makes gives back the clusters and the glyphs.
 -- Assumes nothing.
 use Prim.Native.Nat.{ℕ, zero, suc, _+_, _*_, _-_, _≤_, _<_}
 use native.Mathlib.Omega.{arith}
@@ -19,12 +19,13 @@ use Rattle.label.specs.Run.{Parts, named, cluster, addGlyph, keepsPair, 
 use Rattle.label.specs.Checks.{placeChecks}
 use Rattle.label.specs.Steps.{entry, placed, step, walk}
 use Rattle.label.specs.Sound.{glyphFits, isFont, allFont, tailPair, mayOpen, fits}
-use Rattle.label.specs.Write.{entryBytes, entryList, indicesOf}
+use Rattle.label.specs.Write.{entryBy, entriesBy, indicesBy}
 use Rattle.label.specs.declared.Glyph.{Glyph}
 use Rattle.label.specs.declared.Cluster.{Cluster}
 use Rattle.label.proofs.Basics.{and-l, and-r, or-cases, clash, cases, bind-ok, need-ok}
 use Rattle.label.proofs.Steps.{placed-steps, walk-end, walk-first}
 use Rattle.label.proofs.Splits.{free, allFree, empty-nil, trim-nil, trim-gone, trim-kept, free-trim, joined-full, join-nil, join-cons, split-join, total, join-total, total-trim, joined-first}
+use Rattle.label.proofs.Values.{Writer}
 use Rattle.label.proofs.Outputs.{empty-is-font, font-is}
 use Rattle.label.proofs.Entry.{maps, mapped, back, entry-read, entry-semi, entry-short, entry-full}
 use Rattle.label.proofs.Tails.{wide, tail-nil, tail-first, plain-wide, font-cons, font-written}
@@ -45,18 +46,18 @@ ok-path a b h = cc
 -- ── one entry, forward ──
 
 -- a further glyph of an open cluster
-step-further : (bare : Bool) (k at : ℕ) (rest : List ℕ) (n opener : ℕ) (g : Glyph) → glyphFits g ≡ true → named (g .index) ≡ true
-    → step bare (state k at rest (suc n) opener) (entryBytes 1 1 g) ≡ ok (back 1 1 g)
+step-further : {w : ℕ → List ℕ} (y : Writer w) (bare : Bool) (k at : ℕ) (rest : List ℕ) (n opener : ℕ) (g : Glyph) → glyphFits g ≡ true
+    → named (g .index) ≡ true → step bare (state k at rest (suc n) opener) (entryBy w 1 1 g) ≡ ok (back 1 1 g)
 unfolding step placed placeChecks verdict
-step-further bare k at rest n opener g m i =
-    rw (entry-read 1 1 g m k, eqb·suc-zero n, i)
+step-further y bare k at rest n opener g m i =
+    rw (entry-read y 1 1 g m k, eqb·suc-zero n, i)
 
 -- a cluster in a text of no units
-step-bare : (k at : ℕ) (rest : List ℕ) (opener : ℕ) (g : Glyph) → glyphFits g ≡ true → named (g .index) ≡ true
-    → step true (state k at rest 0 opener) (entryBytes 0 1 g) ≡ ok (back 0 1 g)
+step-bare : {w : ℕ → List ℕ} (y : Writer w) (k at : ℕ) (rest : List ℕ) (opener : ℕ) (g : Glyph) → glyphFits g ≡ true → named (g .index) ≡ true
+    → step true (state k at rest 0 opener) (entryBy w 0 1 g) ≡ ok (back 0 1 g)
 unfolding step placed placeChecks verdict
-step-bare k at rest opener g m i =
-    rw (entry-read 0 1 g m k, i)
+step-bare y k at rest opener g m i =
+    rw (entry-read y 0 1 g m k, i)
 
 abbrev opened : ℕ → ℕ → Glyph → Entry
 opened a b g = record { mapped = mapped a b (g .index); units = a; glyphs = b; glyph = g }
@@ -71,26 +72,27 @@ unmapped-one a b h t =
 back-open : (a b : ℕ) (g : Glyph) → 1 ≤ a → (maps a b ≡ true → named (g .index) ≡ true) → back a b g ≡ opened a b g
 back-open a b g h f = cases (maps a b) (λ t. rw (t, f t)) (λ t. let (u, v) = unmapped-one a b h t in rw (u, v))
 
-step-open : (k at : ℕ) (rest : List ℕ) (opener a b : ℕ) (g : Glyph) → glyphFits g ≡ true → (maps a b ≡ true → named (g .index) ≡ true) → 1 ≤ a → 1 ≤ b
-    → a ≤ length rest → keepsPair a rest ≡ true → step false (state k at rest 0 opener) (entryBytes a b g) ≡ ok (opened a b g)
+step-open : {w : ℕ → List ℕ} (y : Writer w) (k at : ℕ) (rest : List ℕ) (opener a b : ℕ) (g : Glyph) → glyphFits g ≡ true
+    → (maps a b ≡ true → named (g .index) ≡ true) → 1 ≤ a → 1 ≤ b → a ≤ length rest → keepsPair a rest ≡ true
+    → step false (state k at rest 0 opener) (entryBy w a b g) ≡ ok (opened a b g)
 unfolding step
-step-open k at rest opener a b g m f ha hb hl w =
+step-open y k at rest opener a b g m f ha hb hl p =
     rw (
-      entry-read a b g m k ∙ ap ok (back-open a b g ha f),
+      entry-read y a b g m k ∙ ap ok (back-open a b g ha f),
       placed-steps false (state k at rest 0 opener) (opened a b g),
       le-leb 1 a ha,
       le-leb 1 b hb,
       le-leb a (length rest) hl,
-      w,
+      p,
     )
 
 -- ── what `fits` says ──
 
-written-nil : (lack : ℕ) (cs : List Cluster) → entryList lack cs [] ≡ []
-unfolding entryList
-written-nil zero [] = refl
-written-nil zero (c ∷ cs) = refl
-written-nil (suc n) cs = refl
+written-nil : (w : ℕ → List ℕ) (lack : ℕ) (cs : List Cluster) → entriesBy w lack cs [] ≡ []
+unfolding entriesBy
+written-nil w zero [] = refl
+written-nil w zero (c ∷ cs) = refl
+written-nil w (suc n) cs = refl
 
 pub fits-nil : (bare : Bool) (lack : ℕ) (us : List ℕ) (cs : List Cluster) → fits bare lack us cs [] ≡ true → (lack ≡ 0) × (cs ≡ []) × (us ≡ [])
 unfolding fits
@@ -239,63 +241,64 @@ font-tail (g ∷ gs) (c ∷ cs) us h k =
     let (i, j) = font-cons g gs k in
     font-more us c cs g gs o i (font-tail gs cs (drop (c .units) us) (rw (font-wide us c g gs o i .1) at (f .rest)) j)
 
--- ── the writer's entries, forward ──
+-- ── a writer's entries, forward ──
 
--- a cluster that an entry opens, and that entry dropped where it and all behind it have no bytes
-walk-opens : (k at : ℕ) (us : List ℕ) (opener : ℕ) (c : Cluster) (cs : List Cluster) (g : Glyph) (gs : List Glyph) → glyphFits g ≡ true → Opens us c g gs
-    → (maps (c .units) (c .glyphs) ≡ true → named (g .index) ≡ true)
-    → walk false (state (suc k) (at + c .units) (drop (c .units) us) (c .glyphs - 1) k) (trim (entryList (c .glyphs - 1) cs gs)) ≡ ok (parts cs gs)
-    → walk false (state k at us 0 opener) (trim (entryBytes (c .units) (c .glyphs) g ∷ entryList (c .glyphs - 1) cs gs)) ≡ ok (parts (c ∷ cs) (g ∷ gs))
-walk-opens k at us opener c cs g gs m o f r =
-    let e = entryBytes (c .units) (c .glyphs) g in
-    let ss = entryList (c .glyphs - 1) cs gs in
-    cases (empty e && empty (trim ss))
-    (λ t. let i : isFont g ≡ true = sym (empty-is-font (c .units) (c .glyphs) g) ∙ and-l (empty e) (empty (trim ss)) t in
-    let n : trim ss ≡ [] = empty-nil (trim ss) (and-r (empty e) (empty (trim ss)) t) in
-    let b : tail (drop (c .units) us) ≡ parts cs gs = ok-path _ _
-    (sym (walk-nil false (suc k) (at + c .units) (drop (c .units) us) k) ∙ rw (n, font-wide us c g gs o i .1) at r) in
-    rw (trim-gone e ss t) (walk-nil false k at us opener ∙ ap ok (font-more us c cs g gs o i b)))
-    (λ t. rw (trim-kept e ss t)
-    (walk-step false (state k at us 0 opener) e (trim ss) (opened (c .units) (c .glyphs) g) (parts cs gs)
-    (step-open k at us opener (c .units) (c .glyphs) g m f (o .some-units) (o .some-glyphs) (o .inside) (o .whole-pairs)) r))
+module _ {w : ℕ → List ℕ} (y : Writer w) where
+  -- a cluster that an entry opens, and that entry dropped where it and all behind it have no bytes
+  walk-opens : (k at : ℕ) (us : List ℕ) (opener : ℕ) (c : Cluster) (cs : List Cluster) (g : Glyph) (gs : List Glyph) → glyphFits g ≡ true → Opens us c g gs
+      → (maps (c .units) (c .glyphs) ≡ true → named (g .index) ≡ true)
+      → walk false (state (suc k) (at + c .units) (drop (c .units) us) (c .glyphs - 1) k) (trim (entriesBy w (c .glyphs - 1) cs gs)) ≡ ok (parts cs gs)
+      → walk false (state k at us 0 opener) (trim (entryBy w (c .units) (c .glyphs) g ∷ entriesBy w (c .glyphs - 1) cs gs)) ≡ ok (parts (c ∷ cs) (g ∷ gs))
+  walk-opens k at us opener c cs g gs m o f r =
+      let e = entryBy w (c .units) (c .glyphs) g in
+      let ss = entriesBy w (c .glyphs - 1) cs gs in
+      cases (empty e && empty (trim ss))
+      (λ t. let i : isFont g ≡ true = sym (empty-is-font y (c .units) (c .glyphs) g) ∙ and-l (empty e) (empty (trim ss)) t in
+      let n : trim ss ≡ [] = empty-nil (trim ss) (and-r (empty e) (empty (trim ss)) t) in
+      let b : tail (drop (c .units) us) ≡ parts cs gs = ok-path _ _
+      (sym (walk-nil false (suc k) (at + c .units) (drop (c .units) us) k) ∙ rw (n, font-wide us c g gs o i .1) at r) in
+      rw (trim-gone e ss t) (walk-nil false k at us opener ∙ ap ok (font-more us c cs g gs o i b)))
+      (λ t. rw (trim-kept e ss t)
+      (walk-step false (state k at us 0 opener) e (trim ss) (opened (c .units) (c .glyphs) g) (parts cs gs)
+      (step-open y k at us opener (c .units) (c .glyphs) g m f (o .some-units) (o .some-glyphs) (o .inside) (o .whole-pairs)) r))
 
--- an entry with an index is kept
-trim-named : (a b : ℕ) (g : Glyph) (ss : List (List ℕ)) → named (g .index) ≡ true → trim (entryBytes a b g ∷ ss) ≡ entryBytes a b g ∷ trim ss
-trim-named a b g ss h = trim-kept (entryBytes a b g) ss (rw (entry-full a b g h))
+  -- an entry with an index is kept
+  trim-named : (a b : ℕ) (g : Glyph) (ss : List (List ℕ)) → named (g .index) ≡ true → trim (entryBy w a b g ∷ ss) ≡ entryBy w a b g ∷ trim ss
+  trim-named a b g ss h = trim-kept (entryBy w a b g) ss (rw (entry-full y a b g h))
 
--- the walk over the entries that are left gives the clusters and the glyphs
-walk-back : (gs : List Glyph) (bare : Bool) (cs : List Cluster) (k at : ℕ) (us : List ℕ) (lack opener : ℕ) → keepsPair 0 us ≡ true
-    → fits bare lack us cs gs ≡ true
-    → walk bare (state k at us lack opener) (trim (entryList lack cs gs)) ≡ ok (parts cs gs)
-unfolding entryList
-walk-back [] bare cs k at us lack opener w h =
-    let f : (lack ≡ 0) × (cs ≡ []) × (us ≡ []) = fits-nil bare lack us cs h in
-    rw (written-nil lack cs, trim-nil, f .0, f .1, f .2) (walk-nil bare k at [] opener ∙ ap ok (unfold tail in refl))
-walk-back (g ∷ gs) bare cs k at us (suc n) opener w h =
-    let f : Further bare n us cs g gs = fits-further bare n us cs g gs h in
-    let s : step bare (state k at us (suc n) opener) (entryBytes 1 1 g) ≡ ok (back 1 1 g) = step-further bare k at us n opener g (f .small) (f .name) in
-    let d : suc n - 1 ≡ n = omega arith in
-    let r : walk bare (next bare (state k at us (suc n) opener) (back 1 1 g)) (trim (entryList n cs gs)) ≡ ok (parts cs gs) =
-    rw (eqb·suc-zero n, d) (walk-back gs bare cs (suc k) (at + 0) us n opener w (f .rest)) in
-    rw (trim-named 1 1 g (entryList n cs gs) (f .name))
-    (walk-step bare (state k at us (suc n) opener) (entryBytes 1 1 g) (trim (entryList n cs gs)) (back 1 1 g) (parts cs gs) s r ∙ rw (eqb·suc-zero n))
-walk-back (g ∷ gs) bare [] k at us zero opener w h = clash (fits bare zero us [] (g ∷ gs)) h (unfold fits in refl)
-walk-back (g ∷ gs) true (c ∷ cs) k at us zero opener w h =
-    let f : Opening true us c cs g gs = fits-opening true us c cs g gs h in
-    let o : Bare c g = may-bare us c g gs (f .may) in
-    let r : walk true (next true (state k at us 0 opener) (back 0 1 g)) (trim (entryList (1 - 1) cs gs)) ≡ ok (parts cs gs) =
-    walk-back gs true cs (suc k) (at + 0) us 0 k w (rw (o .none, o .one) at (f .rest)) in
-    rw (o .none, o .one, trim-named 0 1 g (entryList (1 - 1) cs gs) (o .name))
-    (walk-step true (state k at us 0 opener) (entryBytes 0 1 g) (trim (entryList (1 - 1) cs gs)) (back 0 1 g) (parts cs gs)
-    (step-bare k at us opener g (f .small) (o .name)) r)
-walk-back (g ∷ gs) false (c ∷ cs) k at us zero opener w h =
-    let f : Opening false us c cs g gs = fits-opening false us c cs g gs h in
-    let o : Opens us c g gs = may-opens us c g gs (f .may) in
-    ⊎-elim
-    (λ n. walk-opens k at us opener c cs g gs (f .small) o n
-    (walk-back gs false cs (suc k) (at + c .units) (drop (c .units) us) (c .glyphs - 1) k (whole-drop (c .units) us (o .whole-pairs)) (f .rest)))
-    (λ p. rw (font-written (g ∷ gs) zero (c ∷ cs) (p .font)) (walk-nil false k at us opener ∙ ap ok (font-tail (g ∷ gs) (c ∷ cs) us h (p .font))))
-    (o .kind)
+  -- the walk over the entries that are left gives the clusters and the glyphs
+  walk-back : (gs : List Glyph) (bare : Bool) (cs : List Cluster) (k at : ℕ) (us : List ℕ) (lack opener : ℕ) → keepsPair 0 us ≡ true
+      → fits bare lack us cs gs ≡ true
+      → walk bare (state k at us lack opener) (trim (entriesBy w lack cs gs)) ≡ ok (parts cs gs)
+  unfolding entriesBy
+  walk-back [] bare cs k at us lack opener q h =
+      let f : (lack ≡ 0) × (cs ≡ []) × (us ≡ []) = fits-nil bare lack us cs h in
+      rw (written-nil w lack cs, trim-nil, f .0, f .1, f .2) (walk-nil bare k at [] opener ∙ ap ok (unfold tail in refl))
+  walk-back (g ∷ gs) bare cs k at us (suc n) opener q h =
+      let f : Further bare n us cs g gs = fits-further bare n us cs g gs h in
+      let s : step bare (state k at us (suc n) opener) (entryBy w 1 1 g) ≡ ok (back 1 1 g) = step-further y bare k at us n opener g (f .small) (f .name) in
+      let d : suc n - 1 ≡ n = omega arith in
+      let r : walk bare (next bare (state k at us (suc n) opener) (back 1 1 g)) (trim (entriesBy w n cs gs)) ≡ ok (parts cs gs) =
+      rw (eqb·suc-zero n, d) (walk-back gs bare cs (suc k) (at + 0) us n opener q (f .rest)) in
+      rw (trim-named 1 1 g (entriesBy w n cs gs) (f .name))
+      (walk-step bare (state k at us (suc n) opener) (entryBy w 1 1 g) (trim (entriesBy w n cs gs)) (back 1 1 g) (parts cs gs) s r ∙ rw (eqb·suc-zero n))
+  walk-back (g ∷ gs) bare [] k at us zero opener q h = clash (fits bare zero us [] (g ∷ gs)) h (unfold fits in refl)
+  walk-back (g ∷ gs) true (c ∷ cs) k at us zero opener q h =
+      let f : Opening true us c cs g gs = fits-opening true us c cs g gs h in
+      let o : Bare c g = may-bare us c g gs (f .may) in
+      let r : walk true (next true (state k at us 0 opener) (back 0 1 g)) (trim (entriesBy w (1 - 1) cs gs)) ≡ ok (parts cs gs) =
+      walk-back gs true cs (suc k) (at + 0) us 0 k q (rw (o .none, o .one) at (f .rest)) in
+      rw (o .none, o .one, trim-named 0 1 g (entriesBy w (1 - 1) cs gs) (o .name))
+      (walk-step true (state k at us 0 opener) (entryBy w 0 1 g) (trim (entriesBy w (1 - 1) cs gs)) (back 0 1 g) (parts cs gs)
+      (step-bare y k at us opener g (f .small) (o .name)) r)
+  walk-back (g ∷ gs) false (c ∷ cs) k at us zero opener q h =
+      let f : Opening false us c cs g gs = fits-opening false us c cs g gs h in
+      let o : Opens us c g gs = may-opens us c g gs (f .may) in
+      ⊎-elim
+      (λ n. walk-opens k at us opener c cs g gs (f .small) o n
+      (walk-back gs false cs (suc k) (at + c .units) (drop (c .units) us) (c .glyphs - 1) k (whole-drop (c .units) us (o .whole-pairs)) (f .rest)))
+      (λ p. rw (font-written w (g ∷ gs) zero (c ∷ cs) (p .font)) (walk-nil false k at us opener ∙ ap ok (font-tail (g ∷ gs) (c ∷ cs) us h (p .font))))
+      (o .kind)
 
 -- ── an entry that passed ──
 
@@ -361,25 +364,17 @@ abbrev pub Each : (List ℕ → Type 0) → List (List ℕ) → Type 0
 Each P [] = Unit {0}
 Each P (x ∷ xs) = P x × Each P xs
 
-pub written-each : (P : List ℕ → Type 0) → ((a b : ℕ) (g : Glyph) → glyphFits g ≡ true → P (entryBytes a b g))
-    → (gs : List Glyph) (bare : Bool) (cs : List Cluster) (us : List ℕ) (lack : ℕ) → fits bare lack us cs gs ≡ true → Each P (entryList lack cs gs)
-unfolding entryList
-written-each P p [] bare cs us lack h = tt
-written-each P p (g ∷ gs) bare cs us (suc n) h =
+pub written-each : (w : ℕ → List ℕ) (P : List ℕ → Type 0) → ((a b : ℕ) (g : Glyph) → glyphFits g ≡ true → P (entryBy w a b g))
+    → (gs : List Glyph) (bare : Bool) (cs : List Cluster) (us : List ℕ) (lack : ℕ) → fits bare lack us cs gs ≡ true → Each P (entriesBy w lack cs gs)
+unfolding entriesBy
+written-each w P p [] bare cs us lack h = tt
+written-each w P p (g ∷ gs) bare cs us (suc n) h =
     let f : Further bare n us cs g gs = fits-further bare n us cs g gs h in
-    (p 1 1 g (f .small), written-each P p gs bare cs us n (f .rest))
-written-each P p (g ∷ gs) bare [] us zero h = tt
-written-each P p (g ∷ gs) bare (c ∷ cs) us zero h =
+    (p 1 1 g (f .small), written-each w P p gs bare cs us n (f .rest))
+written-each w P p (g ∷ gs) bare [] us zero h = tt
+written-each w P p (g ∷ gs) bare (c ∷ cs) us zero h =
     let f : Opening bare us c cs g gs = fits-opening bare us c cs g gs h in
-    (p (c .units) (c .glyphs) g (f .small), written-each P p gs bare cs (drop (c .units) us) (c .glyphs - 1) (f .rest))
-
-pub written-semi : (gs : List Glyph) (bare : Bool) (cs : List Cluster) (us : List ℕ) (lack : ℕ) → fits bare lack us cs gs ≡ true
-    → allFree 59 (entryList lack cs gs) ≡ true
-written-semi gs bare cs us lack h = go (entryList lack cs gs) (written-each (λ x. free 59 x ≡ true) entry-semi gs bare cs us lack h)
-  where
-    go : (l : List (List ℕ)) → Each (λ x. free 59 x ≡ true) l → allFree 59 l ≡ true
-    go [] e = refl
-    go (x ∷ xs) e = rw (e .0) (go xs (e .1))
+    (p (c .units) (c .glyphs) g (f .small), written-each w P p gs bare cs (drop (c .units) us) (c .glyphs - 1) (f .rest))
 
 -- an open cluster's glyphs are there
 pub fits-lack : (gs : List Glyph) (bare : Bool) (cs : List Cluster) (us : List ℕ) (lack : ℕ) → fits bare lack us cs gs ≡ true → lack ≤ length gs
@@ -387,62 +382,71 @@ fits-lack [] bare cs us lack h = let z : lack ≡ 0 = fits-nil bare lack us cs h
 fits-lack (g ∷ gs) bare cs us zero h = omega arith
 fits-lack (g ∷ gs) bare cs us (suc n) h = let r : n ≤ length gs = fits-lack gs bare cs us n (fits-further bare n us cs g gs h .rest) in omega arith
 
-pub written-total : (gs : List Glyph) (bare : Bool) (cs : List Cluster) (us : List ℕ) (lack : ℕ) → length us < 100000 → length gs < 100000
-    → fits bare lack us cs gs ≡ true
-    → total (entryList lack cs gs) ≤ 58 * length gs
-unfolding entryList
-written-total [] bare cs us lack hu hg h = omega arith
-written-total (g ∷ gs) bare cs us (suc n) hu hg h =
-    let f : Further bare n us cs g gs = fits-further bare n us cs g gs h in
-    let r : total (entryList n cs gs) ≤ 58 * length gs = written-total gs bare cs us n hu (omega arith) (f .rest) in
-    let e : length (entryBytes 1 1 g) ≤ 57 = entry-short 1 1 g (f .small) (omega arith) (omega arith) in
-    omega arith
-written-total (g ∷ gs) bare [] us zero hu hg h = omega arith
-written-total (g ∷ gs) true (c ∷ cs) us zero hu hg h =
-    let f : Opening true us c cs g gs = fits-opening true us c cs g gs h in
-    let o : Bare c g = may-bare us c g gs (f .may) in
-    let r : total (entryList (c .glyphs - 1) cs gs) ≤ 58 * length gs =
-    written-total gs true cs (drop (c .units) us) (c .glyphs - 1) (rw length-drop (omega arith)) (omega arith) (f .rest) in
-    let e : length (entryBytes (c .units) (c .glyphs) g) ≤ 57 =
-    entry-short (c .units) (c .glyphs) g (f .small) (omega (arith, o .none)) (omega (arith, o .one)) in
-    omega arith
-written-total (g ∷ gs) false (c ∷ cs) us zero hu hg h =
-    let f : Opening false us c cs g gs = fits-opening false us c cs g gs h in
-    let o : Opens us c g gs = may-opens us c g gs (f .may) in
-    let l : c .glyphs - 1 ≤ length gs = fits-lack gs false cs (drop (c .units) us) (c .glyphs - 1) (f .rest) in
-    let r : total (entryList (c .glyphs - 1) cs gs) ≤ 58 * length gs =
-    written-total gs false cs (drop (c .units) us) (c .glyphs - 1) (rw length-drop (omega arith)) (omega arith) (f .rest) in
-    let e : length (entryBytes (c .units) (c .glyphs) g) ≤ 57 =
-    entry-short (c .units) (c .glyphs) g (f .small) (omega (arith, o .inside)) (omega (arith, o .some-glyphs)) in
-    omega arith
-
 -- the indices of a run that fits
-pub record Indices (bare : Bool) (us : List ℕ) (cs : List Cluster) (gs : List Glyph) : Type 0 where
-  pub back-again : walk bare (startState us) (entries (indicesOf cs gs)) ≡ ok (parts cs gs)
-  pub short : length (indicesOf cs gs) ≤ 262144
+pub record Indices (w : ℕ → List ℕ) (bare : Bool) (us : List ℕ) (cs : List Cluster) (gs : List Glyph) : Type 0 where
+  pub back-again : walk bare (startState us) (entries (indicesBy w cs gs)) ≡ ok (parts cs gs)
+  pub short : length (indicesBy w cs gs) ≤ 262144
 
-pub indices-back : (bare : Bool) (us : List ℕ) (cs : List Cluster) (gs : List Glyph) → keepsPair 0 us ≡ true → length us ≤ 4096 → length gs ≤ 4096
-    → fits bare 0 us cs gs ≡ true
-    → Indices bare us cs gs
-unfolding indicesOf
-indices-back bare us cs gs w hu hg h =
-    record {
-      back-again =
-          rw (entries-joined (entryList 0 cs gs) (written-semi gs bare cs us 0 h))
-          (walk-back gs bare cs 0 0 us 0 0 w h);
-      short =
-          let t : total (entryList 0 cs gs) ≤ 58 * length gs = written-total gs bare cs us 0 (omega arith) (omega arith) h in
-          let j : length (join 59 (trim (entryList 0 cs gs))) ≤ total (trim (entryList 0 cs gs)) = join-total 59 (trim (entryList 0 cs gs)) in
-          let s : total (trim (entryList 0 cs gs)) ≤ total (entryList 0 cs gs) = total-trim (entryList 0 cs gs) in
-          omega arith;
-    }
+module _ {w : ℕ → List ℕ} (y : Writer w) where
+  pub written-semi : (gs : List Glyph) (bare : Bool) (cs : List Cluster) (us : List ℕ) (lack : ℕ) → fits bare lack us cs gs ≡ true
+      → allFree 59 (entriesBy w lack cs gs) ≡ true
+  written-semi gs bare cs us lack h = go (entriesBy w lack cs gs) (written-each w (λ x. free 59 x ≡ true) (entry-semi y) gs bare cs us lack h)
+    where
+      go : (l : List (List ℕ)) → Each (λ x. free 59 x ≡ true) l → allFree 59 l ≡ true
+      go [] e = refl
+      go (x ∷ xs) e = rw (e .0) (go xs (e .1))
 
--- in a text of no units the indices are some bytes
-pub indices-full : (us : List ℕ) (cs : List Cluster) (gs : List Glyph) → empty gs ≡ false → fits true 0 us cs gs ≡ true → empty (indicesOf cs gs) ≡ false
-unfolding indicesOf entryList
-indices-full us cs [] e h = clash true refl e
-indices-full us [] (g ∷ gs) e h = clash (fits true zero us [] (g ∷ gs)) h (unfold fits in refl)
-indices-full us (c ∷ cs) (g ∷ gs) e h =
-    let f : Opening true us c cs g gs = fits-opening true us c cs g gs h in
-    let o : Bare c g = may-bare us c g gs (f .may) in
-    joined-first 59 (entryBytes (c .units) (c .glyphs) g) (entryList (c .glyphs - 1) cs gs) (entry-full (c .units) (c .glyphs) g (o .name))
+  pub written-total : (gs : List Glyph) (bare : Bool) (cs : List Cluster) (us : List ℕ) (lack : ℕ) → length us < 100000 → length gs < 100000
+      → fits bare lack us cs gs ≡ true
+      → total (entriesBy w lack cs gs) ≤ 58 * length gs
+  unfolding entriesBy
+  written-total [] bare cs us lack hu hg h = omega arith
+  written-total (g ∷ gs) bare cs us (suc n) hu hg h =
+      let f : Further bare n us cs g gs = fits-further bare n us cs g gs h in
+      let r : total (entriesBy w n cs gs) ≤ 58 * length gs = written-total gs bare cs us n hu (omega arith) (f .rest) in
+      let e : length (entryBy w 1 1 g) ≤ 57 = entry-short y 1 1 g (f .small) (omega arith) (omega arith) in
+      omega arith
+  written-total (g ∷ gs) bare [] us zero hu hg h = omega arith
+  written-total (g ∷ gs) true (c ∷ cs) us zero hu hg h =
+      let f : Opening true us c cs g gs = fits-opening true us c cs g gs h in
+      let o : Bare c g = may-bare us c g gs (f .may) in
+      let r : total (entriesBy w (c .glyphs - 1) cs gs) ≤ 58 * length gs =
+      written-total gs true cs (drop (c .units) us) (c .glyphs - 1) (rw length-drop (omega arith)) (omega arith) (f .rest) in
+      let e : length (entryBy w (c .units) (c .glyphs) g) ≤ 57 =
+      entry-short y (c .units) (c .glyphs) g (f .small) (omega (arith, o .none)) (omega (arith, o .one)) in
+      omega arith
+  written-total (g ∷ gs) false (c ∷ cs) us zero hu hg h =
+      let f : Opening false us c cs g gs = fits-opening false us c cs g gs h in
+      let o : Opens us c g gs = may-opens us c g gs (f .may) in
+      let l : c .glyphs - 1 ≤ length gs = fits-lack gs false cs (drop (c .units) us) (c .glyphs - 1) (f .rest) in
+      let r : total (entriesBy w (c .glyphs - 1) cs gs) ≤ 58 * length gs =
+      written-total gs false cs (drop (c .units) us) (c .glyphs - 1) (rw length-drop (omega arith)) (omega arith) (f .rest) in
+      let e : length (entryBy w (c .units) (c .glyphs) g) ≤ 57 =
+      entry-short y (c .units) (c .glyphs) g (f .small) (omega (arith, o .inside)) (omega (arith, o .some-glyphs)) in
+      omega arith
+
+  pub indices-back : (bare : Bool) (us : List ℕ) (cs : List Cluster) (gs : List Glyph) → keepsPair 0 us ≡ true → length us ≤ 4096 → length gs ≤ 4096
+      → fits bare 0 us cs gs ≡ true
+      → Indices w bare us cs gs
+  unfolding indicesBy
+  indices-back bare us cs gs q hu hg h =
+      record {
+        back-again =
+            rw (entries-joined (entriesBy w 0 cs gs) (written-semi gs bare cs us 0 h))
+            (walk-back y gs bare cs 0 0 us 0 0 q h);
+        short =
+            let t : total (entriesBy w 0 cs gs) ≤ 58 * length gs = written-total gs bare cs us 0 (omega arith) (omega arith) h in
+            let j : length (join 59 (trim (entriesBy w 0 cs gs))) ≤ total (trim (entriesBy w 0 cs gs)) = join-total 59 (trim (entriesBy w 0 cs gs)) in
+            let s : total (trim (entriesBy w 0 cs gs)) ≤ total (entriesBy w 0 cs gs) = total-trim (entriesBy w 0 cs gs) in
+            omega arith;
+      }
+
+  -- in a text of no units the indices are some bytes
+  pub indices-full : (us : List ℕ) (cs : List Cluster) (gs : List Glyph) → empty gs ≡ false → fits true 0 us cs gs ≡ true → empty (indicesBy w cs gs) ≡ false
+  unfolding indicesBy entriesBy
+  indices-full us cs [] e h = clash true refl e
+  indices-full us [] (g ∷ gs) e h = clash (fits true zero us [] (g ∷ gs)) h (unfold fits in refl)
+  indices-full us (c ∷ cs) (g ∷ gs) e h =
+      let f : Opening true us c cs g gs = fits-opening true us c cs g gs h in
+      let o : Bare c g = may-bare us c g gs (f .may) in
+      joined-first 59 (entryBy w (c .units) (c .glyphs) g) (entriesBy w (c .glyphs - 1) cs gs) (entry-full y (c .units) (c .glyphs) g (o .name))

@@ -1,4 +1,4 @@
--- How large a sound run and its normal writing can be.
+-- How large a sound run and its writing can be.
 -- Assumes nothing.
 use Prim.Native.Nat.{ℕ, zero, suc, _-_, _≤_}
 use native.Mathlib.Omega.{arith}
@@ -12,13 +12,14 @@ use Rattle.label.specs.Bytes.{empty}
 use Rattle.label.specs.Run.{Run}
 use Rattle.label.specs.Checks.{read}
 use Rattle.label.specs.Sound.{fits, soundRun}
-use Rattle.label.specs.Write.{normal}
+use Rattle.label.specs.Write.{writtenLabel}
 use Rattle.label.specs.Calls.{readInto}
 use Rattle.label.specs.Statements.Demands.{Roomy, RoomyFor}
 use Rattle.label.specs.declared.Counts.{Counts}
 use Rattle.label.specs.declared.Lengths.{Lengths}
 use Rattle.label.specs.declared.Glyph.{Glyph}
 use Rattle.label.specs.declared.Cluster.{Cluster}
+use Rattle.label.proofs.Values.{Writer}
 use Rattle.label.proofs.Run.{fits-nil, fits-further, fits-opening, Indices, indices-back}
 use Rattle.label.proofs.Text.{text-back, proper-first}
 use Rattle.label.proofs.Sound.{SoundRun, sound-parts, read-sound}
@@ -32,7 +33,7 @@ fits-few (g ∷ gs) bare [] us zero h = omega arith
 fits-few (g ∷ gs) bare (c ∷ cs) us zero h =
     omega (arith, fits-few gs bare cs (drop (c .units) us) (c .glyphs - 1) (fits-opening bare us c cs g gs h .rest))
 
--- the buffers that hold every run, and the outputs that hold every normal writing
+-- the buffers that hold every run, and the outputs that hold every writing
 abbrev pub largest : Counts
 largest = record { units = maxUnits; clusters = maxGlyphs; glyphs = maxGlyphs }
 
@@ -45,11 +46,11 @@ sound-roomy r h =
     let f : length (r .clusters) ≤ length (r .glyphs) = fits-few (r .glyphs) (empty (r .units)) (r .clusters) (r .units) 0 (s .fit) in
     record { for-units = s .few-units; for-clusters = omega (arith, s .few-glyphs); for-glyphs = omega (arith, s .few-glyphs) }
 
-pub sound-short : (r : Run) → soundRun r ≡ true → RoomyFor (normal r) longest
-sound-short r h =
+pub sound-short : {w : ℕ → List ℕ} (y : Writer w) (r : Run) → soundRun r ≡ true → RoomyFor (writtenLabel w r) longest
+sound-short {w} y r h =
     let s : SoundRun r = sound-parts r h in
-    let i : Indices (empty (r .units)) (r .units) (r .clusters) (r .glyphs) =
-    indices-back (empty (r .units)) (r .units) (r .clusters) (r .glyphs) (proper-first (r .units) (s .proper)) (s .few-units) (s .few-glyphs) (s .fit) in
+    let i : Indices w (empty (r .units)) (r .units) (r .clusters) (r .glyphs) =
+    indices-back y (empty (r .units)) (r .units) (r .clusters) (r .glyphs) (proper-first (r .units) (s .proper)) (s .few-units) (s .few-glyphs) (s .fit) in
     record { for-text = text-back (r .units) (s .proper) .short (s .few-units); for-indices = i .short }
 
 -- the reading into such buffers

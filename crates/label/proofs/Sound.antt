@@ -1,4 +1,4 @@
--- What is read is sound.
+-- What is read is sound, and what a writer makes of a sound run reads as it.
 -- Assumes nothing.
 use Prim.Native.Nat.{ℕ, zero, suc, _+_, _-_, _/_, _%_, _≤_}
 use native.Mathlib.Omega.{arith}
@@ -18,12 +18,13 @@ use Rattle.label.specs.Run.{Run, Parts, named, fontGlyph, cluster, addGl
 use Rattle.label.specs.Checks.{read}
 use Rattle.label.specs.Steps.{decode, textUnits, entry, walk, runFrom}
 use Rattle.label.specs.Sound.{properUnits, size, indexFits, advanceFits, glyphFits, allFont, mayOpen, fits, soundRun}
-use Rattle.label.specs.Write.{textOf, indicesOf}
+use Rattle.label.specs.Write.{textOf, indicesBy, writtenLabel}
 use Rattle.label.specs.declared.Glyph.{Glyph}
 use Rattle.label.specs.declared.Cluster.{Cluster}
 use Rattle.label.proofs.Basics.{and-l, and-r, clash, cases, bind-ok, need-ok}
 use Rattle.label.proofs.Steps.{decode-none, decode-inside, decode-char, text-steps, entry-steps, walk-end, run-steps, read-steps}
 use Rattle.label.proofs.Splits.{empty-nil}
+use Rattle.label.proofs.Values.{Writer}
 use Rattle.label.proofs.Run.{parts, state, ok-path, Stepped, step-ok, Walked, walk-ok, indices-back, Indices, indices-full}
 use Rattle.label.proofs.Text.{xml-not-high, xml-halves, TextBack, text-back, proper-first, proper-behind, pair-whole, plain-whole}
 use Rattle.label.proofs.Tails.{tail-nil, tail-font}
@@ -393,26 +394,27 @@ sound-parts r h =
       fit = and-r (p && a && b && n) f h;
     }
 
-pub read-back : (r : Run) → soundRun r ≡ true → read (textOf (r .units)) (indicesOf (r .clusters) (r .glyphs)) ≡ ok r
-read-back r h =
+-- what a writer makes of a sound run reads as it
+pub read-back : {w : ℕ → List ℕ} (y : Writer w) (r : Run) → soundRun r ≡ true → read (writtenLabel w r .text) (writtenLabel w r .indices) ≡ ok r
+read-back {w} y r h =
     let s : SoundRun r = sound-parts r h in
     let t : TextBack (r .units) = text-back (r .units) (s .proper) in
-    let i : Indices (empty (r .units)) (r .units) (r .clusters) (r .glyphs) =
-    indices-back (empty (r .units)) (r .units) (r .clusters) (r .glyphs) (proper-first (r .units) (s .proper)) (s .few-units) (s .few-glyphs) (s .fit) in
-    let n : not (empty (r .units) && empty (indicesOf (r .clusters) (r .glyphs))) ≡ true =
+    let i : Indices w (empty (r .units)) (r .units) (r .clusters) (r .glyphs) =
+    indices-back y (empty (r .units)) (r .units) (r .clusters) (r .glyphs) (proper-first (r .units) (s .proper)) (s .few-units) (s .few-glyphs) (s .fit) in
+    let n : not (empty (r .units) && empty (indicesBy w (r .clusters) (r .glyphs))) ≡ true =
     cases (empty (r .units))
-    (λ e. rw (indices-full (r .units) (r .clusters) (r .glyphs) (nand (empty (r .units)) (empty (r .glyphs)) (s .some) e) (rw e at (s .fit)))
+    (λ e. rw (indices-full y (r .units) (r .clusters) (r .glyphs) (nand (empty (r .units)) (empty (r .glyphs)) (s .some) e) (rw e at (s .fit)))
     (and-not (empty (r .units))))
     (λ e. rw e) in
-    read-steps (textOf (r .units)) (indicesOf (r .clusters) (r .glyphs)) ∙ rw (
+    read-steps (textOf (r .units)) (indicesBy w (r .clusters) (r .glyphs)) ∙ rw (
       le-leb (length (textOf (r .units))) 16384 (t .short (s .few-units)),
-      le-leb (length (indicesOf (r .clusters) (r .glyphs))) 262144 (i .short),
+      le-leb (length (indicesBy w (r .clusters) (r .glyphs))) 262144 (i .short),
       text-steps (textOf (r .units)),
       t .decoded,
       t .fine,
       t .units,
       le-leb (length (r .units)) 4096 (s .few-units),
-      run-steps (r .units) (indicesOf (r .clusters) (r .glyphs)),
+      run-steps (r .units) (indicesBy w (r .clusters) (r .glyphs)),
       n,
       i .back-again,
       le-leb (length (r .glyphs)) 4096 (s .few-glyphs),

@@ -13,7 +13,7 @@ use Rattle.label.specs.Bytes.{trim}
 use Rattle.label.specs.Text.{xmlChar, isHigh, isLow, isPair, unitsOf}
 use Rattle.label.specs.Run.{fontGlyph, cluster, addGlyph, keepsPair, tail}
 use Rattle.label.specs.Sound.{isFont, allFont}
-use Rattle.label.specs.Write.{entryBytes, entryList}
+use Rattle.label.specs.Write.{entryBy, entriesBy}
 use Rattle.label.specs.declared.Glyph.{Glyph}
 use Rattle.label.specs.declared.Cluster.{Cluster}
 use Rattle.label.proofs.Basics.{and-l, and-r, cases}
@@ -74,18 +74,19 @@ pub font-cons : (g : Glyph) (gs : List Glyph) → allFont (g ∷ gs) ≡ true �
 unfolding allFont
 font-cons g gs h = (and-l (isFont g) (allFont gs) h, and-r (isFont g) (allFont gs) h)
 
-pub font-written : (gs : List Glyph) (lack : ℕ) (cs : List Cluster) → allFont gs ≡ true → trim (entryList lack cs gs) ≡ []
-unfolding entryList
-font-written [] zero [] h = trim-nil
-font-written [] zero (c ∷ cs) h = trim-nil
-font-written [] (suc n) cs h = trim-nil
-font-written (g ∷ gs) (suc n) cs h =
+pub font-written : (w : ℕ → List ℕ) (gs : List Glyph) (lack : ℕ) (cs : List Cluster) → allFont gs ≡ true → trim (entriesBy w lack cs gs) ≡ []
+unfolding entriesBy
+font-written w [] zero [] h = trim-nil
+font-written w [] zero (c ∷ cs) h = trim-nil
+font-written w [] (suc n) cs h = trim-nil
+font-written w (g ∷ gs) (suc n) cs h =
     let (f, k) = font-cons g gs h in
-    gone (entryBytes 1 1 g) (entryList n cs gs) (font-empty 1 1 g f) (font-written gs n cs k)
-font-written (g ∷ gs) zero [] h = trim-nil
-font-written (g ∷ gs) zero (c ∷ cs) h =
+    gone (entryBy w 1 1 g) (entriesBy w n cs gs) (font-empty w 1 1 g f) (font-written w gs n cs k)
+font-written w (g ∷ gs) zero [] h = trim-nil
+font-written w (g ∷ gs) zero (c ∷ cs) h =
     let (f, k) = font-cons g gs h in
-    gone (entryBytes (c .units) (c .glyphs) g) (entryList (c .glyphs - 1) cs gs) (font-empty (c .units) (c .glyphs) g f) (font-written gs (c .glyphs - 1) cs k)
+    gone (entryBy w (c .units) (c .glyphs) g) (entriesBy w (c .glyphs - 1) cs gs) (font-empty w (c .units) (c .glyphs) g f)
+    (font-written w gs (c .glyphs - 1) cs k)
 
 -- ── the characters of its units ──
 

@@ -1,10 +1,11 @@
--- A value's bytes are a number, moderate, exact, and read back as the value.
+-- What the way back asks of a form of values (`Writer`), and that the normal form meets it: its bytes are a number, moderate, exact, and read back as the
+-- value.
 -- Assumes nothing.
 use Prim.Native.Nat.{ℕ, zero, suc, _+_, _*_, _-_, _/_, _%_, _^_, _≤_, _<_}
 use native.Mathlib.Omega.{arith}
 use native.Mathlib.Nat.{mul-mod-left, mul-div-cancel}
 use mathlib.Core.Path.{_≡_, refl, sym, _∙_}
-use mathlib.Core.Bool.{true, false, not, false≢true}
+use mathlib.Core.Bool.{true, false, cond, not, false≢true}
 use mathlib.Core.List.{List, [], _∷_, _++_, append-nil}
 use borrow.Author.Tests.{lt-ltb, le-leb, eq-eqb, eqb-true}
 use lib.Dec.{eqb}
@@ -14,7 +15,7 @@ use Rattle.label.specs.Entry.{minus, plus, unsigned, isE, isPoint, atExp
 use Rattle.label.specs.Write.{fraction, valueBytes}
 use Rattle.label.specs.Requests.RoundedCount.{isWhole, isExact}
 use Rattle.label.proofs.Basics.{and-l, and-r, clash, cases}
-use Rattle.label.proofs.Splits.{free, none-append}
+use Rattle.label.proofs.Splits.{free, none-append, empty-behind}
 use Rattle.label.proofs.Decimals.{value-append, digits-append, digits-one, value-decimal, all-decimal, empty-decimal, length-decimal, digits-decimal, digits-none, cut-none, cut-found}
 
 -- a digit is none of the other bytes
@@ -198,7 +199,7 @@ point-writes n q r w f h e a b l x =
     head c [] f d g a = g
     head c (b ∷ w) f d g a = digit-not c d b (head-digit (b ∷ w) a)
 
-pub value-writes : (n : ℕ) → n ≤ 1000000000 → Writes n (valueBytes n)
+value-writes : (n : ℕ) → n ≤ 1000000000 → Writes n (valueBytes n)
 unfolding valueBytes
 value-writes n h =
     let d : n ≡ n / 1000 * 1000 + n % 1000 = omega arith in
@@ -215,3 +216,18 @@ value-writes n h =
 
     value-nil : (q : ℕ) → q ≡ 0 → value [] ≡ q
     value-nil q e = unfold valueFrom in (sym e)
+
+value-full : (n : ℕ) → empty (valueBytes n) ≡ false
+unfolding valueBytes
+value-full n =
+    cases (eqb (n % 1000) 0)
+    (λ e. rw e (empty-decimal (n / 1000)))
+    (λ e. rw e (empty-behind (cond (eqb (n / 1000) 0) [] (decimal (n / 1000))) (46 ∷ fraction (n % 1000)) refl))
+
+-- a form of values that the way back is proved for: every value has bytes, and those of one within the limits are as the reader has to know
+pub record Writer (w : ℕ → List ℕ) : Type 0 where
+  pub full : (n : ℕ) → empty (w n) ≡ false
+  pub writes : (n : ℕ) → n ≤ 1000000000 → Writes n (w n)
+
+pub normal-writer : Writer valueBytes
+normal-writer = record { full = value-full; writes = value-writes }

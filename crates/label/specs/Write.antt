@@ -1,4 +1,4 @@
--- "The normal writing" of a run.
+-- "The normal writing" of a run, over how a value is written.
 -- Assumes nothing.
 use Prim.Native.Nat.{ℕ, zero, suc, _+_, _*_, _-_, _/_, _%_}
 use mathlib.Core.Bool.{cond, _&&_}
@@ -54,17 +54,17 @@ valueBytes n =
     cond (eqb (n % 1000) 0) (decimal (n / 1000))
     (cond (eqb (n / 1000) 0) [] (decimal (n / 1000)) ++ (46 ∷ fraction (n % 1000)))
 
+-- ── entries: `w` is how a value in thousandths is written, in the normal writing `valueBytes` ──
+
 -- an advance that is not given is empty
-unfoldable pub advanceBytes : Advance → List ℕ
-advanceBytes Own = []
-advanceBytes (Given n) = valueBytes n
+unfoldable pub advanceBy : (ℕ → List ℕ) → Advance → List ℕ
+advanceBy w Own = []
+advanceBy w (Given n) = w n
 
 -- "a negative one begins with `-`"; "Offsets of 0 are empty"
-unfoldable pub offsetBytes : ℤ → List ℕ
-offsetBytes (pos n) = cond (eqb n 0) [] (valueBytes n)
-offsetBytes (negsuc n) = 45 ∷ valueBytes (suc n)
-
--- ── entries ──
+unfoldable pub offsetBy : (ℕ → List ℕ) → ℤ → List ℕ
+offsetBy w (pos n) = cond (eqb n 0) [] (w n)
+offsetBy w (negsuc n) = 45 ∷ w (suc n)
 
 -- "`(a:b)` only when not 1:1 nor 0:1, `:b` only when b is not 1"
 unfoldable pub mapBytes : ℕ → ℕ → List ℕ
@@ -76,28 +76,38 @@ indexBytes a b Font = []
 indexBytes a b (Named n) = mapBytes a b ++ decimal n
 
 -- the entry of a glyph that opens a cluster a:b; a further glyph is written as one that opens 1:1; "trailing empty fields drop with their commas"
-unfoldable pub entryBytes : ℕ → ℕ → Glyph → List ℕ
-entryBytes a b g =
+unfoldable pub entryBy : (ℕ → List ℕ) → ℕ → ℕ → Glyph → List ℕ
+entryBy w a b g =
     join 44
-    (trim (indexBytes a b (g .index) ∷ advanceBytes (g .advance) ∷ offsetBytes (g .u) ∷ offsetBytes (g .v) ∷ []))
+    (trim (indexBytes a b (g .index) ∷ advanceBy w (g .advance) ∷ offsetBy w (g .u) ∷ offsetBy w (g .v) ∷ []))
 
 -- "the clusters' glyphs in order": their entries; `lack` glyphs of the open cluster are still to come
-unfoldable pub entryList : ℕ → List Cluster → List Glyph → List (List ℕ)
-entryList lack cs [] = []
-entryList (suc n) cs (g ∷ gs) = entryBytes 1 1 g ∷ entryList n cs gs
-entryList zero [] (g ∷ gs) = []
-entryList zero (c ∷ cs) (g ∷ gs) = entryBytes (c .units) (c .glyphs) g ∷ entryList (c .glyphs - 1) cs gs
+unfoldable pub entriesBy : (ℕ → List ℕ) → ℕ → List Cluster → List Glyph → List (List ℕ)
+entriesBy w lack cs [] = []
+entriesBy w (suc n) cs (g ∷ gs) = entryBy w 1 1 g ∷ entriesBy w n cs gs
+entriesBy w zero [] (g ∷ gs) = []
+entriesBy w zero (c ∷ cs) (g ∷ gs) = entryBy w (c .units) (c .glyphs) g ∷ entriesBy w (c .glyphs - 1) cs gs
 
 -- "joined by `;`"; "Trailing 1:1 entries that are wholly the font's drop", and a pair of the tail "like them" (document 02, CR 4): in a sound run those
 -- are the entries without bytes (law `empty-is-font`)
-unfoldable pub indicesOf : List Cluster → List Glyph → List ℕ
-indicesOf cs gs = join 59 (trim (entryList 0 cs gs))
+unfoldable pub indicesBy : (ℕ → List ℕ) → List Cluster → List Glyph → List ℕ
+indicesBy w cs gs = join 59 (trim (entriesBy w 0 cs gs))
+
+-- ── labels ──
 
 -- "A label is a text with its indices."
 pub record Label : Type 0 where
   pub text : List ℕ
   pub indices : List ℕ
 
+-- a run written as a label, its values by `w`
+abbrev pub writtenLabel : (ℕ → List ℕ) → Run → Label
+writtenLabel w r = record { text = textOf (r .units); indices = indicesBy w (r .clusters) (r .glyphs) }
+
 -- the normal writing of a run
 abbrev pub normal : Run → Label
-normal r = record { text = textOf (r .units); indices = indicesOf (r .clusters) (r .glyphs) }
+normal r = writtenLabel valueBytes r
+
+-- the indices of the normal writing
+abbrev pub indicesOf : List Cluster → List Glyph → List ℕ
+indicesOf cs gs = indicesBy valueBytes cs gs

@@ -20,6 +20,7 @@ use Rattle.label.specs.declared.Counts.{Counts}
 use Rattle.label.proofs.Basics.{no-ok}
 use Rattle.label.proofs.Sound.{read-sound}
 use Rattle.label.proofs.Statements.Demands.{demand-3}
+use Rattle.label.proofs.Values.{normal-writer}
 use Rattle.label.proofs.Sizes.{largest, longest, sound-roomy, sound-short, read-largest}
 use Rattle.lines.specs.Lines.{answered, placesWritten, relabelled, textLine, indicesLine}
 use Rattle.lines.specs.declared.Relabelled.{Relabelled}
@@ -86,7 +87,7 @@ module _ (t i us cs gs tx ix : List ℕ) (few : length i ≤ maxLineBytes)
     written-as : maxTextBytes ≤ length tx → maxIndicesBytes ≤ length ix → (c : Counts) (us′ cs′ gs′ : List ℕ) → c ≡ counts r
         → us′ ≡ unitsAfter reading us → cs′ ≡ clustersAfter reading cs → gs′ ≡ glyphsAfter reading gs → Wrote (normal r) (written c us′ cs′ gs′) tx ix
     written-as hx hy c us′ cs′ gs′ k hu hc hg =
-        let s : RoomyFor (normal r) longest = sound-short r (read-sound t i r is) in
+        let s : RoomyFor (normal r) longest = sound-short normal-writer r (read-sound t i r is) in
         let n : RoomyFor (normal r) (outputs tx ix) =
         record { for-text = omega (arith, s .for-text); for-indices = omega (arith, s .for-indices) } in
         rw (hu, hc, hg, k) (demand-3 .passed t i r us cs gs tx ix is roomy n .wrote)

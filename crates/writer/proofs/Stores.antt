@@ -12,7 +12,7 @@ use lib.ListN.{length, drop, length-append}
 use Rattle.label.specs.Bytes.{empty, joinRest, join, trim}
 use Rattle.label.specs.Fetched.{signed}
 use Rattle.label.specs.Sound.{nat, clustersOf, glyphsOf}
-use Rattle.label.specs.Write.{entryBytes, entryList, indicesOf}
+use Rattle.label.specs.Write.{valueBytes, entryBy, entriesBy, indicesBy, indicesOf}
 use Rattle.label.proofs.Basics.{cases}
 use Rattle.octets.specs.Puts.{Put}
 use Rattle.octets.proofs.Puts.{Left, left-next, left-as}
@@ -82,11 +82,13 @@ kept-none (x ∷ r) = refl
 
 -- the entries from these places of the clusters' and the glyphs' numbers on
 unfoldable pub writtenAt : List ℤ → List ℤ → ℕ → ℕ → ℕ → List (List ℕ)
-writtenAt cs gs lack i k = entryList lack (clustersOf (drop i cs)) (glyphsOf (drop k gs))
+writtenAt cs gs lack i k = entriesBy valueBytes lack (clustersOf (drop i cs)) (glyphsOf (drop k gs))
 
 pub indices-start : (cs gs : List ℤ) → indicesOf (clustersOf cs) (glyphsOf gs) ≡ owed 0 (writtenAt cs gs 0 0 0)
-unfolding indicesOf writtenAt
-indices-start cs gs = sym (owed-kept 0 (entryList 0 (clustersOf cs) (glyphsOf gs)) ∙ kept-none (trim (entryList 0 (clustersOf cs) (glyphsOf gs))))
+unfolding indicesBy writtenAt
+indices-start cs gs =
+    let l = entriesBy valueBytes 0 (clustersOf cs) (glyphsOf gs) in
+    sym (owed-kept 0 l ∙ kept-none (trim l))
 
 module _ (cs gs : List ℤ) (n lack i k : ℕ) where
   -- what is left to store
@@ -94,28 +96,28 @@ module _ (cs gs : List ℤ) (n lack i k : ℕ) where
   rest = owed n (writtenAt cs gs lack i k)
 
   pub rest-end : length gs - k < 4 → rest ≡ []
-  unfolding writtenAt entryList owed
-  rest-end h = rw (glyphs-end gs k h, entryList)
+  unfolding writtenAt entriesBy owed
+  rest-end h = rw (glyphs-end gs k h, entriesBy)
 
   pub rest-none : 4 ≤ length gs - k → lack ≡ 0 → length cs - i < 2 → rest ≡ []
-  unfolding writtenAt entryList owed
-  rest-none h l e = rw (glyphs-at gs k h, clusters-end cs i e, l, entryList)
+  unfolding writtenAt entriesBy owed
+  rest-none h l e = rw (glyphs-at gs k h, clusters-end cs i e, l, entriesBy)
 
   pub rest-further : 4 ≤ length gs - k → 0 < lack
-      → rest ≡ led n (entryBytes 1 1 (glyphAt gs k)) ++ owed (owing n (entryBytes 1 1 (glyphAt gs k))) (writtenAt cs gs (lack - 1) i (k + 4))
-  unfolding writtenAt entryList owed
+      → rest ≡ led n (entryBy valueBytes 1 1 (glyphAt gs k)) ++ owed (owing n (entryBy valueBytes 1 1 (glyphAt gs k))) (writtenAt cs gs (lack - 1) i (k + 4))
+  unfolding writtenAt entriesBy owed
   rest-further h l = rw (glyphs-at gs k h) (by lack l)
     where
-      by : (m : ℕ) → 0 < m → owed n (entryList m (clustersOf (drop i cs)) (glyphAt gs k ∷ glyphsOf (drop (k + 4) gs))) ≡ led n
-          (entryBytes 1 1 (glyphAt gs k)) ++ owed (owing n (entryBytes 1 1 (glyphAt gs k)))
-          (entryList (m - 1) (clustersOf (drop i cs)) (glyphsOf (drop (k + 4) gs)))
+      by : (m : ℕ) → 0 < m → owed n (entriesBy valueBytes m (clustersOf (drop i cs)) (glyphAt gs k ∷ glyphsOf (drop (k + 4) gs)))
+          ≡ led n (entryBy valueBytes 1 1 (glyphAt gs k))
+          ++ owed (owing n (entryBy valueBytes 1 1 (glyphAt gs k))) (entriesBy valueBytes (m - 1) (clustersOf (drop i cs)) (glyphsOf (drop (k + 4) gs)))
       by zero l = absurd (omega arith)
       by (suc m) l = let e : suc m - 1 ≡ m = omega arith in rw e
 
   pub rest-opens : {a b d : ℕ} → a ≡ nat (place cs i) → b ≡ nat (place cs (i + 1)) → d ≡ b - 1 → 4 ≤ length gs - k → lack ≡ 0 → 2 ≤ length cs - i
-      → rest ≡ led n (entryBytes a b (glyphAt gs k)) ++ owed (owing n (entryBytes a b (glyphAt gs k))) (writtenAt cs gs d (i + 2) (k + 4))
-  unfolding writtenAt entryList owed clusterAt
-  rest-opens p q d h l e = rw (d, p, q, glyphs-at gs k h, clusters-at cs i e, l, entryList)
+      → rest ≡ led n (entryBy valueBytes a b (glyphAt gs k)) ++ owed (owing n (entryBy valueBytes a b (glyphAt gs k))) (writtenAt cs gs d (i + 2) (k + 4))
+  unfolding writtenAt entriesBy owed clusterAt
+  rest-opens p q d h l e = rw (d, p, q, glyphs-at gs k h, clusters-at cs i e, l, entriesBy)
 
 -- ── a turn of the loop: an entry x was stored from `at` up to p, and r separators are owed after it ──
 
@@ -124,8 +126,7 @@ unfolding led owing
 owes-is n at p [] e = rw (le-ltb at p (omega arith))
 owes-is n at p (a ∷ x) e = rw (lt-ltb at p (omega (arith, e, length-append (semis n) (a ∷ x))))
 
-pub entry-stored : (n : ℕ) (x : List ℕ) (ls : List (List ℕ)) {old whole l m s : List ℕ} {at p r : ℕ} → s ≡ led n x ++ owed (owing n x) ls
-    → Left old whole l 0 at s
+pub entry-stored : (n : ℕ) (x : List ℕ) (ls : List (List ℕ)) {old whole l m s : List ℕ} {at p r : ℕ} → s ≡ led n x ++ owed (owing n x) ls → Left old whole l 0 at s
     → Put l at (led n x) p m → r ≡ cond (ltb at p) 1 (n + 1) → Left old whole m 0 p (owed r ls)
 entry-stored n x ls {at = at} {p = p} e f g d =
     left-next (left-as (e ∙ ap (λ (z : ℕ). led n x ++ owed z ls) (sym (d ∙ owes-is n at p x (g .behind)))) f) g

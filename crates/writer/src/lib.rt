@@ -6,7 +6,7 @@ ghost use Prim.Native.Nat.{_+_, _<_, _≤_};
 ghost use lib.ListN.{length};
 ghost use Rattle.label.specs.Fetched.{words};
 ghost use Rattle.label.specs.Sound.{clustersOf, glyphsOf};
-ghost use Rattle.label.specs.Write.{entryBytes, indicesOf};
+ghost use Rattle.label.specs.Write.{valueBytes, entryBy, indicesOf};
 ghost use Rattle.label.specs.Calls.{refusal, writingOutcome, lengths, textAfter, indicesAfter, writeAsked, outputs};
 ghost use Rattle.octets.specs.Puts.{Put};
 ghost use Rattle.wire.specs.Numbers.{glyphAt};
@@ -36,7 +36,7 @@ fn put_semis(out: &mut [u8], at: usize, n: usize) -> usize
 // The entry of the glyph at place k, with the separators owed before it; nothing for a glyph wholly the font's, whose entry has no bytes.
 fn put_next(out: &mut [u8], at: usize, owed: usize, a: u32, b: u32, gs: &[u8], k: usize) -> usize
     requires { ⌜ (at < 1000000000000000000) × (owed < 100000000000000000) × (k + 3 < length (words (now gs))) ⌝ }
-    ensures { λ r. ⌜ Put (now (out .entry)) at (led owed (entryBytes a b (glyphAt (words (now (gs .entry))) k))) r (now (out .exit)) ⌝ }
+    ensures { λ r. ⌜ Put (now (out .entry)) at (led owed (entryBy valueBytes a b (glyphAt (words (now (gs .entry))) k))) r (now (out .exit)) ⌝ }
     ensures bounds { λ r. ⌜ r ≤ at + owed + 80 ⌝ }
 {
     let index = wire::number_at(gs, k);

@@ -14,7 +14,7 @@ use Rattle.label.specs.Bytes.{ascii, isDigit, join, trim, decimal}
 use Rattle.label.specs.Text.{isHigh, isLow, braced}
 use Rattle.label.specs.Run.{Run}
 use Rattle.label.specs.Sound.{soundRun}
-use Rattle.label.specs.Write.{utf8, paired, unitBytes, unitsBytes, textOf, fraction, valueBytes, advanceBytes, offsetBytes, mapBytes, indexBytes, entryBytes, entryList, indicesOf, normal}
+use Rattle.label.specs.Write.{utf8, paired, unitBytes, unitsBytes, textOf, fraction, valueBytes, advanceBy, offsetBy, mapBytes, indexBytes, entryBy, entriesBy, indicesBy, normal, indicesOf}
 use Rattle.label.specs.Calls.{askedFor}
 use Rattle.label.specs.Requests.Attribute.{escapeByte, escape, asAsked}
 use Rattle.label.specs.Statements.Demands.{RoomyFor}
@@ -28,6 +28,7 @@ use Rattle.label.proofs.Basics.{and-l, and-r, or-l, or-r, clash, cases}
 use Rattle.label.proofs.Text.{unit-short}
 use Rattle.label.proofs.Splits.{none, allNone, none-append, none-trim, join-free}
 use Rattle.label.proofs.Decimals.{all-decimal, digits-none}
+use Rattle.label.proofs.Values.{normal-writer}
 use Rattle.label.proofs.Sound.{sound-parts}
 use Rattle.label.proofs.Sizes.{sound-short}
 
@@ -188,13 +189,13 @@ value-none n =
     whole : none odd (cond (eqb (n / 1000) 0) [] (decimal (n / 1000))) ≡ true
     whole = cases (eqb (n / 1000) 0) (λ b. rw b) (λ b. rw b (decimal-none (n / 1000)))
 
-advance-none : (a : Advance) → none odd (advanceBytes a) ≡ true
-unfolding advanceBytes
+advance-none : (a : Advance) → none odd (advanceBy valueBytes a) ≡ true
+unfolding advanceBy
 advance-none Own = refl
 advance-none (Given n) = value-none n
 
-offset-none : (z : ℤ) → none odd (offsetBytes z) ≡ true
-unfolding offsetBytes
+offset-none : (z : ℤ) → none odd (offsetBy valueBytes z) ≡ true
+unfolding offsetBy
 offset-none (pos n) = cases (eqb n 0) (λ a. rw a) (λ a. rw a (value-none n))
 offset-none (negsuc n) = unfold odd in (value-none (suc n))
 
@@ -217,14 +218,15 @@ index-none a b (Named n) = none-append odd (mapBytes a b) (decimal n) (map-none 
 joined-none : (c : ℕ) (l : List (List ℕ)) → odd c ≡ false → allNone odd l ≡ true → none odd (join c (trim l)) ≡ true
 joined-none c l h k = join-free odd c (trim l) h (none-trim odd l k)
 
-entry-none : (a b : ℕ) (g : Glyph) → none odd (entryBytes a b g) ≡ true
-unfolding entryBytes
+entry-none : (a b : ℕ) (g : Glyph) → none odd (entryBy valueBytes a b g) ≡ true
+unfolding entryBy
 entry-none a b g =
-    joined-none 44 (indexBytes a b (g .index) ∷ advanceBytes (g .advance) ∷ offsetBytes (g .u) ∷ offsetBytes (g .v) ∷ []) (unfold odd in refl)
+    joined-none 44 (indexBytes a b (g .index) ∷ advanceBy valueBytes (g .advance) ∷ offsetBy valueBytes (g .u) ∷ offsetBy valueBytes (g .v) ∷ [])
+    (unfold odd in refl)
     (rw (index-none a b (g .index), advance-none (g .advance), offset-none (g .u), offset-none (g .v)))
 
-written-none : (lack : ℕ) (cs : List Cluster) (gs : List Glyph) → allNone odd (entryList lack cs gs) ≡ true
-unfolding entryList
+written-none : (lack : ℕ) (cs : List Cluster) (gs : List Glyph) → allNone odd (entriesBy valueBytes lack cs gs) ≡ true
+unfolding entriesBy
 written-none zero cs [] = refl
 written-none (suc n) cs [] = refl
 written-none (suc n) cs (g ∷ gs) = rw (entry-none 1 1 g) (written-none n cs gs)
@@ -234,7 +236,7 @@ written-none zero (c ∷ cs) (g ∷ gs) = rw (entry-none (c .units) (c .glyphs) 
 -- asked for or not, the indices are the same
 pub asked-indices : (e : Bool) (cs : List Cluster) (gs : List Glyph) → asAsked e (indicesOf cs gs) ≡ indicesOf cs gs
 asked-indices e cs gs =
-    asked-stays e (indicesOf cs gs) (unfold indicesOf in (joined-none 59 (entryList 0 cs gs) (unfold odd in refl) (written-none 0 cs gs)))
+    asked-stays e (indicesOf cs gs) (unfold indicesBy in (joined-none 59 (entriesBy valueBytes 0 cs gs) (unfold odd in refl) (written-none 0 cs gs)))
 
 pub indices-plain : (cs : List Cluster) (gs : List Glyph) → escape (indicesOf cs gs) ≡ indicesOf cs gs
 indices-plain cs gs = asked-indices true cs gs
@@ -243,5 +245,6 @@ indices-plain cs gs = asked-indices true cs gs
 
 -- the outputs that hold every writing, escaped or not
 pub asked-short : (e : Bool) (r : Run) → soundRun r ≡ true → RoomyFor (askedFor e (normal r)) (record { text = 24576; indices = maxIndicesBytes })
-asked-short true r h = record { for-text = escaped-most r h; for-indices = rw (indices-plain (r .clusters) (r .glyphs)) (sound-short r h .for-indices) }
-asked-short false r h = record { for-text = omega (arith, sound-short r h .for-text); for-indices = sound-short r h .for-indices }
+asked-short true r h =
+    record { for-text = escaped-most r h; for-indices = rw (indices-plain (r .clusters) (r .glyphs)) (sound-short normal-writer r h .for-indices) }
+asked-short false r h = record { for-text = omega (arith, sound-short normal-writer r h .for-text); for-indices = sound-short normal-writer r h .for-indices }

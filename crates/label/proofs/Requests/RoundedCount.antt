@@ -1,5 +1,5 @@
--- The count of rounded fields: at most three an entry; a number is exact exactly where the value that it reads as is its exact value; and a normal writing
--- has no rounded field.
+-- The count of rounded fields: at most three an entry; a number is exact exactly where the value that it reads as is its exact value; and what a
+-- writer writes has no rounded field.
 -- Assumes nothing.
 use Prim.Native.Nat.{ℕ, suc, _+_, _*_, _%_, _/_, _^_, _≤_, _<_}
 use native.Mathlib.Omega.{arith}
@@ -18,13 +18,13 @@ use Rattle.label.specs.Run.{Run, Parts, cluster, addGlyph, State, startS
 use Rattle.label.specs.Checks.{read}
 use Rattle.label.specs.Steps.{walk}
 use Rattle.label.specs.Sound.{fits, soundRun}
-use Rattle.label.specs.Write.{entryList, indicesOf, normal}
+use Rattle.label.specs.Write.{entriesBy, indicesBy, writtenLabel}
 use Rattle.label.specs.Requests.RoundedCount.{isWhole, isExact, roundedField, roundedEntry, roundedEntries, rounded, beside}
 use Rattle.label.specs.declared.Cluster.{Cluster}
 use Rattle.label.specs.declared.Glyph.{Glyph}
 use Rattle.label.proofs.Basics.{cases}
 use Rattle.label.proofs.Splits.{split-length, trim-nil, trim-gone, trim-kept}
-use Rattle.label.proofs.Values.{nearest-exact}
+use Rattle.label.proofs.Values.{nearest-exact, Writer}
 use Rattle.label.proofs.Entry.{entry-exact}
 use Rattle.label.proofs.Run.{Walked, walk-ok, entries-joined, Each, written-each, written-semi}
 use Rattle.label.proofs.Sound.{WasRead, read-ok, sound-parts}
@@ -104,7 +104,7 @@ unfolding isWhole scaled
 whole-reads m f true e = whole-nearest (m * 10 ^ 3) (10 ^ (f + e)) (one-le-pow (f + e) 10 (lit< tt))
 whole-reads m f false e = whole-nearest (m * 10 ^ (e + 3)) (10 ^ f) (one-le-pow f 10 (lit< tt))
 
--- ── the normal writing ──
+-- ── a writing ──
 
 exact-trim : (l : List (List ℕ)) → Each (λ s. roundedEntry s ≡ 0) l → roundedEntries (trim l) ≡ 0
 unfolding roundedEntries
@@ -114,11 +114,11 @@ exact-trim (x ∷ xs) e =
     (λ t. rw (trim-gone x xs t))
     (λ t. rw (trim-kept x xs t, e .0, exact-trim xs (e .1)))
 
--- what the writer writes is no finer than thousandths: reading it again rounds nothing
-pub normal-exact : (r : Run) → soundRun r ≡ true → rounded (normal r .indices) ≡ 0
-unfolding rounded indicesOf
-normal-exact r h =
+-- what a writer writes is no finer than thousandths: reading it again rounds nothing
+pub written-exact : {w : ℕ → List ℕ} (y : Writer w) (r : Run) → soundRun r ≡ true → rounded (writtenLabel w r .indices) ≡ 0
+unfolding rounded indicesBy
+written-exact {w} y r h =
     let f : fits (empty (r .units)) 0 (r .units) (r .clusters) (r .glyphs) ≡ true = sound-parts r h .fit in
-    rw (entries-joined (entryList 0 (r .clusters) (r .glyphs)) (written-semi (r .glyphs) (empty (r .units)) (r .clusters) (r .units) 0 f))
-    (exact-trim (entryList 0 (r .clusters) (r .glyphs)) (written-each (λ s. roundedEntry s ≡ 0) entry-exact (r .glyphs) (empty (r .units)) (r .clusters)
+    rw (entries-joined (entriesBy w 0 (r .clusters) (r .glyphs)) (written-semi y (r .glyphs) (empty (r .units)) (r .clusters) (r .units) 0 f))
+    (exact-trim (entriesBy w 0 (r .clusters) (r .glyphs)) (written-each w (λ s. roundedEntry s ≡ 0) (entry-exact y) (r .glyphs) (empty (r .units)) (r .clusters)
     (r .units) 0 f))

@@ -24,6 +24,7 @@ use Rattle.label.specs.Statements.Attribute.{cameOut, escapedText, escap
 use Rattle.label.proofs.Basics.{cases, bind-ok, need-ok}
 use Rattle.label.proofs.Splits.{none, none-append}
 use Rattle.label.proofs.Decimals.{cut-none}
+use Rattle.label.proofs.Values.{normal-writer}
 use Rattle.label.proofs.Run.{ok-path}
 use Rattle.label.proofs.Sound.{read-sound}
 use Rattle.label.proofs.Steps.{resolve-into-steps, raw-steps}
@@ -125,7 +126,7 @@ restoring =
       writer-memory = writer-memory;
       short = λ raw s h. omega (arith, resolved-within raw 0 0 s h);
       largest = λ t i r h. let s = read-sound t i r h in
-          record { for-text = escaped-most r s; for-indices = rw (indices-plain (r .clusters) (r .glyphs)) (sound-short r s .for-indices) };
+          record { for-text = escaped-most r s; for-indices = rw (indices-plain (r .clusters) (r .glyphs)) (sound-short normal-writer r s .for-indices) };
       indices-stay = indices-plain;
       decimal = ten-numbered;
     }

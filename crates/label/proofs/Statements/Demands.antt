@@ -4,9 +4,9 @@ use Prim.Native.Nat.{ℕ, _+_, _*_, _≤_, _<_}
 use native.Mathlib.Omega.{arith}
 use mathlib.Core.Path.{_≡_, refl, sym, _∙_, ap, subst}
 use mathlib.Core.Logic.{_↔_}
-use mathlib.Core.Bool.{Bool, true, false, not, _||_}
+use mathlib.Core.Bool.{Bool, true, false}
 use mathlib.Core.List.{List, [], _∷_}
-use borrow.Author.Tests.{leb-true, le-leb, lt-ltb, not-false}
+use borrow.Author.Tests.{leb-true, le-leb, lt-ltb}
 use lib.Dec.{ltb, leb}
 use lib.ListN.{length, take, drop}
 use lib.Seq.{take-at}
@@ -20,12 +20,13 @@ use Rattle.label.specs.Places.{flatClusters, flatGlyphs, Places, placesO
 use Rattle.label.specs.Sound.{soundRun, runOf, sound}
 use Rattle.label.specs.Write.{Label, normal}
 use Rattle.label.specs.Pick.{touched, turned, inside, pickChecks, pickUnits, pickGlyphs}
-use Rattle.label.specs.Calls.{filled, roomOf, bufferChecks, readChecks, readInto, askedFor, saidLabel, outputChecks, writeChecks, writeAsked, writeInto, outputs}
+use Rattle.label.specs.Calls.{filled, roomOf, readChecks, readInto, askedFor, saidLabel, writeChecks, writeAsked, writeInto, outputs}
 use Rattle.label.specs.Statements.Memory.{filledAll, Kept}
 use Rattle.label.specs.Statements.Demands.{unitCounts, glyphCounts, Roomy, RoomyFor, inBytes, storedRun, buffersAfter, storedLabel, outputsAfter, Demand1, PicksWhole, Demand2, passedOn, textWritten, indicesWritten, Wrote, Passed, Demand3}
 use Rattle.label.specs.declared.Counts.{Counts}
 use Rattle.label.specs.declared.Lengths.{Lengths}
-use Rattle.label.proofs.Basics.{and-i, or-l, or-r, cases, bind-ok, need-ok, no-ok}
+use Rattle.label.proofs.Basics.{and-i, cases, bind-ok, need-ok, no-ok}
+use Rattle.label.proofs.Values.{normal-writer}
 use Rattle.label.proofs.Run.{ok-path}
 use Rattle.label.proofs.Sound.{read-sound, read-back, SoundRun, sound-parts}
 use Rattle.label.proofs.Steps.{into-steps, write-steps, units-steps, glyphs-steps}
@@ -59,33 +60,6 @@ into-read t i r room h =
       for-glyphs = leb-true (length (s .glyphs)) (room .glyphs) z;
     } in
     (a ∙ b18, subst (λ (q : Run). Roomy q room) (ok-path s r b18) m)
-
--- large enough: none of 16 to 18, or of 20 and 21, holds
-large : (r : Run) (room : Counts) → Roomy r room ↔ (refuses (bufferChecks room r) ≡ false)
-unfolding refuses
-large r room =
-    let u = leb (length (r .units)) (room .units) in
-    let c = leb (length (r .clusters)) (room .clusters) in
-    let g = leb (length (r .glyphs)) (room .glyphs) in (
-      λ m. rw (le-leb _ (room .units) (m .for-units), le-leb _ (room .clusters) (m .for-clusters), le-leb _ (room .glyphs) (m .for-glyphs)),
-      λ h. record {
-        for-units = leb-true _ _ (not-false u (or-l (not u) _ h));
-        for-clusters = leb-true _ _ (not-false c (or-l (not c) (not g || false) (or-r (not u) _ h)));
-        for-glyphs = leb-true _ _ (not-false g (or-l (not g) false (or-r (not c) (not g || false) (or-r (not u) _ h))));
-      },
-    )
-
-large-outputs : (l : Label) (room : Lengths) → RoomyFor l room ↔ (refuses (outputChecks room l) ≡ false)
-unfolding refuses
-large-outputs l room =
-    let t = leb (length (l .text)) (room .text) in
-    let i = leb (length (l .indices)) (room .indices) in (
-      λ m. rw (le-leb _ (room .text) (m .for-text), le-leb _ (room .indices) (m .for-indices)),
-      λ h. record {
-        for-text = leb-true _ _ (not-false t (or-l (not t) (not i || false) h));
-        for-indices = leb-true _ _ (not-false i (or-l (not i) false (or-r (not t) (not i || false) h)));
-      },
-    )
 
 -- a sound run is written where there is room, asked or not
 write-into : (asked : Bool) (z : Places) (room : Lengths) → sound z ≡ true → RoomyFor (saidLabel asked z) room
@@ -254,7 +228,7 @@ demand-2 =
 -- ── demand 3 ──
 
 same-back : (A B : Run) → soundRun A ≡ true → soundRun B ≡ true → normal A .text ≡ normal B .text → normal A .indices ≡ normal B .indices → A ≡ B
-same-back A B a b p q = ok-path A B (sym (read-back A a) ∙ rw (p, q) (read-back B b))
+same-back A B a b p q = ok-path A B (sym (read-back normal-writer A a) ∙ rw (p, q) (read-back normal-writer B b))
 
 same : (A B : Run) (lA lB : Label) → soundRun A ≡ true → soundRun B ≡ true → lA ≡ normal A → lB ≡ normal B
     → (A ≡ B) ↔ ((lA .text ≡ lB .text) × (lA .indices ≡ lB .indices))
@@ -287,7 +261,8 @@ passed r o w tx ix s eo ew n =
     record {
       counts-are = rw eo;
       wrote = rw ew (wrote (normal r) (normal r) tx ix refl n);
-      back = rw (ew, held (normal r .text) tx (length (normal r .text)) refl, held (normal r .indices) ix (length (normal r .indices)) refl) (read-back r s);
+      back = rw (ew, held (normal r .text) tx (length (normal r .text)) refl, held (normal r .indices) ix (length (normal r .indices)) refl)
+          (read-back normal-writer r s);
     }
 
 module _ (r : Run) (o : Outcome Run) (w : Outcome Label) (tx ix : List ℕ) (p : Passed r o w tx ix) where
@@ -312,15 +287,13 @@ same-passed A B oA oB wA wB txA ixA txB ixB p q =
 pub demand-3 : Demand3
 demand-3 =
     record {
-      large = large;
-      large-outputs = large-outputs;
       reads = read-into;
       no-other = λ t i r room h. into-read t i r room h .0;
       same = λ tA iA tB iB A B lA lB x y a b p q. same A B lA lB (read-sound tA iA A a) (read-sound tB iB B b)
           (written-as false (placesOf A) lA x (own tA iA A a) p) (written-as false (placesOf B) lB y (own tB iB B b) q);
       normally = λ t i r room h m. written-from false (placesOf r) room (own t i r h) m;
-      back = λ t i r h. read-back r (read-sound t i r h);
-      again = λ t i r s room h k m. let e : s ≡ r = ok-path s r (sym k ∙ read-back r (read-sound t i r h)) in
+      back = λ t i r h. read-back normal-writer r (read-sound t i r h);
+      again = λ t i r s room h k m. let e : s ≡ r = ok-path s r (sym k ∙ read-back normal-writer r (read-sound t i r h)) in
           subst (λ (q : Run). writeInto room (placesOf q) ≡ ok (normal r)) (sym e) (written-from false (placesOf r) room (own t i r h) m);
       units = λ t i r h. let s : SoundRun r = sound-parts r (read-sound t i r h) in
           divided (length (r .units)) (unitCounts (r .clusters)) (fits-units (r .glyphs) (empty (r .units)) (r .clusters) (r .units) 0 (s .fit));

@@ -9,8 +9,9 @@ use lib.Dec.{eqb}
 use Rattle.label.specs.Entry.{scaled}
 use Rattle.label.specs.Requests.RoundedCount.{isWhole, rounded, beside}
 use Rattle.label.specs.Statements.RoundedCount.{RoundedCount}
+use Rattle.label.proofs.Values.{normal-writer}
 use Rattle.label.proofs.Sound.{read-sound}
-use Rattle.label.proofs.Requests.RoundedCount.{rounded-most, whole-reads, normal-exact}
+use Rattle.label.proofs.Requests.RoundedCount.{rounded-most, whole-reads, written-exact}
 
 exact : (m f : ℕ) (down : Bool) (e : ℕ) → (isWhole m f down e ≡ true) ↔
     (scaled m f down e * cond down (10 ^ (f + e)) (10 ^ f) ≡ cond down (m * 10 ^ 3) (m * 10 ^ (e + 3)))
@@ -30,5 +31,5 @@ counting =
       accepted = λ room t i r h. ap (beside (rounded i)) h;
       refused = λ room t i n p h. ap (beside (rounded i)) h;
       most = rounded-most;
-      written = λ t i r h. normal-exact r (read-sound t i r h);
+      written = λ t i r h. written-exact normal-writer r (read-sound t i r h);
     }

@@ -15,7 +15,7 @@ use Rattle.label.specs.Wire.{fromHalves, fromWords}
 use Rattle.label.specs.Fetched.{halves, signed, words, evenBytes, wordBytes}
 use Rattle.label.specs.Places.{Places, places}
 use Rattle.label.specs.Sound.{wholeClusters, wholeGlyphs, clustersOf, glyphsOf, properUnits, fits, soundRun, sound}
-use Rattle.label.specs.Write.{utf8, unitBytes, unitsBytes, textOf, fraction, valueBytes, advanceBytes, offsetBytes, mapBytes, indexBytes, entryBytes, entryList, indicesOf}
+use Rattle.label.specs.Write.{utf8, unitBytes, unitsBytes, textOf, fraction, valueBytes, advanceBy, offsetBy, mapBytes, indexBytes, entryBy, entriesBy, indicesBy}
 use Rattle.label.specs.Calls.{filledCount, filledAfter, writeChecks, writeAsked, lengths}
 use Rattle.label.specs.Requests.Attribute.{sameBytes, predefined, digitValue, allOf, valueBehind, numbered, referred, body, isClosed, isReference, isGood, spaced, gives, further, escapeByte, escape, resolveChecks, resolveInto}
 use Rattle.label.specs.Statements.Attribute.{rawLabelChecks, readRaw}
@@ -121,14 +121,14 @@ pub escapings : (writeAsked true (sizes 13 1) quoted ≡ label (ascii "{}{&quot;
     × (lengths (writeAsked true (sizes 13 0) quoted) ≡ no 21 1)
     × (lengths (writeAsked true (sizes 0 0) (places (quoted .units) [] (quoted .glyphs))) ≡ no 19 0)
     × (writeAsked false (sizes 5 1) quoted ≡ label (123 ∷ 125 ∷ 123 ∷ 34 ∷ 9 ∷ []) (ascii "5"))
-unfolding ascii wholeClusters wholeGlyphs clustersOf glyphsOf properUnits fits soundRun sound xmlChar join joinRest trim decimalFrom decimal utf8 unitBytes unitsBytes textOf fraction valueBytes advanceBytes offsetBytes mapBytes indexBytes entryBytes entryList indicesOf writeAsked escapeByte escape fromHalves fromWords halves words signed evenBytes wordBytes writeChecks verdict
+unfolding ascii wholeClusters wholeGlyphs clustersOf glyphsOf properUnits fits soundRun sound xmlChar join joinRest trim decimalFrom decimal utf8 unitBytes unitsBytes textOf fraction valueBytes advanceBy offsetBy mapBytes indexBytes entryBy entriesBy indicesBy writeAsked escapeByte escape fromHalves fromWords halves words signed evenBytes wordBytes writeChecks verdict
 escapings = (refl, refl, refl, refl, refl)
 
 -- the same of bytes: `"` with the index 5 and the u offset −1; a byte left over is 19
 pub byte-escapings : (lengths (writeAsked true (sizes 6 5) (places (34 ∷ 0 ∷ []) clusterBytes glyphBytes)) ≡ ok (record { text = 6; indices = 5 }))
     × (lengths (writeAsked true (sizes 5 5) (places (34 ∷ 0 ∷ []) clusterBytes glyphBytes)) ≡ no 20 6)
     × (lengths (writeAsked true (sizes 9 9) (places (34 ∷ 0 ∷ 0 ∷ []) clusterBytes glyphBytes)) ≡ no 19 0)
-unfolding ascii wholeClusters wholeGlyphs clustersOf glyphsOf properUnits fits soundRun sound xmlChar join joinRest trim decimalFrom decimal utf8 unitBytes unitsBytes textOf fraction valueBytes advanceBytes offsetBytes mapBytes indexBytes entryBytes entryList indicesOf writeAsked escapeByte escape evenBytes wordBytes halves words signed fromHalves fromWords writeChecks verdict
+unfolding ascii wholeClusters wholeGlyphs clustersOf glyphsOf properUnits fits soundRun sound xmlChar join joinRest trim decimalFrom decimal utf8 unitBytes unitsBytes textOf fraction valueBytes advanceBy offsetBy mapBytes indexBytes entryBy entriesBy indicesBy writeAsked escapeByte escape evenBytes wordBytes halves words signed fromHalves fromWords writeChecks verdict
 byte-escapings = (refl, refl, refl)
 
 -- 4,096 times `"` make the longest escaped text

@@ -15,7 +15,7 @@ use Rattle.label.specs.Wire.{fromHalves, fromWords}
 use Rattle.label.specs.Fetched.{halves, signed, words, evenBytes, wordBytes}
 use Rattle.label.specs.Places.{flatClusters, flatGlyphs, Places, places}
 use Rattle.label.specs.Sound.{wholeClusters, wholeGlyphs, clustersOf, glyphsOf, properUnits, allFont, fits, soundRun, sound}
-use Rattle.label.specs.Write.{utf8, unitBytes, unitsBytes, textOf, fraction, valueBytes, advanceBytes, offsetBytes, mapBytes, indexBytes, entryBytes, entryList, indicesOf}
+use Rattle.label.specs.Write.{utf8, unitBytes, unitsBytes, textOf, fraction, valueBytes, advanceBy, offsetBy, mapBytes, indexBytes, entryBy, entriesBy, indicesBy}
 use Rattle.label.specs.Pick.{stretch, holding, touched, turned, pickChecks, pickUnits, pickGlyphs}
 use Rattle.label.specs.Fault.{entryStart, portion, faultPart}
 use Rattle.label.specs.Calls.{filledCount, readChecks, readInto, counted, unitsAfter, clustersAfter, glyphsAfter, writeChecks, writeAsked, writeInto, lengths, listChecks, listInto}
@@ -111,7 +111,7 @@ pub calls-agree : (map (λ (w : Writes). writeInto (sizes 99 99) (w .run)) writi
     × (map (λ (p : Picked). pickUnits four (p .first) (p .end)) picks ≡ map (λ (p : Picked). p .units) picks)
     × (map (λ (p : Picked). pickGlyphs four (p .first) (p .end)) picks ≡ map (λ (p : Picked). p .glyphs) picks)
     × (map (λ (s : Shown). faultPart (ascii "{a") (ascii "(1:2)5;") (s .number) (s .place)) faults ≡ map (λ (s : Shown). s .shows) faults)
-unfolding writings picks faults ascii wholeClusters wholeGlyphs clustersOf glyphsOf properUnits allFont fits soundRun sound xmlChar split join joinRest trim decimalFrom decimal utf8 unitBytes unitsBytes textOf fraction valueBytes advanceBytes offsetBytes mapBytes indexBytes entryBytes entryList indicesOf writeAsked holding touched turned pickUnits pickGlyphs entryStart faultPart entries fromHalves fromWords halves words signed evenBytes wordBytes pickChecks verdict writeChecks
+unfolding writings picks faults ascii wholeClusters wholeGlyphs clustersOf glyphsOf properUnits allFont fits soundRun sound xmlChar split join joinRest trim decimalFrom decimal utf8 unitBytes unitsBytes textOf fraction valueBytes advanceBy offsetBy mapBytes indexBytes entryBy entriesBy indicesBy writeAsked holding touched turned pickUnits pickGlyphs entryStart faultPart entries fromHalves fromWords halves words signed evenBytes wordBytes pickChecks verdict writeChecks
 calls-agree = (refl, refl, refl, refl)
 
 -- an unsound run is 19 even where the stretch is bad; without units a good stretch gives 0 to 0
@@ -151,7 +151,7 @@ pub byte-writings : (lengths (writeInto (sizes 1 5) (places (65 ∷ 0 ∷ []) cl
     × (lengths (writeInto (sizes 9 9) (places (65 ∷ 0 ∷ []) (1 ∷ 0 ∷ 0 ∷ 0 ∷ 1 ∷ 0 ∷ 0 ∷ 0 ∷ 0 ∷ []) glyphBytes)) ≡ no 19 0)
     × (lengths (writeInto (sizes 9 9) (places (65 ∷ 0 ∷ []) clusterBytes
     (5 ∷ 0 ∷ 0 ∷ 0 ∷ 255 ∷ 255 ∷ 255 ∷ 255 ∷ 24 ∷ 252 ∷ 255 ∷ 255 ∷ 0 ∷ 0 ∷ 0 ∷ 0 ∷ 0 ∷ []))) ≡ no 19 0)
-unfolding ascii wholeClusters wholeGlyphs clustersOf glyphsOf properUnits fits soundRun sound xmlChar join joinRest trim decimalFrom decimal utf8 unitBytes unitsBytes textOf fraction valueBytes advanceBytes offsetBytes mapBytes indexBytes entryBytes entryList indicesOf writeAsked evenBytes wordBytes halves words signed fromHalves fromWords writeChecks verdict
+unfolding ascii wholeClusters wholeGlyphs clustersOf glyphsOf properUnits fits soundRun sound xmlChar join joinRest trim decimalFrom decimal utf8 unitBytes unitsBytes textOf fraction valueBytes advanceBy offsetBy mapBytes indexBytes entryBy entriesBy indicesBy writeAsked evenBytes wordBytes halves words signed fromHalves fromWords writeChecks verdict
 byte-writings = (refl, refl, refl, refl, refl, refl)
 
 -- `relabel`'s second line: 32,769 bytes are as for 1

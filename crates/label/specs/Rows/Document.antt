@@ -10,7 +10,7 @@ use Rattle.label.specs.Text.{table, rowFits, fitting, startsChar, moreBy
 use Rattle.label.specs.Entry.{unsigned, isDecimals, isNumber, mantissaDigits, fractionDigits, exponentDigits, nearest, scaled, thousandths, numberFits, isIndexPart, indexDigits, mapUnits, mapGlyphs, isAdvance, isOffset, wellFormed, fieldFits, indexOf, advanceOf, offsetOf, entryOf, entries}
 use Rattle.label.specs.Run.{fontGlyph, cluster, tail, walkParts, saidRun}
 use Rattle.label.specs.Checks.{textChecks, entryChecks, placeChecks, walkChecks, runChecks, labelChecks, read}
-use Rattle.label.specs.Write.{utf8, unitBytes, unitsBytes, textOf, fraction, valueBytes, advanceBytes, offsetBytes, mapBytes, indexBytes, entryBytes, entryList, indicesOf}
+use Rattle.label.specs.Write.{utf8, unitBytes, unitsBytes, textOf, fraction, valueBytes, advanceBy, offsetBy, mapBytes, indexBytes, entryBy, entriesBy, indicesBy}
 use Rattle.label.specs.Relabel.{relabelRead, relabel}
 use Rattle.label.specs.Rows.Types.{refused, said, LabelRow, labelRow, reads, glyph, advanced, one, grin, grins}
 use Rattle.label.specs.Rows.Tail.{tailRows}
@@ -91,10 +91,10 @@ standardRows =
 -- each row's label is answered as the row says
 pub labels : map (λ (r : LabelRow). said (read (r .text) (r .indices))) (documentRows ++ (standardRows ++ (tailRows ++ halfRows)))
     ≡ map (λ (r : LabelRow). r .answer) (documentRows ++ (standardRows ++ (tailRows ++ halfRows)))
-unfolding documentRows standardRows tailRows halfRows ascii split cut allDigits valueFrom joinRest join trim decimalFrom decimal table rowFits fitting startsChar moreBytes following scalar xmlChar unitsOf each pieces textChecks verdict unsigned isDecimals isNumber mantissaDigits fractionDigits exponentDigits nearest scaled thousandths numberFits isIndexPart indexDigits mapUnits mapGlyphs isAdvance isOffset wellFormed fieldFits indexOf advanceOf offsetOf entryOf entries tail entryChecks placeChecks walkChecks walkParts saidRun runChecks labelChecks read utf8 unitBytes unitsBytes textOf fraction valueBytes advanceBytes offsetBytes mapBytes indexBytes entryBytes entryList indicesOf
+unfolding documentRows standardRows tailRows halfRows ascii split cut allDigits valueFrom joinRest join trim decimalFrom decimal table rowFits fitting startsChar moreBytes following scalar xmlChar unitsOf each pieces textChecks verdict unsigned isDecimals isNumber mantissaDigits fractionDigits exponentDigits nearest scaled thousandths numberFits isIndexPart indexDigits mapUnits mapGlyphs isAdvance isOffset wellFormed fieldFits indexOf advanceOf offsetOf entryOf entries tail entryChecks placeChecks walkChecks walkParts saidRun runChecks labelChecks read utf8 unitBytes unitsBytes textOf fraction valueBytes advanceBy offsetBy mapBytes indexBytes entryBy entriesBy indicesBy
 labels = refl
 
 -- "From `{}flow` and `(2:1)192;07,+55.50,,0` it prints:"
 pub relabelled : relabel (ascii "{}flow\n(2:1)192;07,+55.50,,0\n") ≡ ascii "ok 4 3 3\nflow\n(2)192;7,55.5\n"
-unfolding relabel relabelRead ascii split cut allDigits valueFrom joinRest join trim decimalFrom decimal table rowFits fitting startsChar moreBytes following scalar xmlChar unitsOf each pieces textChecks verdict unsigned isDecimals isNumber mantissaDigits fractionDigits exponentDigits nearest scaled thousandths numberFits isIndexPart indexDigits mapUnits mapGlyphs isAdvance isOffset wellFormed fieldFits indexOf advanceOf offsetOf entryOf entries tail entryChecks placeChecks walkChecks walkParts saidRun runChecks labelChecks read utf8 unitBytes unitsBytes textOf fraction valueBytes advanceBytes offsetBytes mapBytes indexBytes entryBytes entryList indicesOf
+unfolding relabel relabelRead ascii split cut allDigits valueFrom joinRest join trim decimalFrom decimal table rowFits fitting startsChar moreBytes following scalar xmlChar unitsOf each pieces textChecks verdict unsigned isDecimals isNumber mantissaDigits fractionDigits exponentDigits nearest scaled thousandths numberFits isIndexPart indexDigits mapUnits mapGlyphs isAdvance isOffset wellFormed fieldFits indexOf advanceOf offsetOf entryOf entries tail entryChecks placeChecks walkChecks walkParts saidRun runChecks labelChecks read utf8 unitBytes unitsBytes textOf fraction valueBytes advanceBy offsetBy mapBytes indexBytes entryBy entriesBy indicesBy
 relabelled = refl
