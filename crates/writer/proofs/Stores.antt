@@ -126,7 +126,8 @@ unfolding led owing
 owes-is n at p [] e = rw (le-ltb at p (omega arith))
 owes-is n at p (a ∷ x) e = rw (lt-ltb at p (omega (arith, e, length-append (semis n) (a ∷ x))))
 
-pub entry-stored : (n : ℕ) (x : List ℕ) (ls : List (List ℕ)) {old whole l m s : List ℕ} {at p r : ℕ} → s ≡ led n x ++ owed (owing n x) ls → Left old whole l 0 at s
+pub entry-stored : (n : ℕ) (x : List ℕ) (ls : List (List ℕ)) {old whole l m s : List ℕ} {at p r : ℕ} → s ≡ led n x ++ owed (owing n x) ls
+    → Left old whole l 0 at s
     → Put l at (led n x) p m → r ≡ cond (ltb at p) 1 (n + 1) → Left old whole m 0 p (owed r ls)
 entry-stored n x ls {at = at} {p = p} e f g d =
     left-next (left-as (e ∙ ap (λ (z : ℕ). led n x ++ owed z ls) (sym (d ∙ owes-is n at p x (g .behind)))) f) g

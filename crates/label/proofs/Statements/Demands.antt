@@ -4,9 +4,9 @@ use Prim.Native.Nat.{ℕ, _+_, _*_, _≤_, _<_}
 use native.Mathlib.Omega.{arith}
 use mathlib.Core.Path.{_≡_, refl, sym, _∙_, ap, subst}
 use mathlib.Core.Logic.{_↔_}
-use mathlib.Core.Bool.{Bool, true, false}
+use mathlib.Core.Bool.{Bool, true, false, not, _||_}
 use mathlib.Core.List.{List, [], _∷_}
-use borrow.Author.Tests.{leb-true, le-leb, lt-ltb}
+use borrow.Author.Tests.{leb-true, le-leb, lt-ltb, not-false}
 use lib.Dec.{ltb, leb}
 use lib.ListN.{length, take, drop}
 use lib.Seq.{take-at}
@@ -20,12 +20,12 @@ use Rattle.label.specs.Places.{flatClusters, flatGlyphs, Places, placesO
 use Rattle.label.specs.Sound.{soundRun, runOf, sound}
 use Rattle.label.specs.Write.{Label, normal}
 use Rattle.label.specs.Pick.{touched, turned, inside, pickChecks, pickUnits, pickGlyphs}
-use Rattle.label.specs.Calls.{filled, roomOf, readChecks, readInto, askedFor, saidLabel, writeChecks, writeAsked, writeInto, outputs}
+use Rattle.label.specs.Calls.{filled, roomOf, bufferChecks, readChecks, readInto, askedFor, saidLabel, outputChecks, writeChecks, writeAsked, writeInto, outputs}
 use Rattle.label.specs.Statements.Memory.{filledAll, Kept}
 use Rattle.label.specs.Statements.Demands.{unitCounts, glyphCounts, Roomy, RoomyFor, inBytes, storedRun, buffersAfter, storedLabel, outputsAfter, Demand1, PicksWhole, Demand2, passedOn, textWritten, indicesWritten, Wrote, Passed, Demand3}
 use Rattle.label.specs.declared.Counts.{Counts}
 use Rattle.label.specs.declared.Lengths.{Lengths}
-use Rattle.label.proofs.Basics.{and-i, cases, bind-ok, need-ok, no-ok}
+use Rattle.label.proofs.Basics.{and-i, or-l, or-r, cases, bind-ok, need-ok, no-ok}
 use Rattle.label.proofs.Values.{normal-writer}
 use Rattle.label.proofs.Run.{ok-path}
 use Rattle.label.proofs.Sound.{read-sound, read-back, SoundRun, sound-parts}
@@ -60,6 +60,33 @@ into-read t i r room h =
       for-glyphs = leb-true (length (s .glyphs)) (room .glyphs) z;
     } in
     (a ∙ b18, subst (λ (q : Run). Roomy q room) (ok-path s r b18) m)
+
+-- large enough: none of 16 to 18, or of 20 and 21, holds
+large : (r : Run) (room : Counts) → Roomy r room ↔ (refuses (bufferChecks room r) ≡ false)
+unfolding refuses
+large r room =
+    let u = leb (length (r .units)) (room .units) in
+    let c = leb (length (r .clusters)) (room .clusters) in
+    let g = leb (length (r .glyphs)) (room .glyphs) in (
+      λ m. rw (le-leb _ (room .units) (m .for-units), le-leb _ (room .clusters) (m .for-clusters), le-leb _ (room .glyphs) (m .for-glyphs)),
+      λ h. record {
+        for-units = leb-true _ _ (not-false u (or-l (not u) _ h));
+        for-clusters = leb-true _ _ (not-false c (or-l (not c) (not g || false) (or-r (not u) _ h)));
+        for-glyphs = leb-true _ _ (not-false g (or-l (not g) false (or-r (not c) (not g || false) (or-r (not u) _ h))));
+      },
+    )
+
+large-outputs : (l : Label) (room : Lengths) → RoomyFor l room ↔ (refuses (outputChecks room l) ≡ false)
+unfolding refuses
+large-outputs l room =
+    let t = leb (length (l .text)) (room .text) in
+    let i = leb (length (l .indices)) (room .indices) in (
+      λ m. rw (le-leb _ (room .text) (m .for-text), le-leb _ (room .indices) (m .for-indices)),
+      λ h. record {
+        for-text = leb-true _ _ (not-false t (or-l (not t) (not i || false) h));
+        for-indices = leb-true _ _ (not-false i (or-l (not i) false (or-r (not t) (not i || false) h)));
+      },
+    )
 
 -- a sound run is written where there is room, asked or not
 write-into : (asked : Bool) (z : Places) (room : Lengths) → sound z ≡ true → RoomyFor (saidLabel asked z) room
@@ -287,6 +314,8 @@ same-passed A B oA oB wA wB txA ixA txB ixB p q =
 pub demand-3 : Demand3
 demand-3 =
     record {
+      large = large;
+      large-outputs = large-outputs;
       reads = read-into;
       no-other = λ t i r room h. into-read t i r room h .0;
       same = λ tA iA tB iB A B lA lB x y a b p q. same A B lA lB (read-sound tA iA A a) (read-sound tB iB B b)

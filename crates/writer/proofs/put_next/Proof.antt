@@ -24,13 +24,17 @@ number-at-requires-2 : tie.Need-number-at-requires-2
 number-at-requires-2 c κs = search needs
 
 add-number-at-2 : tie.Need-add-number-at-2
-add-number-at-2 c = record { fits = omega (arith, words-length (c .before .before .before .before .args .gs .now)) }
+add-number-at-2 c =
+    let at-start = c .before .before .before .before in
+    record { fits = omega (arith, words-length (at-start .args .gs .now)) }
 
 number-at-requires-3 : tie.Need-number-at-requires-3
 number-at-requires-3 c κs = search needs
 
 add-number-at-3 : tie.Need-add-number-at-3
-add-number-at-3 c = record { fits = omega (arith, words-length (c .before .before .before .before .before .args .gs .now)) }
+add-number-at-3 c =
+    let at-start = c .before .before .before .before .before in
+    record { fits = omega (arith, words-length (at-start .args .gs .now)) }
 
 number-at-requires-4 : tie.Need-number-at-requires-4
 number-at-requires-4 c κs = search needs
@@ -64,22 +68,23 @@ same-length c = search needs
 
 returns-2 : tie.Need-returns-2
 returns-2 c =
-    let at-put-semis = c .before .before .before .before .before .before in
+    let at-put-entry = c .before .before in
+    let at-put-semis = at-put-entry .before .before .before .before in
     let at-if1 = at-put-semis .before .before in
     let at-is-font = at-if1 .before in
     let at-number-at4 = at-is-font .before in
     let at-number-at3 = at-number-at4 .before in
     let at-number-at2 = at-number-at3 .before in
     let at-number-at = at-number-at2 .before in
-    let start = at-number-at .before .before .before in
-    let a = start .args in
+    let at-start = at-number-at .before .before .before in
+    let a = at-start .args in
     let g = glyph-is (words (a .gs .now)) (a .k) _ _ _ _ (at-number-at .number-at .ensures) (at-number-at2 .number-at2 .ensures)
     (at-number-at3 .number-at3 .ensures) (at-number-at4 .number-at4 .ensures) in (
       put-as (led-some (a .owed) _
           (at-is-font .is-font .ensures ∙ ap isFont g ∙ sym (empty-is-font normal-writer (a .a) (a .b) (glyphAt (words (a .gs .now)) (a .k))))
           (at-if1 .if1 .left)) (then (at-put-semis .put-semis .ensures .0)
-          (put-as (ap (entryBy valueBytes (a .a) (a .b)) g) (c .before .before .put-entry .ensures .0))),
-      omega (arith, at-put-semis .put-semis .ensures .1, c .before .before .put-entry .ensures .1),
+          (put-as (ap (entryBy valueBytes (a .a) (a .b)) g) (at-put-entry .put-entry .ensures .0))),
+      omega (arith, at-put-semis .put-semis .ensures .1, at-put-entry .put-entry .ensures .1),
     )
 
 pub put-next-spec : {M : Type 1} → statement M
