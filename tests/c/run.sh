@@ -19,7 +19,7 @@ rt staticlib glyph_label > "$out/staticlib.log" 2>&1 || {
 }
 warnings="-Wall -Wextra -Werror"
 flags="-std=c99 $warnings -O1 -g -Iinclude"
-${CC:-cc} $flags -pthread tests/c/test_calls.c "$archive" -o "$out/test_calls"
+${CC:-cc} $flags -Itests/c -pthread tests/c/*.c "$archive" -o "$out/test_calls"
 ${CC:-cc} $flags examples/plotter.c "$archive" -o "$out/plotter"
 echo '#include "glyph_label.h"' > "$out/header.c"
 ${CC:-cc} -std=c99 -pedantic $warnings -Wconversion -Iinclude -fsyntax-only "$out/header.c"
