@@ -100,6 +100,21 @@ def named(body, names):
     return lets, body
 
 
+def bare(text):
+    """The text without parentheses around all of it."""
+    text = text.strip()
+    while text.startswith('(') and text.endswith(')'):
+        depth = 0
+        for k, char in enumerate(text):
+            depth += (char == '(') - (char == ')')
+            if depth == 0:
+                break
+        if k < len(text) - 1:
+            break
+        text = text[1:-1].strip()
+    return text
+
+
 def far(text):
     most = max([m.group(1).count('.before') for m in re.finditer(PLACE % r'[\w\-]+', text)] + [0])
     return most >= FAR or any(len(line) > WIDTH for line in text.split('\n'))
@@ -135,7 +150,7 @@ def rewrite(block, records, needs):
     if place and not need and split and far(kind):
         made = named(kind[split.end():].strip(), places)
         if made and made[0]:
-            kind = kind[:split.start()] + ')\n    → (' + '\n    '.join(made[0]) + '\n    ' + made[1].strip() + ')\n'
+            kind = kind[:split.start()] + ')\n    → (' + '\n    '.join(made[0]) + '\n    ' + bare(made[1]) + ')\n'
     return kind + block[start.start():start.end()] + (body if lets else block[start.end():])
 
 
