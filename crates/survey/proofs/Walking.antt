@@ -96,9 +96,9 @@ module _ (us s : List ℕ) (b : ℕ) (c : Cursor) (ec : c ≡ firstCursor s b) w
       go [] h = record { few-units = f; few-bytes = h; number = omega arith; place = omega arith; some = omega arith; inside = omega arith }
       go (x ∷ s) h = record { few-units = f; few-bytes = h; number = omega arith; place = omega arith; some = omega arith; inside = omega arith }
 
-  pub at-start : (text : List ℕ) → decode 0 b (drop b text) ≡ ok us → At text us c
+  pub stands-at-start : (text : List ℕ) → decode 0 b (drop b text) ≡ ok us → At text us c
   unfolding At
-  at-start text h = subst (λ (y : Cursor). decode 0 (y .byte) (drop (y .byte) text) ≡ ok (drop (y .unit) us)) (sym ec) h
+  stands-at-start text h = subst (λ (y : Cursor). decode 0 (y .byte) (drop (y .byte) text) ≡ ok (drop (y .unit) us)) (sym ec) h
 
 -- the two counts of what is lacking agree on whether a cluster is open
 same-open : (k lack lack′ : ℕ) → k < cap → min (k + lack) cap ≡ min (k + lack′) cap → eqb lack 0 ≡ eqb lack′ 0

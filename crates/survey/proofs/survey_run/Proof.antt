@@ -9,7 +9,7 @@ use Rattle.label.specs.Requests.RoundedCount.{beside}
 use Rattle.text.specs.Moves.{unitsFrom}
 use Rattle.survey.proofs.Endings.{nothing-is, run-nothing, run-stop, run-tail, refused-outcome}
 use Rattle.survey.proofs.Surveying.{Underway, surveyed-on, rounding-start, rounding-few, rounding-end, none-rounded}
-use Rattle.survey.proofs.Walking.{nothing, stands-start, ready-start, at-start, at-decodes, at-length, code-stopped, ends-open}
+use Rattle.survey.proofs.Walking.{nothing, stands-start, ready-start, stands-at-start, at-decodes, at-length, code-stopped, ends-open}
 use Rattle.survey.proofs.survey_run.Statement.{statement}
 use Rattle.survey.proofs.survey_run.Tie as tie
 
@@ -53,7 +53,7 @@ loop-holds c =
       lack = 0;
       stands = stands-start us s _ _ e;
       ready = ready-start us s _ _ e (omega (arith, at-start .pre .1 .0, at-start .pre .1 .1)) (at-start .pre .1 .2);
-      at = at-start us s _ _ e _ (at-start .pre .0);
+      at = stands-at-start us s _ _ e _ (at-start .pre .0);
       some = sym (nothing-is us s _ _ (at-both .both .ensures) (at-start .pre .1 .0)) ∙ at-if1 .if1 .left;
       rounds = rounding-start s _ _ e;
     }
