@@ -88,7 +88,7 @@ class Rows:
     def unfolding(self, theorem):
         """The definitions that the proof of a theorem of this folder unfolds, without lists of rows."""
         for text in self.files.values():
-            found = re.search(rf'^pub {theorem} :[^\n]*\n(?:    [^\n]*\n)*unfolding ([^\n]*)\n', text, re.M)
+            found = re.search(rf'^pub {theorem} :[^\n]*\n(?:    [^\n]*\n)*unfolding ([^\n]*(?:\n    [^\n]*)*)\n', text, re.M)
             if found:
                 return [name for name in found.group(1).split() if not name.endswith('Rows')]
         sys.exit(f'definitions: no theorem {theorem} in {self.folder}')

@@ -87,7 +87,8 @@ escapeRows =
 
 -- each row's raw value resolves to what the row says
 pub raw-values : map (λ (r : RawRow). resolve (r .raw)) rawRows ≡ map (λ (r : RawRow). r .answer) rawRows
-unfolding rawRows ascii cut sameBytes predefined digitValue allOf valueBehind numbered referred body isClosed isReference isGood spaced gives further resolveFrom xmlChar utf8 each pieces verdict
+unfolding rawRows ascii cut sameBytes predefined digitValue allOf valueBehind numbered referred body isClosed isReference isGood spaced gives further
+    resolveFrom xmlChar utf8 each pieces verdict
 raw-values = refl
 
 -- each row's bytes are escaped as the row says
@@ -102,14 +103,19 @@ pub raw-readings : (readRaw (record { text = 9; indices = 9 }) (ascii "&#123;a")
     × (readRaw (record { text = 9; indices = 9 }) (ascii "a<") (ascii "<") ≡ no 23 1)
     × (readRaw (record { text = 1; indices = 9 }) (ascii "ab") (ascii "<") ≡ no 24 2)
     × (readRaw (record { text = 9; indices = 0 }) (0xff ∷ []) (ascii "5") ≡ no 24 1)
-unfolding readRaw resolveInto ascii split cut allDigits valueFrom sameBytes predefined digitValue allOf valueBehind numbered referred body isClosed isReference isGood spaced gives further resolveFrom utf8 table rowFits fitting startsChar moreBytes following scalar xmlChar unitsOf each pieces textChecks verdict unsigned isDecimals isNumber mantissaDigits fractionDigits exponentDigits nearest scaled thousandths numberFits isIndexPart indexDigits mapUnits mapGlyphs isAdvance isOffset wellFormed fieldFits indexOf advanceOf offsetOf entryOf entries tail entryChecks placeChecks walkChecks walkParts saidRun runChecks labelChecks read resolveChecks rawLabelChecks
+unfolding readRaw resolveInto ascii split cut allDigits valueFrom sameBytes predefined digitValue allOf valueBehind numbered referred body isClosed isReference
+    isGood spaced gives further resolveFrom utf8 table rowFits fitting startsChar moreBytes following scalar xmlChar unitsOf each pieces textChecks verdict
+    unsigned isDecimals isNumber mantissaDigits fractionDigits exponentDigits nearest scaled thousandths numberFits isIndexPart indexDigits mapUnits mapGlyphs
+    isAdvance isOffset wellFormed fieldFits indexOf advanceOf offsetOf entryOf entries tail entryChecks placeChecks walkChecks walkParts saidRun runChecks
+    labelChecks read resolveChecks rawLabelChecks
 raw-readings = (refl, refl, refl, refl, refl, refl)
 
 -- resolving into a buffer: exact room, a byte too few, 23 before 24; bytes behind stay, and a refusal changes nothing
 pub resolvings : (filledCount (resolveInto 2 (ascii "&lt;a")) ≡ ok 2) × (filledCount (resolveInto 1 (ascii "&lt;a")) ≡ no 24 2)
     × (filledCount (resolveInto 0 (ascii "aaa<")) ≡ no 23 3) × (filledAfter (resolveInto 3 (ascii "&lt;a")) (7 ∷ 8 ∷ 9 ∷ []) ≡ 60 ∷ 97 ∷ 9 ∷ [])
     × (filledAfter (resolveInto 1 (ascii "&lt;a")) (7 ∷ []) ≡ 7 ∷ [])
-unfolding ascii cut sameBytes predefined digitValue allOf valueBehind numbered referred body isClosed isReference isGood spaced gives further resolveFrom resolveInto xmlChar utf8 resolveChecks each pieces verdict
+unfolding ascii cut sameBytes predefined digitValue allOf valueBehind numbered referred body isClosed isReference isGood spaced gives further resolveFrom
+    resolveInto xmlChar utf8 resolveChecks each pieces verdict
 resolvings = (refl, refl, refl, refl, refl)
 
 -- the units `{`, `"` and tab in clusters 1:1, the first with the index 5, written escaped: "counted in 20 and 21"; 19 comes first
@@ -121,14 +127,18 @@ pub escapings : (writeAsked true (sizes 13 1) quoted ≡ label (ascii "{}{&quot;
     × (lengths (writeAsked true (sizes 13 0) quoted) ≡ no 21 1)
     × (lengths (writeAsked true (sizes 0 0) (places (quoted .units) [] (quoted .glyphs))) ≡ no 19 0)
     × (writeAsked false (sizes 5 1) quoted ≡ label (123 ∷ 125 ∷ 123 ∷ 34 ∷ 9 ∷ []) (ascii "5"))
-unfolding ascii wholeClusters wholeGlyphs clustersOf glyphsOf properUnits fits soundRun sound xmlChar join joinRest trim decimalFrom decimal utf8 unitBytes unitsBytes textOf fraction valueBytes advanceBy offsetBy mapBytes indexBytes entryBy entriesBy indicesBy writeAsked escapeByte escape fromHalves fromWords halves words signed evenBytes wordBytes writeChecks verdict
+unfolding ascii wholeClusters wholeGlyphs clustersOf glyphsOf properUnits fits soundRun sound xmlChar join joinRest trim decimalFrom decimal utf8 unitBytes
+    unitsBytes textOf fraction valueBytes advanceBy offsetBy mapBytes indexBytes entryBy entriesBy indicesBy writeAsked escapeByte escape fromHalves fromWords
+    halves words signed evenBytes wordBytes writeChecks verdict
 escapings = (refl, refl, refl, refl, refl)
 
 -- the same of bytes: `"` with the index 5 and the u offset −1; a byte left over is 19
 pub byte-escapings : (lengths (writeAsked true (sizes 6 5) (places (34 ∷ 0 ∷ []) clusterBytes glyphBytes)) ≡ ok (record { text = 6; indices = 5 }))
     × (lengths (writeAsked true (sizes 5 5) (places (34 ∷ 0 ∷ []) clusterBytes glyphBytes)) ≡ no 20 6)
     × (lengths (writeAsked true (sizes 9 9) (places (34 ∷ 0 ∷ 0 ∷ []) clusterBytes glyphBytes)) ≡ no 19 0)
-unfolding ascii wholeClusters wholeGlyphs clustersOf glyphsOf properUnits fits soundRun sound xmlChar join joinRest trim decimalFrom decimal utf8 unitBytes unitsBytes textOf fraction valueBytes advanceBy offsetBy mapBytes indexBytes entryBy entriesBy indicesBy writeAsked escapeByte escape evenBytes wordBytes halves words signed fromHalves fromWords writeChecks verdict
+unfolding ascii wholeClusters wholeGlyphs clustersOf glyphsOf properUnits fits soundRun sound xmlChar join joinRest trim decimalFrom decimal utf8 unitBytes
+    unitsBytes textOf fraction valueBytes advanceBy offsetBy mapBytes indexBytes entryBy entriesBy indicesBy writeAsked escapeByte escape evenBytes wordBytes
+    halves words signed fromHalves fromWords writeChecks verdict
 byte-escapings = (refl, refl, refl)
 
 -- 4,096 times `"` make the longest escaped text

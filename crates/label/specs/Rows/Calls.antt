@@ -111,7 +111,10 @@ pub calls-agree : (map (λ (w : Writes). writeInto (sizes 99 99) (w .run)) writi
     × (map (λ (p : Picked). pickUnits four (p .first) (p .end)) picks ≡ map (λ (p : Picked). p .units) picks)
     × (map (λ (p : Picked). pickGlyphs four (p .first) (p .end)) picks ≡ map (λ (p : Picked). p .glyphs) picks)
     × (map (λ (s : Shown). faultPart (ascii "{a") (ascii "(1:2)5;") (s .number) (s .place)) faults ≡ map (λ (s : Shown). s .shows) faults)
-unfolding writings picks faults ascii wholeClusters wholeGlyphs clustersOf glyphsOf properUnits allFont fits soundRun sound xmlChar split join joinRest trim decimalFrom decimal utf8 unitBytes unitsBytes textOf fraction valueBytes advanceBy offsetBy mapBytes indexBytes entryBy entriesBy indicesBy writeAsked holding touched turned pickUnits pickGlyphs entryStart faultPart entries fromHalves fromWords halves words signed evenBytes wordBytes pickChecks verdict writeChecks
+unfolding writings picks faults ascii wholeClusters wholeGlyphs clustersOf glyphsOf properUnits allFont fits soundRun sound xmlChar split join joinRest trim
+    decimalFrom decimal utf8 unitBytes unitsBytes textOf fraction valueBytes advanceBy offsetBy mapBytes indexBytes entryBy entriesBy indicesBy writeAsked
+    holding touched turned pickUnits pickGlyphs entryStart faultPart entries fromHalves fromWords halves words signed evenBytes wordBytes pickChecks verdict
+    writeChecks
 calls-agree = (refl, refl, refl, refl)
 
 -- an unsound run is 19 even where the stretch is bad; without units a good stretch gives 0 to 0
@@ -120,7 +123,8 @@ pub edge-picks : (pickUnits (handed (ascii "A") [] []) 1 1 ≡ no 19 0) × (pick
     -- a pair of the tail is picked whole
     × (pickUnits (handed (65 ∷ pair) (pos 1 ∷ pos 1 ∷ pos 2 ∷ pos 1 ∷ []) (plain 5 (font []))) 1 2 ≡ ok (stretch 1 3))
     × (pickGlyphs (handed (65 ∷ pair) (pos 1 ∷ pos 1 ∷ pos 2 ∷ pos 1 ∷ []) (plain 5 (font []))) 2 3 ≡ ok (stretch 1 2))
-unfolding ascii wholeClusters wholeGlyphs clustersOf glyphsOf properUnits allFont fits soundRun sound xmlChar holding touched turned pickUnits pickGlyphs fromHalves fromWords halves words signed evenBytes wordBytes pickChecks verdict
+unfolding ascii wholeClusters wholeGlyphs clustersOf glyphsOf properUnits allFont fits soundRun sound xmlChar holding touched turned pickUnits pickGlyphs
+    fromHalves fromWords halves words signed evenBytes wordBytes pickChecks verdict
 edge-picks = (refl, refl, refl, refl, refl)
 
 -- the list of records: 19, then 18 with the glyphs needed, then the count
@@ -129,7 +133,8 @@ pub listings : (filledCount (listInto 5 four) ≡ ok 5) × (filledCount (listInt
     -- a pair of the tail has one record; before a named glyph it is 19
     × (listInto 1 (handed pair (pos 2 ∷ pos 1 ∷ []) (font [])) ≡ ok (fontGlyph ∷ []))
     × (filledCount (listInto 2 (handed (pair ++ (65 ∷ [])) (pos 2 ∷ pos 1 ∷ pos 1 ∷ pos 1 ∷ []) (font (plain 5 [])))) ≡ no 19 0)
-unfolding ascii wholeClusters wholeGlyphs clustersOf glyphsOf properUnits allFont fits soundRun sound xmlChar listInto fromHalves fromWords halves words signed evenBytes wordBytes listChecks verdict
+unfolding ascii wholeClusters wholeGlyphs clustersOf glyphsOf properUnits allFont fits soundRun sound xmlChar listInto fromHalves fromWords halves words signed
+    evenBytes wordBytes listChecks verdict
 listings = (refl, refl, refl, refl, refl)
 
 -- the label `A` with `5,,-1`: a byte too few is 16, 17 or 18; bytes left over and bytes behind stay
@@ -141,7 +146,10 @@ pub byte-readings : (counted (readInto (buffers 1 8 16) (ascii "A") (ascii "5,,-
     × (clustersAfter (readInto (buffers 3 8 17) (ascii "A") (ascii "5,,-1")) (replicate 8 7) ≡ 1 ∷ 0 ∷ 0 ∷ 0 ∷ 1 ∷ 0 ∷ 0 ∷ 0 ∷ [])
     × (glyphsAfter (readInto (buffers 3 8 17) (ascii "A") (ascii "5,,-1")) (replicate 17 7)
     ≡ 5 ∷ 0 ∷ 0 ∷ 0 ∷ 255 ∷ 255 ∷ 255 ∷ 255 ∷ 24 ∷ 252 ∷ 255 ∷ 255 ∷ 0 ∷ 0 ∷ 0 ∷ 0 ∷ 7 ∷ [])
-unfolding ascii split cut allDigits valueFrom joinRest join trim decimalFrom decimal table rowFits fitting startsChar moreBytes following scalar xmlChar unitsOf each pieces textChecks verdict unsigned isDecimals isNumber mantissaDigits fractionDigits exponentDigits nearest scaled thousandths numberFits isIndexPart indexDigits mapUnits mapGlyphs isAdvance isOffset wellFormed fieldFits indexOf advanceOf offsetOf entryOf entries tail entryChecks placeChecks walkChecks walkParts saidRun runChecks labelChecks read readInto flatClusters flatGlyphs fromHalves fromWords readChecks
+unfolding ascii split cut allDigits valueFrom joinRest join trim decimalFrom decimal table rowFits fitting startsChar moreBytes following scalar xmlChar unitsOf
+    each pieces textChecks verdict unsigned isDecimals isNumber mantissaDigits fractionDigits exponentDigits nearest scaled thousandths numberFits isIndexPart
+    indexDigits mapUnits mapGlyphs isAdvance isOffset wellFormed fieldFits indexOf advanceOf offsetOf entryOf entries tail entryChecks placeChecks walkChecks
+    walkParts saidRun runChecks labelChecks read readInto flatClusters flatGlyphs fromHalves fromWords readChecks
 byte-readings = (refl, refl, refl, refl, refl, refl, refl)
 
 pub byte-writings : (lengths (writeInto (sizes 1 5) (places (65 ∷ 0 ∷ []) clusterBytes glyphBytes)) ≡ ok (record { text = 1; indices = 5 }))
@@ -151,7 +159,9 @@ pub byte-writings : (lengths (writeInto (sizes 1 5) (places (65 ∷ 0 ∷ []) cl
     × (lengths (writeInto (sizes 9 9) (places (65 ∷ 0 ∷ []) (1 ∷ 0 ∷ 0 ∷ 0 ∷ 1 ∷ 0 ∷ 0 ∷ 0 ∷ 0 ∷ []) glyphBytes)) ≡ no 19 0)
     × (lengths (writeInto (sizes 9 9) (places (65 ∷ 0 ∷ []) clusterBytes
     (5 ∷ 0 ∷ 0 ∷ 0 ∷ 255 ∷ 255 ∷ 255 ∷ 255 ∷ 24 ∷ 252 ∷ 255 ∷ 255 ∷ 0 ∷ 0 ∷ 0 ∷ 0 ∷ 0 ∷ []))) ≡ no 19 0)
-unfolding ascii wholeClusters wholeGlyphs clustersOf glyphsOf properUnits fits soundRun sound xmlChar join joinRest trim decimalFrom decimal utf8 unitBytes unitsBytes textOf fraction valueBytes advanceBy offsetBy mapBytes indexBytes entryBy entriesBy indicesBy writeAsked evenBytes wordBytes halves words signed fromHalves fromWords writeChecks verdict
+unfolding ascii wholeClusters wholeGlyphs clustersOf glyphsOf properUnits fits soundRun sound xmlChar join joinRest trim decimalFrom decimal utf8 unitBytes
+    unitsBytes textOf fraction valueBytes advanceBy offsetBy mapBytes indexBytes entryBy entriesBy indicesBy writeAsked evenBytes wordBytes halves words signed
+    fromHalves fromWords writeChecks verdict
 byte-writings = (refl, refl, refl, refl, refl, refl)
 
 -- `relabel`'s second line: 32,769 bytes are as for 1

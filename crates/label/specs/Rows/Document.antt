@@ -91,10 +91,18 @@ standardRows =
 -- each row's label is answered as the row says
 pub labels : map (λ (r : LabelRow). said (read (r .text) (r .indices))) (documentRows ++ (standardRows ++ (tailRows ++ halfRows)))
     ≡ map (λ (r : LabelRow). r .answer) (documentRows ++ (standardRows ++ (tailRows ++ halfRows)))
-unfolding documentRows standardRows tailRows halfRows ascii split cut allDigits valueFrom joinRest join trim decimalFrom decimal table rowFits fitting startsChar moreBytes following scalar xmlChar unitsOf each pieces textChecks verdict unsigned isDecimals isNumber mantissaDigits fractionDigits exponentDigits nearest scaled thousandths numberFits isIndexPart indexDigits mapUnits mapGlyphs isAdvance isOffset wellFormed fieldFits indexOf advanceOf offsetOf entryOf entries tail entryChecks placeChecks walkChecks walkParts saidRun runChecks labelChecks read utf8 unitBytes unitsBytes textOf fraction valueBytes advanceBy offsetBy mapBytes indexBytes entryBy entriesBy indicesBy
+unfolding documentRows standardRows tailRows halfRows ascii split cut allDigits valueFrom joinRest join trim decimalFrom decimal table rowFits fitting
+    startsChar moreBytes following scalar xmlChar unitsOf each pieces textChecks verdict unsigned isDecimals isNumber mantissaDigits fractionDigits
+    exponentDigits nearest scaled thousandths numberFits isIndexPart indexDigits mapUnits mapGlyphs isAdvance isOffset wellFormed fieldFits indexOf advanceOf
+    offsetOf entryOf entries tail entryChecks placeChecks walkChecks walkParts saidRun runChecks labelChecks read utf8 unitBytes unitsBytes textOf fraction
+    valueBytes advanceBy offsetBy mapBytes indexBytes entryBy entriesBy indicesBy
 labels = refl
 
 -- "From `{}flow` and `(2:1)192;07,+55.50,,0` it prints:"
 pub relabelled : relabel (ascii "{}flow\n(2:1)192;07,+55.50,,0\n") ≡ ascii "ok 4 3 3\nflow\n(2)192;7,55.5\n"
-unfolding relabel relabelRead ascii split cut allDigits valueFrom joinRest join trim decimalFrom decimal table rowFits fitting startsChar moreBytes following scalar xmlChar unitsOf each pieces textChecks verdict unsigned isDecimals isNumber mantissaDigits fractionDigits exponentDigits nearest scaled thousandths numberFits isIndexPart indexDigits mapUnits mapGlyphs isAdvance isOffset wellFormed fieldFits indexOf advanceOf offsetOf entryOf entries tail entryChecks placeChecks walkChecks walkParts saidRun runChecks labelChecks read utf8 unitBytes unitsBytes textOf fraction valueBytes advanceBy offsetBy mapBytes indexBytes entryBy entriesBy indicesBy
+unfolding relabel relabelRead ascii split cut allDigits valueFrom joinRest join trim decimalFrom decimal table rowFits fitting startsChar moreBytes following
+    scalar xmlChar unitsOf each pieces textChecks verdict unsigned isDecimals isNumber mantissaDigits fractionDigits exponentDigits nearest scaled thousandths
+    numberFits isIndexPart indexDigits mapUnits mapGlyphs isAdvance isOffset wellFormed fieldFits indexOf advanceOf offsetOf entryOf entries tail entryChecks
+    placeChecks walkChecks walkParts saidRun runChecks labelChecks read utf8 unitBytes unitsBytes textOf fraction valueBytes advanceBy offsetBy mapBytes
+    indexBytes entryBy entriesBy indicesBy
 relabelled = refl

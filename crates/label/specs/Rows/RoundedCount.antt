@@ -41,12 +41,18 @@ roundedRows =
 -- each row's label has the count that the row says
 pub rounded-labels : map (λ (r : RoundedRow). beside (rounded (r .indices)) (read (r .text) (r .indices))) roundedRows
     ≡ map (λ (r : RoundedRow). r .count) roundedRows
-unfolding roundedRows isWhole isExact roundedField roundedEntry roundedEntries rounded ascii split cut allDigits valueFrom table rowFits fitting startsChar moreBytes following scalar xmlChar unitsOf each pieces textChecks verdict unsigned isDecimals isNumber mantissaDigits fractionDigits exponentDigits nearest scaled thousandths numberFits isIndexPart indexDigits mapUnits mapGlyphs isAdvance isOffset wellFormed fieldFits indexOf advanceOf offsetOf entryOf entries tail entryChecks placeChecks walkChecks walkParts saidRun runChecks labelChecks read
+unfolding roundedRows isWhole isExact roundedField roundedEntry roundedEntries rounded ascii split cut allDigits valueFrom table rowFits fitting startsChar
+    moreBytes following scalar xmlChar unitsOf each pieces textChecks verdict unsigned isDecimals isNumber mantissaDigits fractionDigits exponentDigits nearest
+    scaled thousandths numberFits isIndexPart indexDigits mapUnits mapGlyphs isAdvance isOffset wellFormed fieldFits indexOf advanceOf offsetOf entryOf entries
+    tail entryChecks placeChecks walkChecks walkParts saidRun runChecks labelChecks read
 rounded-labels = refl
 
 -- "no part of the run, so two clients' runs compare as before": these two, with the counts 1 and 0, are one run
 pub same-run : read (ascii "A") (ascii "5,.0006") ≡ read (ascii "A") (ascii "5,.001")
-unfolding ascii split cut allDigits valueFrom table rowFits fitting startsChar moreBytes following scalar xmlChar unitsOf each pieces textChecks verdict unsigned isDecimals isNumber mantissaDigits fractionDigits exponentDigits nearest scaled thousandths numberFits isIndexPart indexDigits mapUnits mapGlyphs isAdvance isOffset wellFormed fieldFits indexOf advanceOf offsetOf entryOf entries tail entryChecks placeChecks walkChecks walkParts saidRun runChecks labelChecks read
+unfolding ascii split cut allDigits valueFrom table rowFits fitting startsChar moreBytes following scalar xmlChar unitsOf each pieces textChecks verdict
+    unsigned isDecimals isNumber mantissaDigits fractionDigits exponentDigits nearest scaled thousandths numberFits isIndexPart indexDigits mapUnits mapGlyphs
+    isAdvance isOffset wellFormed fieldFits indexOf advanceOf offsetOf entryOf entries tail entryChecks placeChecks walkChecks walkParts saidRun runChecks
+    labelChecks read
 same-run = refl
 
 -- the count of rounded fields beside `A` with `5,.0005`, "a refusal as 0" for 16, 17 and 18 too
@@ -56,5 +62,8 @@ finer = ascii "5,.0005"
 pub byte-counts : (beside (rounded finer) (readInto (buffers 1 8 16) (ascii "A") finer) ≡ 0)
     × (beside (rounded finer) (readInto (buffers 2 7 16) (ascii "A") finer) ≡ 0)
     × (beside (rounded finer) (readInto (buffers 2 8 15) (ascii "A") finer) ≡ 0) × (beside (rounded finer) (readInto (buffers 2 8 16) (ascii "A") finer) ≡ 1)
-unfolding ascii split cut allDigits valueFrom table rowFits fitting startsChar moreBytes following scalar xmlChar unitsOf each pieces textChecks verdict unsigned isDecimals isNumber mantissaDigits fractionDigits exponentDigits nearest scaled thousandths numberFits isIndexPart indexDigits mapUnits mapGlyphs isAdvance isOffset wellFormed fieldFits indexOf advanceOf offsetOf entryOf entries isWhole isExact roundedField roundedEntry roundedEntries rounded tail entryChecks placeChecks walkChecks walkParts saidRun runChecks labelChecks read readInto readChecks
+unfolding ascii split cut allDigits valueFrom table rowFits fitting startsChar moreBytes following scalar xmlChar unitsOf each pieces textChecks verdict
+    unsigned isDecimals isNumber mantissaDigits fractionDigits exponentDigits nearest scaled thousandths numberFits isIndexPart indexDigits mapUnits mapGlyphs
+    isAdvance isOffset wellFormed fieldFits indexOf advanceOf offsetOf entryOf entries isWhole isExact roundedField roundedEntry roundedEntries rounded tail
+    entryChecks placeChecks walkChecks walkParts saidRun runChecks labelChecks read readInto readChecks
 byte-counts = (refl, refl, refl, refl)

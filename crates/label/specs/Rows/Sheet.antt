@@ -84,7 +84,11 @@ sheetRows =
 
 -- each row's file is answered as the row says
 pub sheets : map (λ (r : SheetRow). sheetInto (r .room) (r .file)) sheetRows ≡ map (λ (r : SheetRow). r .answer) sheetRows
-unfolding sheetRows header fromHalves textLength indicesLength recordLength isRecord recordLabel labelsOf answers sheetInto begins ascii split cut allDigits valueFrom table rowFits fitting startsChar moreBytes following scalar xmlChar unitsOf each pieces textChecks verdict unsigned isDecimals isNumber mantissaDigits fractionDigits exponentDigits nearest scaled thousandths numberFits isIndexPart indexDigits mapUnits mapGlyphs isAdvance isOffset wellFormed fieldFits indexOf advanceOf offsetOf entryOf entries tail entryChecks placeChecks walkChecks walkParts saidRun runChecks labelChecks read eachNumbered sheetChecks
+unfolding sheetRows header fromHalves textLength indicesLength recordLength isRecord recordLabel labelsOf answers sheetInto begins ascii split cut allDigits
+    valueFrom table rowFits fitting startsChar moreBytes following scalar xmlChar unitsOf each pieces textChecks verdict unsigned isDecimals isNumber
+    mantissaDigits fractionDigits exponentDigits nearest scaled thousandths numberFits isIndexPart indexDigits mapUnits mapGlyphs isAdvance isOffset wellFormed
+    fieldFits indexOf advanceOf offsetOf entryOf entries tail entryChecks placeChecks walkChecks walkParts saidRun runChecks labelChecks read eachNumbered
+    sheetChecks
 sheets = refl
 
 -- a list of labels to bytes, "low byte first": `A` with `5` and a label without bytes; the lengths 258 and 515
@@ -102,5 +106,9 @@ far = 83 ∷ 76 ∷ 66 ∷ 1 ∷ 0 ∷ 0 ∷ 0 ∷ 0 ∷ 0 ∷ 0 ∷ 0 ∷ 45 �
 pub sheet-bytes : (filledCount (sheetInto 4 far) ≡ ok 4) × (filledCount (sheetInto 3 far) ≡ no 27 2)
     × (numbersAfter (sheetInto (21 / 4) far) (replicate 21 7) ≡ 6 ∷ 0 ∷ 0 ∷ 0 ∷ 0 ∷ 0 ∷ 0 ∷ 0 ∷ 2 ∷ 0 ∷ 0 ∷ 0 ∷ 44 ∷ 1 ∷ 0 ∷ 0 ∷ replicate 5 7)
     × (numbersAfter (sheetInto (15 / 4) far) (replicate 15 7) ≡ replicate 15 7)
-unfolding header fromHalves fromWords textLength indicesLength recordLength isRecord recordLabel labelsOf answers sheetInto begins ascii split cut allDigits valueFrom table rowFits fitting startsChar moreBytes following scalar xmlChar unitsOf each pieces textChecks verdict unsigned isDecimals isNumber mantissaDigits fractionDigits exponentDigits nearest scaled thousandths numberFits isIndexPart indexDigits mapUnits mapGlyphs isAdvance isOffset wellFormed fieldFits indexOf advanceOf offsetOf entryOf entries tail entryChecks placeChecks walkChecks walkParts saidRun runChecks labelChecks read sheetChecks eachNumbered
+unfolding header fromHalves fromWords textLength indicesLength recordLength isRecord recordLabel labelsOf answers sheetInto begins ascii split cut allDigits
+    valueFrom table rowFits fitting startsChar moreBytes following scalar xmlChar unitsOf each pieces textChecks verdict unsigned isDecimals isNumber
+    mantissaDigits fractionDigits exponentDigits nearest scaled thousandths numberFits isIndexPart indexDigits mapUnits mapGlyphs isAdvance isOffset wellFormed
+    fieldFits indexOf advanceOf offsetOf entryOf entries tail entryChecks placeChecks walkChecks walkParts saidRun runChecks labelChecks read sheetChecks
+    eachNumbered
 sheet-bytes = (refl, refl, refl, refl)

@@ -64,17 +64,25 @@ pub byte-tails : (counted (readInto (buffers 4 8 16) grin []) ≡ ok (record { u
     × (counted (readInto (buffers 4 7 16) grin []) ≡ no 17 1) × (counted (readInto (buffers 4 8 15) grin []) ≡ no 18 1)
     × (clustersAfter (readInto (buffers 4 9 17) grin []) (replicate 9 7) ≡ 2 ∷ 0 ∷ 0 ∷ 0 ∷ 1 ∷ 0 ∷ 0 ∷ 0 ∷ 7 ∷ [])
     × (glyphsAfter (readInto (buffers 4 9 17) grin []) (replicate 17 7) ≡ replicate 8 255 ++ (replicate 8 0 ++ (7 ∷ [])))
-unfolding table rowFits fitting startsChar moreBytes following scalar xmlChar unitsOf each pieces textChecks verdict entries tail entryChecks placeChecks walkChecks walkParts saidRun runChecks labelChecks read readInto flatClusters flatGlyphs fromHalves fromWords readChecks
+unfolding table rowFits fitting startsChar moreBytes following scalar xmlChar unitsOf each pieces textChecks verdict entries tail entryChecks placeChecks
+    walkChecks walkParts saidRun runChecks labelChecks read readInto flatClusters flatGlyphs fromHalves fromWords readChecks
 byte-tails = (refl, refl, refl, refl, refl, refl)
 
 -- 15 counts a pair of the tail once
 pub tail-limit : (counted (readInto (buffers 8192 32768 65536) (replicate 4094 65 ++ grin) (ascii "(1:2)5;6"))
     ≡ ok (record { units = 4096; clusters = 4095; glyphs = 4096 }))
     × (counted (readInto (buffers 8192 32768 65536) (replicate 4094 65 ++ grin) (ascii "(1:3)5;6;7")) ≡ no 15 0)
-unfolding ascii split cut allDigits valueFrom table rowFits fitting startsChar moreBytes following scalar xmlChar unitsOf each pieces textChecks verdict unsigned isDecimals isNumber mantissaDigits fractionDigits exponentDigits nearest scaled thousandths numberFits isIndexPart indexDigits mapUnits mapGlyphs isAdvance isOffset wellFormed fieldFits indexOf advanceOf offsetOf entryOf entries tail entryChecks placeChecks walkChecks walkParts saidRun runChecks labelChecks read readInto readChecks
+unfolding ascii split cut allDigits valueFrom table rowFits fitting startsChar moreBytes following scalar xmlChar unitsOf each pieces textChecks verdict
+    unsigned isDecimals isNumber mantissaDigits fractionDigits exponentDigits nearest scaled thousandths numberFits isIndexPart indexDigits mapUnits mapGlyphs
+    isAdvance isOffset wellFormed fieldFits indexOf advanceOf offsetOf entryOf entries tail entryChecks placeChecks walkChecks walkParts saidRun runChecks
+    labelChecks read readInto readChecks
 tail-limit = (refl, refl)
 
 -- a pair that is left to the font: 2 units, 1 cluster, 1 glyph, no indices
 pub relabelled-pair : relabel (grin ++ (10 ∷ [])) ≡ ascii "ok 2 1 1\n" ++ (grin ++ ascii "\n\n")
-unfolding relabel relabelRead ascii split cut allDigits valueFrom joinRest join trim decimalFrom decimal table rowFits fitting startsChar moreBytes following scalar xmlChar unitsOf each pieces textChecks verdict unsigned isDecimals isNumber mantissaDigits fractionDigits exponentDigits nearest scaled thousandths numberFits isIndexPart indexDigits mapUnits mapGlyphs isAdvance isOffset wellFormed fieldFits indexOf advanceOf offsetOf entryOf entries tail entryChecks placeChecks walkChecks walkParts saidRun runChecks labelChecks read utf8 unitBytes unitsBytes textOf fraction valueBytes advanceBy offsetBy mapBytes indexBytes entryBy entriesBy indicesBy
+unfolding relabel relabelRead ascii split cut allDigits valueFrom joinRest join trim decimalFrom decimal table rowFits fitting startsChar moreBytes following
+    scalar xmlChar unitsOf each pieces textChecks verdict unsigned isDecimals isNumber mantissaDigits fractionDigits exponentDigits nearest scaled thousandths
+    numberFits isIndexPart indexDigits mapUnits mapGlyphs isAdvance isOffset wellFormed fieldFits indexOf advanceOf offsetOf entryOf entries tail entryChecks
+    placeChecks walkChecks walkParts saidRun runChecks labelChecks read utf8 unitBytes unitsBytes textOf fraction valueBytes advanceBy offsetBy mapBytes
+    indexBytes entryBy entriesBy indicesBy
 relabelled-pair = refl
