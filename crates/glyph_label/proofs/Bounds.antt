@@ -1,47 +1,45 @@
 -- The numbers of every answer are below 2^32. Assumes nothing.
 use Rattle.label.proofs.Places.{sound-places}
 use Rattle.label.specs.Places.{places, Places}
-use Rattle.label.proofs.Steps.{resolve-none, resolve-into-steps, labels-end, sheet-steps, into-steps, resolve-inside, labels-inside, file-steps, units-steps, write-steps, resolve-first, labels-record, glyphs-steps}
+use Rattle.label.proofs.Steps.{check-last, verdict-append, into-steps, write-steps, units-steps, glyphs-steps}
 use Rattle.label.specs.declared.Lengths.{Lengths}
 use Rattle.label.specs.declared.Counts.{Counts}
-use mathlib.Core.Path.{_≡_, refl}
-use mathlib.Core.Bool.{Bool, true, false, _&&_}
-use mathlib.Core.List.{List, [], _∷_}
-use Prim.Native.Nat.{ℕ, zero, suc, _+_, _-_, _*_, _/_, _≤_}
+use mathlib.Core.Path.{_≡_, refl, sym, subst, _∙_}
+use mathlib.Core.Logic.{_⊎_, inl, inr, ⊎-elim}
+use mathlib.Core.Bool.{Bool, true, false}
+use mathlib.Core.List.{List, [], _∷_, _++_}
+use Prim.Native.Nat.{ℕ, zero, suc, _+_, _-_, _*_, _<_, _≤_}
 use native.Mathlib.Omega.{arith}
+use borrow.Author.Tests.{leb-false}
 use lib.Dec.{leb, ltb}
-use lib.IntN.{ℤ}
-use lib.ListN.{length, drop}
-use Rattle.label.specs.Outcome.{Outcome, ok, no, _>>=_, _>>_, need}
-use Rattle.label.specs.Bytes.{begins}
+use lib.ListN.{length}
+use Rattle.label.specs.Outcome.{Outcome, ok, no, _>>=_, _>>_, need, Check, check, above, verdict}
+use Rattle.label.specs.Bytes.{begins, each, Piece, pieces, eachNumbered, fromPiece}
 use Rattle.label.specs.Run.{Run}
 use Rattle.label.specs.Checks.{read}
 use Rattle.label.specs.Fetched.{halves, words}
-use Rattle.label.specs.Sound.{wholeClusters, wholeGlyphs, clustersOf, glyphsOf, soundRun, runOf, noLeftOver, sound}
+use Rattle.label.specs.Sound.{clustersOf, glyphsOf, runOf, sound}
 use Rattle.label.specs.Write.{Label, normal}
-use Rattle.label.specs.Pick.{holding, touched, turned, inside, pickUnits, pickGlyphs}
+use Rattle.label.specs.Pick.{holding, touched, turned, inside}
 use Rattle.label.specs.Calls.{readingOutcome, readingRounded, filledCount, readInto, counted, askedFor, writeAsked, lengths}
 use Rattle.label.specs.Requests.RoundedCount.{rounded, beside}
-use Rattle.label.specs.Requests.Attribute.{isGood, further, resolveInto}
-use Rattle.label.specs.Requests.Sheet.{header, recordLength, isRecord, labelsOf, sheetInto}
-use Rattle.label.specs.Statements.Demands.{RoomyFor}
+use Rattle.label.specs.Requests.Attribute.{isGood, further, rawCheck, rawChecks, rawGives, resolveChecks, resolveInto}
+use Rattle.label.specs.Requests.Sheet.{header, isRecord, recordCheck, sheetRecords, saidLabels, fileChecks, answers, sheetChecks, sheetInto}
 use Rattle.label.specs.declared.Cluster.{Cluster}
 use Rattle.label.specs.declared.Reading.{Reading}
 use Rattle.label.specs.declared.Stretch.{Stretch}
-use Rattle.label.proofs.Basics.{and-r, cases}
+use Rattle.label.proofs.Basics.{cases, no-ok}
 use Rattle.label.proofs.Sizes.{sound-roomy}
 use Rattle.label.proofs.Sound.{read-sound}
 use Rattle.label.proofs.Statements.Demands.{into-read}
 use Rattle.label.proofs.Requests.RoundedCount.{rounded-most, beside-few}
 use Rattle.label.proofs.Refusals.{Placed, fine, refused, need-placed, bind-placed, read-placed}
 use Rattle.label.proofs.Requests.Escaping.{asked-short}
-use Rattle.label.proofs.Requests.Attribute.{resolved-within}
 use Rattle.sound.specs.Sounds.{unitSum}
 use Rattle.sound.proofs.Facts.{few-units, few-glyphs, units-add-up, glyphs-add-up}
 use Rattle.picks.specs.Ways.{pickAlong}
 use Rattle.glyph_label.specs.Answers.{readingAnswer}
 use Rattle.glyph_label.specs.Fits.{Small32, ReadingFits, WritingFits, StretchFits, FilledFits}
-use Rattle.label.specs.Steps.{resolveFrom, resolve, labelsFrom}
 
 -- ── a reading ──
 
@@ -111,52 +109,91 @@ writing-fits e room z =
     (λ p. rw (s, p) (omega arith, omega arith)))
     (λ s. rw s (omega arith, omega arith)))
 
+-- ── calls that fill one buffer ──
+
+-- a call whose last check is room is refused by one before it, or by the last
+last-refusal : {A : Type 0} (cs : List Check) (m room k q : ℕ) (x : A) (n p : ℕ)
+    → _≡_ {A = Outcome A} (verdict (cs ++ (check (above m room) k q ∷ [])) >> ok x) (no n p)
+    → (verdict cs ≡ no n p) ⊎ ((n ≡ k) × (p ≡ q) × (room < m))
+last-refusal {A = A} cs m room k q x n p h = go (verdict cs) (sym (verdict-append cs _ (ok x)) ∙ h)
+  where
+    last : _≡_ {A = Outcome A} (need (leb m room) k q >> ok x) (no n p) → (n ≡ k) × (p ≡ q) × (room < m)
+    last e =
+        cases (leb m room)
+        (λ t. no-ok n p x (sym (rw t at e)))
+        (λ t. let f : _≡_ {A = Outcome A} (no k q) (no n p) = rw t at e in
+        let a : n ≡ k = cc in
+        let b : p ≡ q = cc in (a, b, leb-false m room t))
+
+    go : (v : Outcome (Unit {0})) → _≡_ {A = Outcome A} (v >> (verdict (check (above m room) k q ∷ []) >> ok x)) (no n p)
+        → (v ≡ no n p) ⊎ ((n ≡ k) × (p ≡ q) × (room < m))
+    go (ok y) e = inr (last (sym (check-last (leb m room) k q (ok x)) ∙ e))
+    go (no i j) e = inl cc
+
+-- checks of number m, whose places are below k
+abbrev OneNumber : ℕ → ℕ → Outcome (Unit {0}) → Type 0
+OneNumber m k (ok x) = Unit {0}
+OneNumber m k (no n p) = (n ≡ m) × (p < k)
+
+fill-fits : {A : Type 0} (o : Outcome (List A)) → ((n p : ℕ) → o ≡ no n p → Small32 n) → FilledFits (filledCount o)
+fill-fits (ok vs) h = tt
+fill-fits (no n p) h = h n p refl
+
 -- ── resolving ──
 
-raw-placed : (k : ℕ) (bs : List ℕ) (skip at : ℕ) → at + length bs ≤ k → Placed 24 k (resolveFrom skip at bs)
-raw-placed k [] skip at h = rw (resolve-none skip at) fine
-raw-placed k (b ∷ bs) (suc skip) at h = rw (resolve-inside skip at b bs) (raw-placed k bs skip (suc at) (omega arith))
-raw-placed k (b ∷ bs) zero at h =
-    rw (resolve-first at b bs) (need-placed 24 k (isGood b bs) 23 at _ (omega arith, omega arith) (omega arith)
-    (λ _. bind-placed 24 k (resolveFrom (further b bs) (suc at) bs) _ (raw-placed k bs (further b bs) (suc at) (omega arith)) (λ _ _. fine)))
+raw-checks : (k : ℕ) (bs : List ℕ) (skip at : ℕ) → at + length bs ≤ k → OneNumber 23 k (verdict (each rawCheck (pieces further skip at bs)))
+unfolding verdict each pieces
+raw-checks k [] skip at h = tt
+raw-checks k (b ∷ bs) (suc skip) at h = raw-checks k bs skip (suc at) (omega arith)
+raw-checks k (b ∷ bs) zero at h =
+    cases (isGood b bs) (λ t. rw t (raw-checks k bs (further b bs) (suc at) (omega arith))) (λ t. rw t (refl, omega arith))
 
-resolve-placed : (room : ℕ) (raw : List ℕ) → Placed 24 (length raw) (resolveInto room raw)
-resolve-placed room raw =
-    rw (resolve-into-steps room raw) (bind-placed 24 (length raw) (resolve raw) _ (raw-placed (length raw) raw 0 0 (omega arith))
-    (λ s e. need-placed 24 (length raw) (leb (length s) room) 24 (length s) _ (omega arith, omega arith) (omega (arith, resolved-within raw 0 0 s e))
-    (λ _. fine)))
+-- a refusal is 23 at a byte of the raw value, or 24 with the bytes needed
+pub resolve-refusal : (room : ℕ) (raw : List ℕ) (n p : ℕ) → resolveInto room raw ≡ no n p
+    → ((n ≡ 23) × (p < length raw)) ⊎ ((n ≡ 24) × (p ≡ length (rawGives raw)) × (room < p))
+unfolding resolveInto resolveChecks
+resolve-refusal room raw n p e =
+    ⊎-elim (λ v. inl (subst (OneNumber 23 (length raw)) v (raw-checks (length raw) raw 0 0 (omega arith)))) (λ l. inr (l .0, l .1, omega arith))
+    (last-refusal (rawChecks raw) (length (rawGives raw)) room 24 (length (rawGives raw)) (rawGives raw) n p e)
+
+pub resolve-number : (room : ℕ) (raw : List ℕ) (n p : ℕ) → resolveInto room raw ≡ no n p → (1 ≤ n) × Small32 n
+resolve-number room raw n p e = ⊎-elim (λ x. (omega arith, omega arith)) (λ x. (omega arith, omega arith)) (resolve-refusal room raw n p e)
 
 pub filled-fits : (room : ℕ) (raw : List ℕ) → FilledFits (filledCount (resolveInto room raw))
-filled-fits room raw = of (resolveInto room raw) (resolve-placed room raw)
-  where
-    of : (o : Outcome (List ℕ)) → Placed 24 (length raw) o → FilledFits (filledCount o)
-    of (ok s) x = tt
-    of (no n p) (refused a b d) = omega arith
+filled-fits room raw = fill-fits (resolveInto room raw) (λ n p e. resolve-number room raw n p e .1)
 
 -- ── a sheet ──
 
-need-fits : {A : Type 0} (t : Bool) (n p : ℕ) (o : Outcome (List A)) → Small32 n → FilledFits (filledCount o) → FilledFits (filledCount (need t n p >> o))
-need-fits true n p o a f = f
-need-fits false n p o a f = a
+record-checks : (k : ℕ) (ps : List Piece) (n : ℕ) → n + length ps ≤ k → OneNumber 26 k (verdict (eachNumbered recordCheck n ps))
+unfolding verdict eachNumbered
+record-checks k [] n h = tt
+record-checks k (r ∷ ps) n h =
+    cases (isRecord (fromPiece r)) (λ t. rw t (record-checks k ps (suc n) (omega arith))) (λ t. rw t (refl, omega arith))
 
-then-fits : {A B : Type 0} (o : Outcome (List A)) (f : List A → Outcome (List B)) → FilledFits (filledCount o)
-    → ((ls : List A) → FilledFits (filledCount (f ls)))
-    → FilledFits (filledCount (o >>= f))
-then-fits (ok ls) f a b = b ls
-then-fits (no n p) f a b = a
+-- a refusal is 25, or 26 with the number of a record, or 27 with the labels in the file
+pub sheet-refusal : (room : ℕ) (file : List ℕ) (n p : ℕ) → sheetInto room file ≡ no n p
+    → ((n ≡ 25) × (p ≡ 0)) ⊎ ((n ≡ 26) × (p < length (sheetRecords file))) ⊎ ((n ≡ 27) × (p ≡ length (saidLabels file)) × (room < 2 * p))
+unfolding sheetInto sheetChecks verdict
+sheet-refusal room file n p e =
+    ⊎-elim first (λ l. inr (inr (l .0, l .1, omega arith)))
+    (last-refusal (fileChecks file) (2 * length (saidLabels file)) room 27 (length (saidLabels file)) (answers (saidLabels file)) n p e)
+  where
+    first : verdict (fileChecks file) ≡ no n p
+        → ((n ≡ 25) × (p ≡ 0)) ⊎ ((n ≡ 26) × (p < length (sheetRecords file))) ⊎ ((n ≡ 27) × (p ≡ length (saidLabels file)) × (room < 2 * p))
+    first v =
+        cases (begins header file)
+        (λ t. inr (inl (subst (OneNumber 26 (length (sheetRecords file))) (rw t at v) (record-checks (length (sheetRecords file)) (sheetRecords file) 0 (omega arith)))))
+        (λ t. let f : _≡_ {A = Outcome (Unit {0})} (no 25 0) (no n p) = rw t at v in
+        let a : n ≡ 25 = cc in
+        let b : p ≡ 0 = cc in inl (a, b))
 
-labels-fit : (s : List ℕ) (skip k : ℕ) → FilledFits (filledCount (labelsFrom skip k s))
-labels-fit [] skip k = rw (labels-end skip k) tt
-labels-fit (b ∷ s) (suc skip) k = rw (labels-inside skip k b s) (labels-fit s skip k)
-labels-fit (b ∷ s) zero k =
-    rw (labels-record k b s) (need-fits (isRecord (b ∷ s)) 26 k _ (omega arith)
-    (then-fits (labelsFrom (recordLength (b ∷ s) - 1) (suc k) s) _ (labels-fit s (recordLength (b ∷ s) - 1) (suc k)) (λ _. tt)))
+pub sheet-number : (room : ℕ) (file : List ℕ) (n p : ℕ) → sheetInto room file ≡ no n p → (1 ≤ n) × Small32 n
+sheet-number room file n p e =
+    ⊎-elim (λ x. (omega arith, omega arith)) (λ y. ⊎-elim (λ x. (omega arith, omega arith)) (λ x. (omega arith, omega arith)) y)
+    (sheet-refusal room file n p e)
 
 pub sheet-fits : (room : ℕ) (file : List ℕ) → FilledFits (filledCount (sheetInto room file))
-sheet-fits room file =
-    rw (sheet-steps room file, file-steps file) (then-fits (need (begins header file) 25 0 >> labelsFrom 0 0 (drop 5 file)) _
-    (need-fits (begins header file) 25 0 _ (omega arith) (labels-fit (drop 5 file) 0 0))
-    (λ ls. need-fits (leb (2 * length ls) room) 27 (length ls) _ (omega arith) tt))
+sheet-fits room file = fill-fits (sheetInto room file) (λ n p e. sheet-number room file n p e .1)
 
 -- ── a pick ──
 
@@ -181,10 +218,10 @@ pick-fits true true x h = h refl
 
 pub stretch-fits : (turn : Bool) (us cs gs : List ℕ) (first end : ℕ) → StretchFits (pickAlong turn (places us cs gs) first end)
 stretch-fits false us cs gs first end =
-    rw (units-steps (places us cs gs) first end) (pick-fits (sound (places us cs gs)) (inside first end (length (glyphsOf (words gs))))
-    (touched first end (clustersOf (words cs)))
+    rw (units-steps (places us cs gs) first end)
+    (pick-fits (sound (places us cs gs)) (inside first end (length (glyphsOf (words gs)))) (touched first end (clustersOf (words cs)))
     (λ s. touched-fits first end (clustersOf (words cs)) (let e = units-add-up us cs gs s in omega (arith, few-units us cs gs s))))
 stretch-fits true us cs gs first end =
-    rw (glyphs-steps (places us cs gs) first end) (pick-fits (sound (places us cs gs)) (inside first end (length (halves us)))
-    (touched first end (turned (clustersOf (words cs))))
+    rw (glyphs-steps (places us cs gs) first end)
+    (pick-fits (sound (places us cs gs)) (inside first end (length (halves us))) (touched first end (turned (clustersOf (words cs))))
     (λ s. touched-fits first end (turned (clustersOf (words cs))) (let e = glyphs-add-up us cs gs s in omega (arith, few-glyphs us cs gs s))))

@@ -2,5 +2,5 @@
 pub mod Answers
 -- Bounds that inner functions ask for; no call cites them
 pub mod Fits
--- The demands of the calls for C; statement
+-- What the calls for C promise: the demands, and each request; statement
 pub mod Promises

@@ -1,16 +1,13 @@
 // The calls for programs in C. A run's numbers are bytes here: a unit is 2 and every other number 4, two's complement, low byte first.
-ghost use Prim.Native.Nat.{_/_};
 ghost use Rattle.label.specs.Places.{places};
-ghost use Rattle.label.specs.Requests.Sheet.{sheetInto};
 ghost use Rattle.label.specs.Pick.{pickGlyphs, pickUnits};
 ghost use mathlib.Core.Path.{_≡_};
 ghost use mathlib.Core.Bool.{true, false};
-ghost use lib.ListN.{length};
 ghost use Rattle.label.specs.Fault.{faultPart};
-ghost use Rattle.label.specs.Calls.{readingOutcome, readingRounded, writingOutcome, pickOutcome, fillingOutcome, filledCount, filledAfter, numbersAfter, counted, unitsAfter, clustersAfter, glyphsAfter, lengths, textAfter, indicesAfter, readInto, writeInto, writeAsked, roomOf, outputs};
-ghost use Rattle.label.specs.Requests.RoundedCount.{rounded as roundedIn};
-ghost use Rattle.label.specs.Requests.Attribute.{resolveInto};
-ghost use Rattle.glyph_label.specs.Promises.{ReadCall, WriteCall};
+ghost use Rattle.label.specs.Calls.{readingOutcome, readingRounded, writingOutcome, pickOutcome, fillingOutcome};
+ghost use Rattle.glyph_label.specs.Promises.Demands.{ReadCall, WriteCall};
+ghost use Rattle.glyph_label.specs.Promises.Attribute.{ResolveCall};
+ghost use Rattle.glyph_label.specs.Promises.Sheet.{SheetCall};
 ghost use Rattle.glyph_label.specs.Answers.{version, readingAnswer, writingAnswer, filledAnswer, stretchAnswer, partAnswer};
 ghost use Rattle.glyph_label.specs.Fits.{Small32, ReadingFits, WritingFits, StretchFits, FilledFits};
 
@@ -180,7 +177,8 @@ pub extern "C" fn glyph_label_read(
     clusters: &mut [u8],
     glyphs: &mut [u8],
 ) -> GlyphLabelReading
-    ensures { λ r. ⌜ ReadCall (now (text .entry)) (now (indices .entry)) (now (units .entry)) (now (clusters .entry)) (now (glyphs .entry)) r (now (units .exit)) (now (clusters .exit)) (now (glyphs .exit)) ⌝ }
+    ensures { λ r. ⌜ ReadCall (now (text .entry)) (now (indices .entry)) (now (units .entry)) (now (clusters .entry)) (now (glyphs .entry)) r
+        (now (units .exit)) (now (clusters .exit)) (now (glyphs .exit)) ⌝ }
 {
     reading_answer(reader::read(text, indices, units, clusters, glyphs))
 }
@@ -194,7 +192,8 @@ pub extern "C" fn glyph_label_write(
     text: &mut [u8],
     indices: &mut [u8],
 ) -> GlyphLabelWriting
-    ensures { λ r. ⌜ WriteCall false (places (now (units .entry)) (now (clusters .entry)) (now (glyphs .entry))) (now (text .entry)) (now (indices .entry)) r (now (text .exit)) (now (indices .exit)) ⌝ }
+    ensures { λ r. ⌜ WriteCall false (places (now (units .entry)) (now (clusters .entry)) (now (glyphs .entry))) (now (text .entry)) (now (indices .entry)) r
+        (now (text .exit)) (now (indices .exit)) ⌝ }
 {
     writing_answer(writer::write_as(false, units, clusters, glyphs, text, indices))
 }
@@ -208,7 +207,8 @@ pub extern "C" fn glyph_label_write_escaped(
     text: &mut [u8],
     indices: &mut [u8],
 ) -> GlyphLabelWriting
-    ensures { λ r. ⌜ WriteCall true (places (now (units .entry)) (now (clusters .entry)) (now (glyphs .entry))) (now (text .entry)) (now (indices .entry)) r (now (text .exit)) (now (indices .exit)) ⌝ }
+    ensures { λ r. ⌜ WriteCall true (places (now (units .entry)) (now (clusters .entry)) (now (glyphs .entry))) (now (text .entry)) (now (indices .entry)) r
+        (now (text .exit)) (now (indices .exit)) ⌝ }
 {
     writing_answer(writer::write_as(true, units, clusters, glyphs, text, indices))
 }
@@ -244,8 +244,7 @@ pub extern "C" fn glyph_label_glyphs_of(
 // One raw attribute value resolved into `out`, where neither 23 nor 24 holds.
 #[no_mangle]
 pub extern "C" fn glyph_label_resolve(raw: &[u8], out: &mut [u8]) -> GlyphLabelFilled
-    ensures result { λ r. ⌜ r ≡ filledAnswer (filledCount (resolveInto (length (now (out .entry))) (now (raw .entry)))) ⌝ }
-    ensures out { λ _. ⌜ now (out .exit) ≡ filledAfter (resolveInto (length (now (out .entry))) (now (raw .entry))) (now (out .entry)) ⌝ }
+    ensures { λ r. ⌜ ResolveCall (now (raw .entry)) (now (out .entry)) r (now (out .exit)) ⌝ }
 {
     filled_answer(attribute::resolve(raw, out))
 }
@@ -253,8 +252,7 @@ pub extern "C" fn glyph_label_resolve(raw: &[u8], out: &mut [u8]) -> GlyphLabelF
 // The answers to the labels of a sheet's file, as bytes, two numbers a label, where none of 25 to 27 holds.
 #[no_mangle]
 pub extern "C" fn glyph_label_sheet(file: &[u8], answers: &mut [u8]) -> GlyphLabelFilled
-    ensures result { λ r. ⌜ r ≡ filledAnswer (filledCount (sheetInto (length (now (answers .entry)) / 4) (now (file .entry)))) ⌝ }
-    ensures answers { λ _. ⌜ now (answers .exit) ≡ numbersAfter (sheetInto (length (now (answers .entry)) / 4) (now (file .entry))) (now (answers .entry)) ⌝ }
+    ensures { λ r. ⌜ SheetCall (now (file .entry)) (now (answers .entry)) r (now (answers .exit)) ⌝ }
 {
     filled_answer(sheet::read_sheet(file, answers))
 }

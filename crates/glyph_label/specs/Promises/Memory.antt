@@ -1,0 +1,41 @@
+-- What the calls for C promise of number and place of an answer, and of one lent buffer that is filled: once for all calls.
+-- proofs/Promises/Memory.antt has the laws by which each call keeps it.
+-- Assumes nothing.
+use Prim.Native.Nat.{ℕ, _≤_}
+use mathlib.Core.Path.{_≡_}
+use mathlib.Core.Logic.{_↔_}
+use mathlib.Core.Bool.{false}
+use mathlib.Core.List.{List}
+use lib.ListN.{length}
+use Rattle.label.specs.Outcome.{Outcome, Check}
+use Rattle.label.specs.Calls.{filled, bufferAfter, filledCount}
+use Rattle.label.specs.Statements.Memory.{refuses, GivenBy}
+use Rattle.glyph_label.specs.declared.GlyphLabelFilled.{GlyphLabelFilled}
+use Rattle.glyph_label.specs.Answers.{filledAnswer}
+
+-- "A refusal is a number and a place fixed by document 01": number and place of an answer are those of these checks
+pub record Fixed (checks : List Check) (number place : ℕ) : Type 0 where
+  -- number 0 exactly when no cause holds; its place is 0
+  pub accepts : (number ≡ 0) ↔ (refuses checks ≡ false)
+  pub no-place : number ≡ 0 → place ≡ 0
+  -- every other number is given by the first cause that holds, with its place
+  pub refusal : (number ≡ 0 → ⊥) → GivenBy checks number place
+  -- and what the first cause that holds gives is the answer
+  pub only : (n p : ℕ) → GivenBy checks n p → (number ≡ n) × (place ≡ p)
+
+-- the contract of a call that comes to o and stores the places of o in one lent buffer, as bytes: its answer a, and what the buffer, which held `old`, holds
+-- afterwards
+pub record FillCall {A : Type 0} (stored : List A → List ℕ) (o : Outcome (List A)) (old : List ℕ) (a : GlyphLabelFilled) (new : List ℕ) : Type 0 where
+  pub answer : a ≡ filledAnswer (filledCount o)
+  pub buffer : new ≡ bufferAfter stored o old
+
+-- such a call with these checks fills `count` places, which are these bytes
+pub record Fills (checks : List Check) (count : ℕ) (bytes old : List ℕ) (a : GlyphLabelFilled) (new : List ℕ) : Type 0 where
+  pub fixed : Fixed checks (a .number) (a .place)
+  -- document 02: "a call that fills a lent list or buffer returns how many places it filled, and places behind them stay"
+  pub returns : a .number ≡ 0 → a .filled ≡ count
+  pub holds : a .number ≡ 0 → new ≡ filled bytes old
+  -- all bytes are in the buffer, none past its end
+  pub whole : a .number ≡ 0 → length bytes ≤ length old
+  -- document 01: "every refusal, later numbers included, changes no lent place"
+  pub kept : (a .number ≡ 0 → ⊥) → (a .filled ≡ 0) × (new ≡ old)
