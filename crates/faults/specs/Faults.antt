@@ -9,7 +9,7 @@ use Rattle.label.specs.Entry.{entries}
 use Rattle.label.specs.Fault.{entryStart, portion}
 use Rattle.label.specs.declared.Part.{Part}
 
--- entry k, or "where no such place exists the empty start of the text"
+-- entry k, or, "where no such place exists [...], the empty start of the text"
 unfoldable pub entryShown : List ℕ → ℕ → Part
 entryShown s k =
     cond (ltb k (length (entries s))) (portion true (entryStart (entries s) k) (length (getD (entries s) k []))) (portion false 0 0)

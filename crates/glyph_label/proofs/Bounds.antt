@@ -24,7 +24,7 @@ use Rattle.label.specs.Pick.{holding, touched, turned, inside}
 use Rattle.label.specs.Calls.{readingOutcome, readingRounded, filledCount, readInto, counted, askedFor, writeAsked, lengths}
 use Rattle.label.specs.Requests.RoundedCount.{rounded, beside}
 use Rattle.label.specs.Requests.Attribute.{isGood, further, rawCheck, rawChecks, rawGives, resolveChecks, resolveInto}
-use Rattle.label.specs.Requests.Sheet.{header, isRecord, recordCheck, sheetRecords, saidLabels, fileChecks, answers, sheetChecks, sheetInto}
+use Rattle.label.specs.Requests.Sheet.{header, isRecord, recordCheck, sheetRecords, fileLabels, fileChecks, answers, sheetChecks, sheetInto}
 use Rattle.label.specs.declared.Cluster.{Cluster}
 use Rattle.label.specs.declared.Reading.{Reading}
 use Rattle.label.specs.declared.Stretch.{Stretch}
@@ -172,14 +172,14 @@ record-checks k (r ∷ ps) n h =
 
 -- a refusal is 25, or 26 with the number of a record, or 27 with the labels in the file
 pub sheet-refusal : (room : ℕ) (file : List ℕ) (n p : ℕ) → sheetInto room file ≡ no n p
-    → ((n ≡ 25) × (p ≡ 0)) ⊎ ((n ≡ 26) × (p < length (sheetRecords file))) ⊎ ((n ≡ 27) × (p ≡ length (saidLabels file)) × (room < 2 * p))
+    → ((n ≡ 25) × (p ≡ 0)) ⊎ ((n ≡ 26) × (p < length (sheetRecords file))) ⊎ ((n ≡ 27) × (p ≡ length (fileLabels file)) × (room < 2 * p))
 unfolding sheetInto sheetChecks verdict
 sheet-refusal room file n p e =
     ⊎-elim first (λ l. inr (inr (l .0, l .1, omega arith)))
-    (last-refusal (fileChecks file) (2 * length (saidLabels file)) room 27 (length (saidLabels file)) (answers (saidLabels file)) n p e)
+    (last-refusal (fileChecks file) (2 * length (fileLabels file)) room 27 (length (fileLabels file)) (answers (fileLabels file)) n p e)
   where
     first : verdict (fileChecks file) ≡ no n p
-        → ((n ≡ 25) × (p ≡ 0)) ⊎ ((n ≡ 26) × (p < length (sheetRecords file))) ⊎ ((n ≡ 27) × (p ≡ length (saidLabels file)) × (room < 2 * p))
+        → ((n ≡ 25) × (p ≡ 0)) ⊎ ((n ≡ 26) × (p < length (sheetRecords file))) ⊎ ((n ≡ 27) × (p ≡ length (fileLabels file)) × (room < 2 * p))
     first v =
         cases (begins header file)
         (λ t. inr (inl (subst (OneNumber 26 (length (sheetRecords file))) (rw t at v) (record-checks (length (sheetRecords file)) (sheetRecords file) 0 (omega arith)))))

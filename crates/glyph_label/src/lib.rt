@@ -5,9 +5,7 @@ ghost use mathlib.Core.Path.{_≡_};
 ghost use mathlib.Core.Bool.{true, false};
 ghost use Rattle.label.specs.Fault.{faultPart};
 ghost use Rattle.label.specs.Calls.{readingOutcome, readingRounded, writingOutcome, pickOutcome, fillingOutcome};
-ghost use Rattle.glyph_label.specs.Promises.Demands.{ReadCall, WriteCall};
-ghost use Rattle.glyph_label.specs.Promises.Attribute.{ResolveCall};
-ghost use Rattle.glyph_label.specs.Promises.Sheet.{SheetCall};
+ghost use Rattle.glyph_label.specs.Contracts.{ReadCall, WriteCall, ResolveCall, SheetCall};
 ghost use Rattle.glyph_label.specs.Answers.{version, readingAnswer, writingAnswer, filledAnswer, stretchAnswer, partAnswer};
 ghost use Rattle.glyph_label.specs.Fits.{Small32, ReadingFits, WritingFits, StretchFits, FilledFits};
 

@@ -7,3 +7,4 @@ pub mod Sheet
 pub mod Tail
 pub mod Encoding
 pub mod Rounding
+pub mod Steps

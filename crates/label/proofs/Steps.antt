@@ -27,7 +27,7 @@ use Rattle.label.specs.Relabel.{relabelRead}
 use Rattle.label.specs.Calls.{readChecks, readInto, saidLabel, writeChecks, writeAsked, listChecks, listInto}
 use Rattle.label.specs.Requests.Attribute.{isGood, gives, further, rawCheck, rawBytes, rawChecks, rawGives, resolveChecks, resolveInto}
 use Rattle.label.specs.Statements.Attribute.{rawLabelChecks, readRaw}
-use Rattle.label.specs.Requests.Sheet.{header, recordLength, isRecord, recordLabel, recordMore, recordCheck, recordLabels, sheetRecords, saidLabels, fileChecks, labelsOf, answers, sheetChecks, sheetInto}
+use Rattle.label.specs.Requests.Sheet.{header, recordLength, isRecord, recordLabel, recordMore, recordCheck, recordLabels, sheetRecords, fileLabels, fileChecks, labelsOf, answers, sheetChecks, sheetInto}
 use Rattle.label.specs.declared.Counts.{Counts}
 use Rattle.label.specs.declared.Lengths.{Lengths}
 
@@ -369,13 +369,13 @@ labels-record k b bs =
 
 pub file-steps : (file : List ℕ) → labelsOf file ≡ (need (begins header file) 25 0 >> labelsFrom 0 0 (drop 5 file))
 unfolding labelsOf labelsFrom
-file-steps file = check-need (begins header file) 25 0 (eachNumbered recordCheck 0 (sheetRecords file)) (ok (saidLabels file))
+file-steps file = check-need (begins header file) 25 0 (eachNumbered recordCheck 0 (sheetRecords file)) (ok (fileLabels file))
 
 pub sheet-steps : (room : ℕ) (file : List ℕ)
     → sheetInto room file ≡ (labelsOf file >>= (λ ls. need (leb (2 * length ls) room) 27 (length ls) >> ok (answers ls)))
 unfolding sheetInto sheetChecks labelsOf
 sheet-steps room file =
-    let ls : List Label = saidLabels file in
+    let ls : List Label = fileLabels file in
     verdict-append (fileChecks file) _ (ok (answers ls))
     ∙ ap (λ (o : Outcome (List ℤ)). verdict (fileChecks file) >> o) (check-last (leb (2 * length ls) room) 27 (length ls) (ok (answers ls)))
     ∙ sym (seq-bind (verdict (fileChecks file)) ls (λ x. need (leb (2 * length x) room) 27 (length x) >> ok (answers x)))

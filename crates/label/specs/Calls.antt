@@ -1,5 +1,5 @@
--- The calls with their lent buffers: 16 to 18, 20 and 21, the list of records; what each buffer holds afterwards; and for every answer enum the papers'
--- number, place and values of each of its cases.
+-- The calls with their lent buffers: 16 to 18, 20 and 21, the list of records; what each buffer holds afterwards; and for each answer enum of a
+-- call the papers' number, place and values of each of its cases.
 -- Assumes nothing.
 use Prim.Native.Nat.{ℕ, _/_}
 use mathlib.Core.Bool.{Bool, false}

@@ -12,8 +12,6 @@ pub mod Entry
 pub mod Run
 -- Document 01, checks: 1 to 15, and reading; believe
 pub mod Checks
--- Document 01, checks: stretches of the reading that inner functions promise; proved equal
-pub mod Steps
 -- Document 01, picks and faults: numbers as bytes; believe
 pub mod Wire
 -- Document 01, picks and faults: the numbers that bytes hold; proved equal
@@ -28,12 +26,14 @@ pub mod Write
 pub mod Pick
 -- Document 01, picks and faults: the part that a fault shows; believe
 pub mod Fault
+-- Document 02: what CR 1 to CR 3 add; believe
+pub mod Requests
 -- Document 01, checks: 16 to 18, 20, 21, the buffers after a call, the answers; believe
 pub mod Calls
 -- Document 01, labels to prove and to run: the program `relabel`; believe
 pub mod Relabel
--- Document 02: what CR 1 to CR 3 add; believe
-pub mod Requests
+-- Documents 01 and 02: stretches of the checks that inner functions promise; proved equal
+pub mod Steps
 -- Documents 01 and 02: the promises, over the definitions; statement
 pub mod Statements
 -- Documents 01 and 02: labels and calls, computed from the definitions; computed

@@ -2,6 +2,8 @@
 pub mod Memory
 -- Document 01: the three demands; statement
 pub mod Demands
+-- Documents 01 and 02: the calls by their stretches; statement
+pub mod Steps
 -- Document 01, picks and faults: the list of glyph records; statement
 pub mod Records
 -- Document 01, labels to prove and to run: what `relabel` prints; statement

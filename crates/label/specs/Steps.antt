@@ -1,5 +1,5 @@
--- Stretches of the reading, named for inner functions: each is the checks of its stretch and what they say. That `read` is made of them, and how each goes
--- by steps, is proved: `read-steps`, `text-steps`, `run-steps`, `walk-first`, `entry-steps`, `placed-steps` (proofs/Steps.antt).
+-- Stretches of the checks, named for inner functions: each is the checks of its stretch and what they say, or two such stretches in order (`step`). That
+-- the calls are made of them is stated in Statements/Steps.antt; how each goes by steps are laws (proofs/Steps.antt).
 -- Assumes nothing.
 use Prim.Native.Nat.{ℕ}
 use mathlib.Core.Bool.{Bool}

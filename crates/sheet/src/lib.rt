@@ -1,10 +1,10 @@
 // A sheet's labels in one call: the records of its file are found, and each label is judged where it stands in the file.
 ghost use mathlib.Core.Path.{_≡_};
 ghost use mathlib.Core.List.{[], _∷_};
-ghost use Prim.Native.Nat.{_/_, _≤_};
+ghost use Prim.Native.Nat.{_≤_};
 ghost use lib.ListN.{length};
 ghost use Rattle.label.specs.Calls.{fillingOutcome, filledCount, numbersAfter};
-ghost use Rattle.label.specs.Requests.Sheet.{answer as answerTo, sheetInto};
+ghost use Rattle.label.specs.Requests.Sheet.{answer as answerTo, listRoom, sheetInto};
 ghost use Rattle.sheet.specs.Records.{recordAt, labelIn, Accepted};
 use label::Filling;
 
@@ -104,8 +104,8 @@ fn answer_to(file: &[u8], x: Record) -> Answer
 
 // Stores the answers to all labels, two numbers each, from the start of the list on.
 fn put_answers(file: &[u8], answers: &mut [u8])
-    requires { ⌜ Accepted (now file) (length (now answers) / 4) ⌝ }
-    ensures { λ _. ⌜ now (answers .exit) ≡ numbersAfter (sheetInto (length (now (answers .entry)) / 4) (now (file .entry))) (now (answers .entry)) ⌝ }
+    requires { ⌜ Accepted (now file) (listRoom (now answers)) ⌝ }
+    ensures { λ _. ⌜ now (answers .exit) ≡ numbersAfter (sheetInto (listRoom (now (answers .entry))) (now (file .entry))) (now (answers .entry)) ⌝ }
 {
     let mut k = 0;
     let mut at = FIRST;
@@ -130,8 +130,8 @@ fn put_answers(file: &[u8], answers: &mut [u8])
 
 // The answers to the labels of a sheet's file as bytes, two numbers each, where none of 25 to 27 holds.
 pub fn read_sheet(file: &[u8], answers: &mut [u8]) -> Filling
-    ensures result { λ r. ⌜ fillingOutcome r ≡ filledCount (sheetInto (length (now (answers .entry)) / 4) (now (file .entry))) ⌝ }
-    ensures answers { λ _. ⌜ now (answers .exit) ≡ numbersAfter (sheetInto (length (now (answers .entry)) / 4) (now (file .entry))) (now (answers .entry)) ⌝ }
+    ensures result { λ r. ⌜ fillingOutcome r ≡ filledCount (sheetInto (listRoom (now (answers .entry))) (now (file .entry))) ⌝ }
+    ensures answers { λ _. ⌜ now (answers .exit) ≡ numbersAfter (sheetInto (listRoom (now (answers .entry))) (now (file .entry))) (now (answers .entry)) ⌝ }
 {
     match judge(file, wire::number_count(answers)) {
         Filling::Filled(n) => {

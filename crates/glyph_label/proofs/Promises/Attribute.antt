@@ -15,8 +15,9 @@ use Rattle.label.proofs.Statements.Demands.{read-into, written-from, held, dema
 use Rattle.label.proofs.Statements.Attribute.{restoring}
 use Rattle.glyph_label.specs.declared.GlyphLabelFilled.{GlyphLabelFilled}
 use Rattle.glyph_label.specs.Promises.Memory.{Fills}
-use Rattle.glyph_label.specs.Promises.Demands.{ReadCall, HoldsRun, HoldsLabel}
-use Rattle.glyph_label.specs.Promises.Attribute.{ResolveCall, EscapedReading, AttributePromises}
+use Rattle.glyph_label.specs.Contracts.{ReadCall, ResolveCall}
+use Rattle.glyph_label.specs.Promises.Demands.{HoldsRun, HoldsLabel}
+use Rattle.glyph_label.specs.Promises.Attribute.{EscapedReading, AttributePromises}
 use Rattle.glyph_label.proofs.Bounds.{resolve-refusal, resolve-number}
 use Rattle.glyph_label.proofs.Promises.Memory.{has-room, fill-ok, fill-refused, fills}
 use Rattle.glyph_label.proofs.Promises.Demands.{holds-run, holds-label, text-cut, indices-cut}

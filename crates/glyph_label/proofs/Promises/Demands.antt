@@ -33,7 +33,8 @@ use Rattle.glyph_label.specs.declared.GlyphLabelWriting.{GlyphLabelWriti
 use Rattle.glyph_label.specs.declared.GlyphLabelStretch.{GlyphLabelStretch}
 use Rattle.glyph_label.specs.Answers.{readingAnswer, writingAnswer, stretchAnswer}
 use Rattle.glyph_label.specs.Promises.Memory.{Fixed}
-use Rattle.glyph_label.specs.Promises.Demands.{ReadCall, WriteCall, HoldsRun, HoldsLabel, Picks, Passing, Accepted, WroteNormal, DemandPromises}
+use Rattle.glyph_label.specs.Contracts.{ReadCall, WriteCall}
+use Rattle.glyph_label.specs.Promises.Demands.{HoldsRun, HoldsLabel, Picks, Passing, Accepted, Client, textGiven, indicesGiven, WroteNormal, DemandPromises}
 use Rattle.glyph_label.proofs.Bounds.{reading-placed, writing-placed}
 use Rattle.glyph_label.proofs.Promises.Memory.{numberIn, placeIn, Numbered, numbered, accepted, fixed}
 
@@ -232,30 +233,33 @@ module _ (l : Label) (tx ix : List ℕ) (w : GlyphLabelWriting) (tx′ ix′ : L
   pub indices-cut : take (w .indices) ix′ ≡ l .indices
   indices-cut = rw (h .indices, h .indices-length) (held (l .indices) ix (length (l .indices)) refl)
 
-passed : (t i us cs gs tx ix : List ℕ) (r : Run) (a : GlyphLabelReading) (us′ cs′ gs′ : List ℕ) (w : GlyphLabelWriting) (tx′ ix′ : List ℕ)
-    → Accepted t i us cs gs tx ix r → Passing t i us cs gs tx ix a us′ cs′ gs′ w tx′ ix′ → WroteNormal r a w tx′ ix′
-passed t i us cs gs tx ix r a us′ cs′ gs′ w tx′ ix′ h p =
-    let e : readInto (roomOf us cs gs) t i ≡ ok r = read-into t i r (roomOf us cs gs) (h .is) (h .buffers) in
-    let x : HoldsRun r us cs gs a us′ cs′ gs′ = holds-run t i us cs gs a us′ cs′ gs′ (p .reads) r e in
-    let z : Places = places (take (2 * a .units) us′) (take (8 * a .clusters) cs′) (take (16 * a .glyphs) gs′) in
-    let k : writeAsked false (outputs tx ix) z ≡ ok (normal r) =
+passed : (r : Run) (c : Client r) → WroteNormal r c
+passed r c =
+    let e = read-into (c .text) (c .indices) r (roomOf (c .us) (c .cs) (c .gs)) (c .accepted .is) (c .accepted .buffers) in
+    let p = c .passing in
+    let a = c .reading in
+    let x = holds-run (c .text) (c .indices) (c .us) (c .cs) (c .gs) a (c .us′) (c .cs′) (c .gs′) (p .reads) r e in
+    let z : Places = places (take (2 * a .units) (c .us′)) (take (8 * a .clusters) (c .cs′)) (take (16 * a .glyphs) (c .gs′)) in
+    let k : writeAsked false (outputs (c .tx) (c .ix)) z ≡ ok (normal r) =
     rw (x .unit-count, x .cluster-count, x .glyph-count, p .reads .units, p .reads .clusters, p .reads .glyphs)
-    (passed-is t i r us cs gs (outputs tx ix) (h .is) (h .buffers) (h .out)) in
-    let y : HoldsLabel (normal r) tx ix w tx′ ix′ = holds-label false z tx ix w tx′ ix′ (p .writes) (normal r) k in
+    (passed-is (c .text) (c .indices) r (c .us) (c .cs) (c .gs) (outputs (c .tx) (c .ix)) (c .accepted .is) (c .accepted .buffers) (c .accepted .out)) in
+    let y = holds-label false z (c .tx) (c .ix) (c .writing) (c .tx′) (c .ix′) (p .writes) (normal r) k in
     record {
-      read-number = x .number;
-      write-number = y .number;
-      text = text-cut (normal r) tx ix w tx′ ix′ y;
-      indices = indices-cut (normal r) tx ix w tx′ ix′ y;
+      run = x;
+      number = y .number;
+      text = text-cut (normal r) (c .tx) (c .ix) (c .writing) (c .tx′) (c .ix′) y;
+      indices = indices-cut (normal r) (c .tx) (c .ix) (c .writing) (c .tx′) (c .ix′) y;
     }
 
-same : (A B : Run) (aA aB : GlyphLabelReading) (wA wB : GlyphLabelWriting) (txA ixA txB ixB tA iA tB iB : List ℕ) → read tA iA ≡ ok A → read tB iB ≡ ok B
-    → WroteNormal A aA wA txA ixA → WroteNormal B aB wB txB ixB
-    → (A ≡ B) ↔ ((take (wA .text) txA ≡ take (wB .text) txB) × (take (wA .indices) ixA ≡ take (wB .indices) ixB))
-same A B aA aB wA wB txA ixA txB ixB tA iA tB iB hA hB x y =
-    rw (x .text, x .indices, y .text, y .indices)
-    (demand-3 .same tA iA tB iB A B (normal A) (normal B) (just A) (just B) hA hB
-    (demand-3 .normally tA iA A (just A) hA (has-room A)) (demand-3 .normally tB iB B (just B) hB (has-room B)))
+same : (A B : Run) (x : Client A) (y : Client B) → (A ≡ B) ↔ ((textGiven x ≡ textGiven y) × (indicesGiven x ≡ indicesGiven y))
+same A B x y =
+    let m = passed A x in
+    let n = passed B y in
+    let a = x .accepted .is in
+    let b = y .accepted .is in
+    rw (m .text, m .indices, n .text, n .indices)
+    (demand-3 .same (x .text) (x .indices) (y .text) (y .indices) A B (normal A) (normal B) (just A) (just B) a b
+    (demand-3 .normally (x .text) (x .indices) A (just A) a (has-room A)) (demand-3 .normally (y .text) (y .indices) B (just B) b (has-room B)))
   where
     just : Run → Lengths
     just r = record { text = length (normal r .text); indices = length (normal r .indices) }
@@ -263,15 +267,8 @@ same A B aA aB wA wB txA ixA txB ixB tA iA tB iB hA hB x y =
     has-room : (r : Run) → RoomyFor (normal r) (just r)
     has-room r = record { for-text = omega arith; for-indices = omega arith }
 
-again : (t i : List ℕ) (r : Run) (a b : GlyphLabelReading) (w v : GlyphLabelWriting) (tx′ ix′ us cs gs tx ix us′ cs′ gs′ tx″ ix″ : List ℕ) → read t i ≡ ok r
-    → WroteNormal r a w tx′ ix′ → Roomy r (roomOf us cs gs) → RoomyFor (normal r) (outputs tx ix)
-    → Passing (take (w .text) tx′) (take (w .indices) ix′) us cs gs tx ix b us′ cs′ gs′ v tx″ ix″
-    → (take (v .text) tx″ ≡ take (w .text) tx′) × (take (v .indices) ix″ ≡ take (w .indices) ix′)
-again t i r a b w v tx′ ix′ us cs gs tx ix us′ cs′ gs′ tx″ ix″ h x m n p =
-    let e : read (take (w .text) tx′) (take (w .indices) ix′) ≡ ok r = rw (x .text, x .indices) (demand-3 .back t i r h) in
-    let y : WroteNormal r b v tx″ ix″ =
-    passed (take (w .text) tx′) (take (w .indices) ix′) us cs gs tx ix r b us′ cs′ gs′ v tx″ ix″ (record { is = e; buffers = m; out = n }) p in
-    (y .text ∙ sym (x .text), y .indices ∙ sym (x .indices))
+back : (r : Run) (c : Client r) → read (textGiven c) (indicesGiven c) ≡ ok r
+back r c = let m = passed r c in rw (m .text, m .indices) (demand-3 .back (c .text) (c .indices) r (c .accepted .is))
 
 pub demand-promises : DemandPromises
 demand-promises =
@@ -286,6 +283,6 @@ demand-promises =
       glyphs-of = glyphs-of;
       passed = passed;
       same = same;
-      back = λ t i r a w tx′ ix′ h x. rw (x .text, x .indices) (demand-3 .back t i r h);
-      again = again;
+      back = back;
+      again = λ r c d s t. (passed r d .text ∙ sym (passed r c .text), passed r d .indices ∙ sym (passed r c .indices));
     }

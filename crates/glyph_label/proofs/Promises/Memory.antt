@@ -16,7 +16,8 @@ use Rattle.label.proofs.Checks.{given-is, passes, stops}
 use Rattle.label.proofs.Refusals.{Placed, refused}
 use Rattle.glyph_label.specs.declared.GlyphLabelFilled.{GlyphLabelFilled}
 use Rattle.glyph_label.specs.Answers.{filledAnswer}
-use Rattle.glyph_label.specs.Promises.Memory.{Fixed, FillCall, Fills}
+use Rattle.glyph_label.specs.Contracts.{FillCall}
+use Rattle.glyph_label.specs.Promises.Memory.{Fixed, Fills}
 
 -- ── number and place ──
 

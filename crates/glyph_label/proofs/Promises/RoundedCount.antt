@@ -9,7 +9,7 @@ use Rattle.label.specs.Calls.{roomOf, readInto, counted}
 use Rattle.label.specs.Requests.RoundedCount.{rounded}
 use Rattle.glyph_label.specs.declared.GlyphLabelReading.{GlyphLabelReading}
 use Rattle.glyph_label.specs.Answers.{readingAnswer}
-use Rattle.glyph_label.specs.Promises.Demands.{ReadCall}
+use Rattle.glyph_label.specs.Contracts.{ReadCall}
 use Rattle.glyph_label.specs.Promises.RoundedCount.{RoundedPromises}
 use Rattle.glyph_label.proofs.Bounds.{reading-placed}
 use Rattle.glyph_label.proofs.Promises.Memory.{numbered, accepted}

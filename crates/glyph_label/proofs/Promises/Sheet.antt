@@ -15,7 +15,7 @@ use Rattle.label.specs.Checks.{read}
 use Rattle.label.specs.Wire.{fromWords}
 use Rattle.label.specs.Write.{Label}
 use Rattle.label.specs.Calls.{filled, roomOf, readInto}
-use Rattle.label.specs.Requests.Sheet.{saidLabels, fileChecks, answerOf, answers, sheetChecks, sheetInto}
+use Rattle.label.specs.Requests.Sheet.{fileLabels, fileChecks, answerOf, answers, sheetChecks, sheetInto}
 use Rattle.label.specs.Statements.Demands.{allBytes}
 use Rattle.label.specs.Statements.Sheet.{sheetFile, Held, OneList, answerAt, Large}
 use Rattle.label.specs.declared.Counts.{Counts}
@@ -26,8 +26,9 @@ use Rattle.label.proofs.Statements.Sheet.{labels-into, answering}
 use Rattle.glyph_label.specs.declared.GlyphLabelReading.{GlyphLabelReading}
 use Rattle.glyph_label.specs.declared.GlyphLabelFilled.{GlyphLabelFilled}
 use Rattle.glyph_label.specs.Promises.Memory.{Fills}
-use Rattle.glyph_label.specs.Promises.Demands.{ReadCall}
-use Rattle.glyph_label.specs.Promises.Sheet.{SheetCall, SheetPromises}
+use Rattle.glyph_label.specs.Contracts.{ReadCall}
+use Rattle.glyph_label.specs.Contracts.{SheetCall}
+use Rattle.glyph_label.specs.Promises.Sheet.{SheetPromises}
 use Rattle.glyph_label.proofs.Bounds.{reading-placed, sheet-refusal, sheet-number}
 use Rattle.glyph_label.proofs.Promises.Memory.{numberIn, placeIn, numbered, accepted, has-room, fill-said, fill-ok, fill-refused, fills}
 use Rattle.glyph_label.proofs.Promises.Demands.{read-said}
@@ -37,13 +38,13 @@ answers-room : (ls : List Label) (n : ℕ) → 2 * length ls ≤ n / 4 → lengt
 answers-room ls n h = omega (arith, h, length-words (answers ls), length-answers ls)
 
 sheet-fills : (file old : List ℕ) (a : GlyphLabelFilled) (new : List ℕ) → SheetCall file old a new
-    → Fills (sheetChecks (length old / 4) file) (2 * length (saidLabels file)) (fromWords (answers (saidLabels file))) old a new
+    → Fills (sheetChecks (length old / 4) file) (2 * length (fileLabels file)) (fromWords (answers (fileLabels file))) old a new
 sheet-fills file old a new c =
-    subst (λ (n : ℕ). Fills (sheetChecks (length old / 4) file) n (fromWords (answers (saidLabels file))) old a new) (length-answers (saidLabels file))
-    (fills fromWords (sheetInto (length old / 4) file) old a new c (sheetChecks (length old / 4) file) (answers (saidLabels file))
+    subst (λ (n : ℕ). Fills (sheetChecks (length old / 4) file) n (fromWords (answers (fileLabels file))) old a new) (length-answers (fileLabels file))
+    (fills fromWords (sheetInto (length old / 4) file) old a new c (sheetChecks (length old / 4) file) (answers (fileLabels file))
     (unfold sheetInto in refl) (λ n p e. sheet-number (length old / 4) file n p e .0)
-    (λ h. answers-room (saidLabels file) (length old) (unfold sheetChecks in
-    (has-room (fileChecks file) (2 * length (saidLabels file)) (length old / 4) 27 (length (saidLabels file)) h))))
+    (λ h. answers-room (fileLabels file) (length old) (unfold sheetChecks in
+    (has-room (fileChecks file) (2 * length (fileLabels file)) (length old / 4) 27 (length (fileLabels file)) h))))
 
 sheet-accepts : (file old : List ℕ) (a : GlyphLabelFilled) (new : List ℕ) → allBytes file ≡ true → SheetCall file old a new
     → (a .number ≡ 0) ↔ ((ls : List Label) × OneList file ls × (2 * length ls ≤ length old / 4))

@@ -10,17 +10,14 @@ use lib.ListN.{length, take}
 use Rattle.label.specs.Places.{Places, Readable}
 use Rattle.label.specs.Write.{normal}
 use Rattle.label.specs.Calls.{filled, roomOf, askedFor, outputs}
-use Rattle.label.specs.Requests.Attribute.{rawGives, escape, resolveChecks, resolveInto}
+use Rattle.label.specs.Requests.Attribute.{rawGives, escape, resolveChecks}
 use Rattle.label.specs.Statements.Demands.{Roomy, RoomyFor}
 use Rattle.glyph_label.specs.declared.GlyphLabelReading.{GlyphLabelReading}
 use Rattle.glyph_label.specs.declared.GlyphLabelWriting.{GlyphLabelWriting}
 use Rattle.glyph_label.specs.declared.GlyphLabelFilled.{GlyphLabelFilled}
-use Rattle.glyph_label.specs.Promises.Memory.{FillCall, Fills}
-use Rattle.glyph_label.specs.Promises.Demands.{ReadCall, WriteCall, HoldsRun}
-
--- what `glyph_label_resolve` promises of a raw value and a buffer: its answer, and what the buffer holds afterwards
-abbrev pub ResolveCall : List ℕ → List ℕ → GlyphLabelFilled → List ℕ → Type 0
-ResolveCall raw old a new = FillCall (λ (s : List ℕ). s) (resolveInto (length old) raw) old a new
+use Rattle.glyph_label.specs.Promises.Memory.{Fills}
+use Rattle.glyph_label.specs.Promises.Demands.{HoldsRun}
+use Rattle.glyph_label.specs.Contracts.{ReadCall, WriteCall, ResolveCall}
 
 -- a raw text t and raw indices i through the calls, with all answers and what the buffers hold afterwards: each is resolved, into bt and bi, and the bytes
 -- that came out, cut at the counts that were returned, are read into us, cs, gs
@@ -45,6 +42,7 @@ pub record EscapedReading (z : Places) (tx ix bt bi us cs gs : List ℕ) : Type 
   pub writes : WriteCall true z tx ix written text indices
   pub raw : RawReading (take (written .text) text) (take (written .indices) indices) bt bi us cs gs
 
+-- CR 2 of the calls, sentence by sentence
 pub record AttributePromises : Type 0 where
   -- "resolves [...] into a lent buffer": neither 23 nor 24 holds and the buffer begins with all that comes out, its bytes counted, or it is what it was
   pub resolves : (raw old : List ℕ) (a : GlyphLabelFilled) (new : List ℕ) → ResolveCall raw old a new

@@ -14,30 +14,15 @@ use Rattle.label.specs.Places.{Places, places, placesOf, Readable}
 use Rattle.label.specs.Sound.{runOf}
 use Rattle.label.specs.Write.{Label, normal}
 use Rattle.label.specs.Pick.{stretch, pickChecks, pickUnits, pickGlyphs}
-use Rattle.label.specs.Calls.{filled, roomOf, readChecks, readInto, counted, unitsAfter, clustersAfter, glyphsAfter, askedFor, outputs, writeChecks, writeAsked, lengths, textAfter, indicesAfter}
-use Rattle.label.specs.Requests.RoundedCount.{rounded}
+use Rattle.label.specs.Calls.{filled, roomOf, readChecks, askedFor, outputs, writeChecks}
 use Rattle.label.specs.Statements.Demands.{Roomy, RoomyFor, inBytes, unitCounts, glyphCounts, ClustersTouched}
 use Rattle.label.specs.declared.Cluster.{Cluster}
 use Rattle.glyph_label.specs.declared.GlyphLabelReading.{GlyphLabelReading}
 use Rattle.glyph_label.specs.declared.GlyphLabelWriting.{GlyphLabelWriting}
 use Rattle.glyph_label.specs.declared.GlyphLabelStretch.{GlyphLabelStretch}
-use Rattle.glyph_label.specs.Answers.{readingAnswer, writingAnswer, stretchAnswer}
+use Rattle.glyph_label.specs.Answers.{stretchAnswer}
+use Rattle.glyph_label.specs.Contracts.{ReadCall, WriteCall}
 use Rattle.glyph_label.specs.Promises.Memory.{Fixed}
-
--- ── the contracts ──
-
--- what `glyph_label_read` promises of the label t, i and the buffers us, cs, gs: its answer a, and what the buffers hold afterwards
-pub record ReadCall (t i us cs gs : List ℕ) (a : GlyphLabelReading) (us′ cs′ gs′ : List ℕ) : Type 0 where
-  pub answer : a ≡ readingAnswer (counted (readInto (roomOf us cs gs) t i)) (rounded i)
-  pub units : us′ ≡ unitsAfter (readInto (roomOf us cs gs) t i) us
-  pub clusters : cs′ ≡ clustersAfter (readInto (roomOf us cs gs) t i) cs
-  pub glyphs : gs′ ≡ glyphsAfter (readInto (roomOf us cs gs) t i) gs
-
--- what `glyph_label_write` and, asked to escape, `glyph_label_write_escaped` promise of a run handed in and the outputs tx, ix
-pub record WriteCall (asked : Bool) (z : Places) (tx ix : List ℕ) (a : GlyphLabelWriting) (tx′ ix′ : List ℕ) : Type 0 where
-  pub answer : a ≡ writingAnswer (lengths (writeAsked asked (outputs tx ix) z))
-  pub text : tx′ ≡ textAfter (writeAsked asked (outputs tx ix) z) tx
-  pub indices : ix′ ≡ indicesAfter (writeAsked asked (outputs tx ix) z) ix
 
 -- ── demand 1 ──
 
@@ -85,13 +70,42 @@ pub record Accepted (t i us cs gs tx ix : List ℕ) (r : Run) : Type 0 where
   pub buffers : Roomy r (roomOf us cs gs)
   pub out : RoomyFor (normal r) (outputs tx ix)
 
--- both calls accept, and the outputs begin with the normal writing of r
-pub record WroteNormal (r : Run) (a : GlyphLabelReading) (w : GlyphLabelWriting) (tx′ ix′ : List ℕ) : Type 0 where
-  pub read-number : a .number ≡ 0
-  pub write-number : w .number ≡ 0
-  pub text : take (w .text) tx′ ≡ normal r .text
-  pub indices : take (w .indices) ix′ ≡ normal r .indices
+-- a client who sends a label that is accepted with the run r, and passes it through the calls: what all buffers held before, all large enough, the two answers,
+-- and what the buffers hold afterwards
+pub record Client (r : Run) : Type 0 where
+  pub text : List ℕ
+  pub indices : List ℕ
+  pub us : List ℕ
+  pub cs : List ℕ
+  pub gs : List ℕ
+  pub tx : List ℕ
+  pub ix : List ℕ
+  pub reading : GlyphLabelReading
+  pub us′ : List ℕ
+  pub cs′ : List ℕ
+  pub gs′ : List ℕ
+  pub writing : GlyphLabelWriting
+  pub tx′ : List ℕ
+  pub ix′ : List ℕ
+  pub accepted : Accepted text indices us cs gs tx ix r
+  pub passing : Passing text indices us cs gs tx ix reading us′ cs′ gs′ writing tx′ ix′
 
+-- the text bytes that the writer gives a client: what the output holds, cut at the length that was returned
+abbrev pub textGiven : {r : Run} → Client r → List ℕ
+textGiven c = take (c .writing .text) (c .tx′)
+
+-- and the indices bytes
+abbrev pub indicesGiven : {r : Run} → Client r → List ℕ
+indicesGiven c = take (c .writing .indices) (c .ix′)
+
+-- both calls accept, the buffers hold the run, complete, and the outputs begin with its normal writing
+pub record WroteNormal (r : Run) (c : Client r) : Type 0 where
+  pub run : HoldsRun r (c .us) (c .cs) (c .gs) (c .reading) (c .us′) (c .cs′) (c .gs′)
+  pub number : c .writing .number ≡ 0
+  pub text : textGiven c ≡ normal r .text
+  pub indices : indicesGiven c ≡ normal r .indices
+
+-- the three demands, sentence by sentence
 pub record DemandPromises : Type 0 where
   -- "The lent memory holds, after a reading, either the complete run of the label or exactly what it held before"
   pub read-memory : (t i us cs gs : List ℕ) (a : GlyphLabelReading) (us′ cs′ gs′ : List ℕ) → ReadCall t i us cs gs a us′ cs′ gs′
@@ -120,18 +134,13 @@ pub record DemandPromises : Type 0 where
       → Picks glyphCounts unitCounts (λ (r : Run). length (r .glyphs)) z first end a
   pub glyphs-of : (z : Places) (first end : ℕ) (a : GlyphLabelStretch) → a ≡ stretchAnswer (pickGlyphs z first end)
       → Picks unitCounts glyphCounts (λ (r : Run). length (r .units)) z first end a
-  -- "For every two labels that document 01 accepts, whatever the lent buffers, all large enough, held before, the reader accepts both"; "these bytes are the
-  -- normal writing of document 01"
-  pub passed : (t i us cs gs tx ix : List ℕ) (r : Run) (a : GlyphLabelReading) (us′ cs′ gs′ : List ℕ) (w : GlyphLabelWriting) (tx′ ix′ : List ℕ)
-      → Accepted t i us cs gs tx ix r → Passing t i us cs gs tx ix a us′ cs′ gs′ w tx′ ix′ → WroteNormal r a w tx′ ix′
-  -- "The runs are equal exactly when the writer gives both the same text bytes and the same indices bytes": of what the outputs of both clients hold
-  pub same : (A B : Run) (aA aB : GlyphLabelReading) (wA wB : GlyphLabelWriting) (txA ixA txB ixB tA iA tB iB : List ℕ) → read tA iA ≡ ok A → read tB iB ≡ ok B
-      → WroteNormal A aA wA txA ixA → WroteNormal B aB wB txB ixB
-      → (A ≡ B) ↔ ((take (wA .text) txA ≡ take (wB .text) txB) × (take (wA .indices) ixA ≡ take (wB .indices) ixB))
-  -- "They are accepted, read back to the run they were written from, and are written back unchanged"
-  pub back : (t i : List ℕ) (r : Run) (a : GlyphLabelReading) (w : GlyphLabelWriting) (tx′ ix′ : List ℕ) → read t i ≡ ok r → WroteNormal r a w tx′ ix′
-      → read (take (w .text) tx′) (take (w .indices) ix′) ≡ ok r
-  pub again : (t i : List ℕ) (r : Run) (a b : GlyphLabelReading) (w v : GlyphLabelWriting) (tx′ ix′ us cs gs tx ix us′ cs′ gs′ tx″ ix″ : List ℕ)
-      → read t i ≡ ok r → WroteNormal r a w tx′ ix′ → Roomy r (roomOf us cs gs) → RoomyFor (normal r) (outputs tx ix)
-      → Passing (take (w .text) tx′) (take (w .indices) ix′) us cs gs tx ix b us′ cs′ gs′ v tx″ ix″
-      → (take (v .text) tx″ ≡ take (w .text) tx′) × (take (v .indices) ix″ ≡ take (w .indices) ix′)
+  -- "For every two labels that document 01 accepts, whatever the lent buffers, all large enough, held before, the reader accepts both, with the runs defined
+  -- there"; "For each of the two runs, equal or not, these bytes are the normal writing of document 01."
+  pub passed : (r : Run) (c : Client r) → WroteNormal r c
+  -- "The runs are equal exactly when the writer gives both the same text bytes and the same indices bytes."
+  pub same : (A B : Run) (x : Client A) (y : Client B) → (A ≡ B) ↔ ((textGiven x ≡ textGiven y) × (indicesGiven x ≡ indicesGiven y))
+  -- "They are accepted, read back to the run they were written from"
+  pub back : (r : Run) (c : Client r) → read (textGiven c) (indicesGiven c) ≡ ok r
+  -- "and are written back unchanged": to every client who sends what the writer gave
+  pub again : (r : Run) (c d : Client r) → d .text ≡ textGiven c → d .indices ≡ indicesGiven c
+      → (textGiven d ≡ textGiven c) × (indicesGiven d ≡ indicesGiven c)

@@ -16,6 +16,7 @@ pub record Shown (a : GlyphLabelPart) (which : ℕ) (own bytes : List ℕ) : Typ
   pub inside : a .start + a .length ≤ length own
   pub is : take (a .length) (drop (a .start) own) ≡ bytes
 
+-- the call, sentence by sentence
 pub record FaultPromises : Type 0 where
   -- "for 2 to 4 the text from that place on"
   pub of-text : (t i : List ℕ) (n p : ℕ) (a : GlyphLabelPart) → a ≡ partAnswer (faultPart t i n p) → ofText n ≡ true → p < length t

@@ -7,11 +7,10 @@ use mathlib.Core.Logic.{_↔_}
 use mathlib.Core.Bool.{false}
 use mathlib.Core.List.{List}
 use lib.ListN.{length}
-use Rattle.label.specs.Outcome.{Outcome, Check}
-use Rattle.label.specs.Calls.{filled, bufferAfter, filledCount}
+use Rattle.label.specs.Outcome.{Check}
+use Rattle.label.specs.Calls.{filled}
 use Rattle.label.specs.Statements.Memory.{refuses, GivenBy}
 use Rattle.glyph_label.specs.declared.GlyphLabelFilled.{GlyphLabelFilled}
-use Rattle.glyph_label.specs.Answers.{filledAnswer}
 
 -- "A refusal is a number and a place fixed by document 01": number and place of an answer are those of these checks
 pub record Fixed (checks : List Check) (number place : ℕ) : Type 0 where
@@ -22,12 +21,6 @@ pub record Fixed (checks : List Check) (number place : ℕ) : Type 0 where
   pub refusal : (number ≡ 0 → ⊥) → GivenBy checks number place
   -- and what the first cause that holds gives is the answer
   pub only : (n p : ℕ) → GivenBy checks n p → (number ≡ n) × (place ≡ p)
-
--- the contract of a call that comes to o and stores the places of o in one lent buffer, as bytes: its answer a, and what the buffer, which held `old`, holds
--- afterwards
-pub record FillCall {A : Type 0} (stored : List A → List ℕ) (o : Outcome (List A)) (old : List ℕ) (a : GlyphLabelFilled) (new : List ℕ) : Type 0 where
-  pub answer : a ≡ filledAnswer (filledCount o)
-  pub buffer : new ≡ bufferAfter stored o old
 
 -- such a call with these checks fills `count` places, which are these bytes
 pub record Fills (checks : List Check) (count : ℕ) (bytes old : List ℕ) (a : GlyphLabelFilled) (new : List ℕ) : Type 0 where

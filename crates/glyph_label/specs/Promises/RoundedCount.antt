@@ -5,8 +5,9 @@ use mathlib.Core.Path.{_≡_}
 use mathlib.Core.List.{List}
 use Rattle.label.specs.Requests.RoundedCount.{rounded}
 use Rattle.glyph_label.specs.declared.GlyphLabelReading.{GlyphLabelReading}
-use Rattle.glyph_label.specs.Promises.Demands.{ReadCall}
+use Rattle.glyph_label.specs.Contracts.{ReadCall}
 
+-- CR 1 of the call, sentence by sentence
 pub record RoundedPromises : Type 0 where
   -- "An accepted label returns the count of given fields that were not, beside the run; [...] a refusal as 0"
   pub accepted : (t i us cs gs : List ℕ) (a : GlyphLabelReading) (us′ cs′ gs′ : List ℕ) → ReadCall t i us cs gs a us′ cs′ gs′

@@ -14,32 +14,29 @@ use Rattle.label.specs.Checks.{read}
 use Rattle.label.specs.Wire.{fromWords}
 use Rattle.label.specs.Write.{Label}
 use Rattle.label.specs.Calls.{filled, roomOf}
-use Rattle.label.specs.Requests.Sheet.{sheetRecords, saidLabels, answers, sheetChecks, sheetInto}
+use Rattle.label.specs.Requests.Sheet.{sheetRecords, fileLabels, answers, listRoom, sheetChecks}
 use Rattle.label.specs.Statements.Demands.{allBytes}
 use Rattle.label.specs.Statements.Sheet.{sheetFile, Held, OneList, answerAt, Large}
 use Rattle.glyph_label.specs.declared.GlyphLabelReading.{GlyphLabelReading}
 use Rattle.glyph_label.specs.declared.GlyphLabelFilled.{GlyphLabelFilled}
-use Rattle.glyph_label.specs.Promises.Memory.{FillCall, Fills}
-use Rattle.glyph_label.specs.Promises.Demands.{ReadCall}
+use Rattle.glyph_label.specs.Promises.Memory.{Fills}
+use Rattle.glyph_label.specs.Contracts.{ReadCall, SheetCall}
 
--- what `glyph_label_sheet` promises of a file and an answer list: its answer, and what the list holds afterwards; a number is 4 bytes
-abbrev pub SheetCall : List ℕ → List ℕ → GlyphLabelFilled → List ℕ → Type 0
-SheetCall file old a new = FillCall fromWords (sheetInto (length old / 4) file) old a new
-
+-- CR 3 of the call, sentence by sentence
 pub record SheetPromises : Type 0 where
   -- "The lent answer list gets two numbers a label": none of 25, 26 and 27 holds and it begins with them, counted, or it is what it was
   pub fills : (file old : List ℕ) (a : GlyphLabelFilled) (new : List ℕ) → SheetCall file old a new
-      → Fills (sheetChecks (length old / 4) file) (2 * length (saidLabels file)) (fromWords (answers (saidLabels file))) old a new
+      → Fills (sheetChecks (listRoom old) file) (2 * length (fileLabels file)) (fromWords (answers (fileLabels file))) old a new
   -- "(25: mark or version wrong or cut off; 26: file ends inside a record, place the record; 27: answer list too short, place the labels in the file; in this
   -- order.)": no other refusal
   pub numbers : (file old : List ℕ) (a : GlyphLabelFilled) (new : List ℕ) → SheetCall file old a new → (a .number ≡ 0 → ⊥)
       → ((a .number ≡ 25) × (a .place ≡ 0))
       ⊎ ((a .number ≡ 26) × (a .place < length (sheetRecords file)))
-      ⊎ ((a .number ≡ 27) × (a .place ≡ length (saidLabels file)) × (length old / 4 < 2 * a .place))
+      ⊎ ((a .number ≡ 27) × (a .place ≡ length (fileLabels file)) × (listRoom old < 2 * a .place))
   -- "for every list of labels in such a file": number 0 exactly when the file is that of one list of labels and the answer list has two places a label; then
   -- it begins with their answers
   pub accepts : (file old : List ℕ) (a : GlyphLabelFilled) (new : List ℕ) → allBytes file ≡ true → SheetCall file old a new
-      → (a .number ≡ 0) ↔ ((ls : List Label) × OneList file ls × (2 * length ls ≤ length old / 4))
+      → (a .number ≡ 0) ↔ ((ls : List Label) × OneList file ls × (2 * length ls ≤ listRoom old))
   pub lists : (ls : List Label) (old : List ℕ) (a : GlyphLabelFilled) (new : List ℕ) → Held ls old → SheetCall (sheetFile ls) old a new
       → (a .number ≡ 0) × (a .filled ≡ 2 * length ls) × (new ≡ filled (fromWords (answers ls)) old)
   -- "They equal those of single readings with large buffers, [...] at every position": number and place of every answer that `glyph_label_read` gives

@@ -20,7 +20,7 @@ use Rattle.label.specs.Wire.{fromHalves, fourBytes, fromWords}
 use Rattle.label.specs.Fetched.{words}
 use Rattle.label.specs.Write.{Label}
 use Rattle.label.specs.Calls.{filledCount, bufferAfter, numbersAfter, readInto}
-use Rattle.label.specs.Requests.Sheet.{header, saidLabels, labelsOf, answerOf, answer, answers, sheetChecks, sheetInto}
+use Rattle.label.specs.Requests.Sheet.{header, fileLabels, labelsOf, answerOf, answer, answers, sheetChecks, sheetInto}
 use Rattle.label.specs.Statements.Sheet.{recordBytes, recordsBytes, sheetFile, fitsFile}
 use Rattle.label.specs.Statements.Memory.{filledAll, Kept}
 use Rattle.label.specs.Statements.Demands.{allBytes}
@@ -109,13 +109,13 @@ accepts room file list h = (
 
 fixed : (room : ℕ) (file : List ℕ) (n p : ℕ) → (sheetInto room file ≡ no n p) ↔ GivenBy (sheetChecks room file) n p
 unfolding sheetInto
-fixed room file n p = given-is (sheetChecks room file) n p (answers (saidLabels file))
+fixed room file n p = given-is (sheetChecks room file) n p (answers (fileLabels file))
 
 memory : (file old : List ℕ)
-    → Kept (sheetChecks (length old / 4) file) (answers (saidLabels file)) (λ zs. fromWords zs ∷ []) (sheetInto (length old / 4) file) (old ∷ [])
+    → Kept (sheetChecks (length old / 4) file) (answers (fileLabels file)) (λ zs. fromWords zs ∷ []) (sheetInto (length old / 4) file) (old ∷ [])
     (numbersAfter (sheetInto (length old / 4) file) old ∷ [])
 unfolding sheetInto filledAll
-memory file old = kept (sheetChecks (length old / 4) file) (answers (saidLabels file)) (λ zs. fromWords zs ∷ []) (old ∷ []) (λ o. numbersAfter o old ∷ []) refl
+memory file old = kept (sheetChecks (length old / 4) file) (answers (fileLabels file)) (λ zs. fromWords zs ∷ []) (old ∷ []) (λ o. numbersAfter o old ∷ []) refl
     (λ n p. refl)
 
 -- ── the answer at a place ──

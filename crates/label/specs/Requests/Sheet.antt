@@ -1,6 +1,6 @@
 -- Document 02, CR 3: a sheet's labels in one file, and the answers to them. The numbers and the places of the labels themselves are those of `read`.
 -- Assumes nothing.
-use Prim.Native.Nat.{ℕ, _*_, _+_, _-_}
+use Prim.Native.Nat.{ℕ, _*_, _+_, _-_, _/_}
 use mathlib.Core.Bool.{Bool, not}
 use mathlib.Core.List.{List, [], _++_, _∷_}
 use lib.Dec.{leb}
@@ -56,8 +56,8 @@ abbrev pub sheetRecords : List ℕ → List Piece
 sheetRecords file = pieces recordMore 0 0 (drop 5 file)
 
 -- their labels
-abbrev pub saidLabels : List ℕ → List Label
-saidLabels file = each recordLabels (sheetRecords file)
+abbrev pub fileLabels : List ℕ → List Label
+fileLabels file = each recordLabels (sheetRecords file)
 
 -- "25: mark or version wrong or cut off", then 26 of each record
 abbrev pub fileChecks : List ℕ → List Check
@@ -65,7 +65,7 @@ fileChecks file = check (not (begins header file)) 25 0 ∷ eachNumbered recordC
 
 -- the labels of a file
 unfoldable pub labelsOf : List ℕ → Outcome (List Label)
-labelsOf file = verdict (fileChecks file) >> ok (saidLabels file)
+labelsOf file = verdict (fileChecks file) >> ok (fileLabels file)
 
 -- ── the answers ──
 
@@ -84,11 +84,14 @@ unfoldable pub answers : List Label → List ℤ
 answers [] = []
 answers (l ∷ ls) = answer l ++ answers ls
 
--- 25, 26, then "27: answer list too short, place the labels in the file": a list of `room` numbers. From C, "left-over bytes at a list's end hold none": n
--- bytes are n / 4 numbers.
+-- "From C, numbers in this and later lists are a run's 4 bytes [...], and left-over bytes at a list's end hold none": how many numbers a list of bytes holds
+abbrev pub listRoom : List ℕ → ℕ
+listRoom list = length list / 4
+
+-- 25, 26, then "27: answer list too short, place the labels in the file": a list with room for so many numbers
 unfoldable pub sheetChecks : ℕ → List ℕ → List Check
-sheetChecks room file = fileChecks file ++ (check (above (2 * length (saidLabels file)) room) 27 (length (saidLabels file)) ∷ [])
+sheetChecks room file = fileChecks file ++ (check (above (2 * length (fileLabels file)) room) 27 (length (fileLabels file)) ∷ [])
 
 -- "The lent answer list gets two numbers a label": the call
 unfoldable pub sheetInto : ℕ → List ℕ → Outcome (List ℤ)
-sheetInto room file = verdict (sheetChecks room file) >> ok (answers (saidLabels file))
+sheetInto room file = verdict (sheetChecks room file) >> ok (answers (fileLabels file))

@@ -122,6 +122,7 @@ resolvings = (refl, refl, refl, refl, refl)
 abbrev quoted : Places
 quoted = handed (123 ∷ 34 ∷ 9 ∷ []) (pos 1 ∷ pos 1 ∷ pos 1 ∷ pos 1 ∷ pos 1 ∷ pos 1 ∷ []) (plain 5 (font (font [])))
 
+-- its writing escaped, and 20 and 21 of it
 pub escapings : (writeAsked true (sizes 13 1) quoted ≡ label (ascii "{}{&quot;&#9;") (ascii "5"))
     × (lengths (writeAsked true (sizes 12 1) quoted) ≡ no 20 13)
     × (lengths (writeAsked true (sizes 13 0) quoted) ≡ no 21 1)

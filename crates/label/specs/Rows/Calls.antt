@@ -152,6 +152,7 @@ unfolding ascii split cut allDigits valueFrom joinRest join trim decimalFrom dec
     walkParts saidRun runChecks labelChecks read readInto flatClusters flatGlyphs fromHalves fromWords readChecks
 byte-readings = (refl, refl, refl, refl, refl, refl, refl)
 
+-- a writing from bytes: accepted, 20, 21; a byte left over in any buffer is 19
 pub byte-writings : (lengths (writeInto (sizes 1 5) (places (65 ∷ 0 ∷ []) clusterBytes glyphBytes)) ≡ ok (record { text = 1; indices = 5 }))
     × (lengths (writeInto (sizes 0 4) (places (65 ∷ 0 ∷ []) clusterBytes glyphBytes)) ≡ no 20 1)
     × (lengths (writeInto (sizes 1 4) (places (65 ∷ 0 ∷ []) clusterBytes glyphBytes)) ≡ no 21 5)

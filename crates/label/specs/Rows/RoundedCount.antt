@@ -59,6 +59,7 @@ same-run = refl
 abbrev finer : List ℕ
 finer = ascii "5,.0005"
 
+-- the count beside a refusal of each buffer, and beside an accepted label
 pub byte-counts : (beside (rounded finer) (readInto (buffers 1 8 16) (ascii "A") finer) ≡ 0)
     × (beside (rounded finer) (readInto (buffers 2 7 16) (ascii "A") finer) ≡ 0)
     × (beside (rounded finer) (readInto (buffers 2 8 15) (ascii "A") finer) ≡ 0) × (beside (rounded finer) (readInto (buffers 2 8 16) (ascii "A") finer) ≡ 1)

@@ -103,6 +103,7 @@ sheet-files = (refl, refl)
 abbrev far : List ℕ
 far = 83 ∷ 76 ∷ 66 ∷ 1 ∷ 0 ∷ 0 ∷ 0 ∷ 0 ∷ 0 ∷ 0 ∷ 0 ∷ 45 ∷ 1 ∷ 0 ∷ 0 ∷ 0 ∷ 0 ∷ replicate 300 65 ++ (255 ∷ [])
 
+-- its answers in lists that are long enough, and too short by a byte
 pub sheet-bytes : (filledCount (sheetInto 4 far) ≡ ok 4) × (filledCount (sheetInto 3 far) ≡ no 27 2)
     × (numbersAfter (sheetInto (21 / 4) far) (replicate 21 7) ≡ 6 ∷ 0 ∷ 0 ∷ 0 ∷ 0 ∷ 0 ∷ 0 ∷ 0 ∷ 2 ∷ 0 ∷ 0 ∷ 0 ∷ 44 ∷ 1 ∷ 0 ∷ 0 ∷ replicate 5 7)
     × (numbersAfter (sheetInto (15 / 4) far) (replicate 15 7) ≡ replicate 15 7)

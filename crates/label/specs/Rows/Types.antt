@@ -26,6 +26,7 @@ pub data Said : Type 0 where
   accepted : Run → Label → Said
   refused : ℕ → ℕ → Said
 
+-- what a reading says, with the normal writing of its run
 abbrev pub said : Outcome Run → Said
 said (ok r) = accepted r (normal r)
 said (no n p) = refused n p
@@ -48,6 +49,7 @@ reads us cs gs t i = accepted (record { units = us; clusters = cs; glyphs = gs }
 abbrev pub glyph : ℕ → Glyph
 glyph n = record { index = Named n; advance = Own; u = pos 0; v = pos 0 }
 
+-- a glyph with index n and advance a
 abbrev pub advanced : ℕ → ℕ → Glyph
 advanced n a = record { index = Named n; advance = Given a; u = pos 0; v = pos 0 }
 
@@ -59,6 +61,7 @@ one = cluster 1 1
 abbrev pub grin : List ℕ
 grin = 0xf0 ∷ 0x9f ∷ 0x98 ∷ 0x80 ∷ []
 
+-- the units of U+1F600 before others
 abbrev pub grins : List ℕ → List ℕ
 grins us = 0xd83d ∷ 0xde00 ∷ us
 
@@ -88,6 +91,7 @@ pub record EscapeRow : Type 0 where
   pub bytes : List ℕ
   pub escaped : List ℕ
 
+-- such a row
 abbrev pub escapeRow : List ℕ → List ℕ → EscapeRow
 escapeRow s e = record { bytes = s; escaped = e }
 
@@ -115,10 +119,11 @@ sizes t i = record { text = t; indices = i }
 abbrev pub plain : ℕ → List ℤ → List ℤ
 plain n zs = pos n ∷ negsuc 0 ∷ pos 0 ∷ pos 0 ∷ zs
 
+-- the numbers of a glyph wholly the font's before others
 abbrev pub font : List ℤ → List ℤ
 font zs = negsuc 0 ∷ negsuc 0 ∷ pos 0 ∷ pos 0 ∷ zs
 
--- U+1F600: its units, and its bytes
+-- the units of U+1F600
 abbrev pub pair : List ℕ
 pair = 0xd83d ∷ 0xde00 ∷ []
 
@@ -160,9 +165,10 @@ shown n p x = record { number = n; place = p; shows = x }
 abbrev pub buffers : ℕ → ℕ → ℕ → Counts
 buffers u c g = roomOf (replicate u 0) (replicate c 0) (replicate g 0)
 
--- a run's bytes: low byte first; a byte left over in any of the three is 19
+-- the bytes of one glyph, low byte first: 5, the font's own advance, −1,000 and 0
 abbrev pub glyphBytes : List ℕ
 glyphBytes = 5 ∷ 0 ∷ 0 ∷ 0 ∷ 255 ∷ 255 ∷ 255 ∷ 255 ∷ 24 ∷ 252 ∷ 255 ∷ 255 ∷ 0 ∷ 0 ∷ 0 ∷ 0 ∷ []
 
+-- the bytes of a cluster 1:1
 abbrev pub clusterBytes : List ℕ
 clusterBytes = 1 ∷ 0 ∷ 0 ∷ 0 ∷ 1 ∷ 0 ∷ 0 ∷ 0 ∷ []

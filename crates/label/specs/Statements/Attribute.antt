@@ -79,12 +79,13 @@ pub record Restoring : Type 0 where
   pub written-as : (asked : Bool) (z : Places) (l : Label) (room : Lengths) (w : Readable z) → writeAsked asked room z ≡ ok l
       → l ≡ askedFor asked (normal (w .run))
   -- "23: bad reference or raw `<`, place the first byte of the first; 24: lent buffer too short, place the bytes needed": given exactly when its cause holds
-  -- and no earlier one does; so are 19, 20 and 21 of the writer, asked or not
+  -- and no earlier one does
   pub fixed : (room : ℕ) (raw : List ℕ) (n p : ℕ) → (resolveInto room raw ≡ no n p) ↔ GivenBy (resolveChecks room raw) n p
   -- "text before indices [...], and the reading is of what comes out"
   pub raw-is : (room : Lengths) (text indices : List ℕ)
       → readRaw room text indices ≡ (resolveInto (room .text) text >>= (λ t. resolveInto (room .indices) indices >>= (λ i. read t i)))
   pub raw-fixed : (room : Lengths) (text indices : List ℕ) (n p : ℕ) → (readRaw room text indices ≡ no n p) ↔ GivenBy (rawLabelChecks room text indices) n p
+  -- so are 19, 20 and 21 of the writer, asked or not
   pub writer-fixed : (asked : Bool) (room : Lengths) (z : Places) (n p : ℕ) → (writeAsked asked room z ≡ no n p) ↔ GivenBy (writeChecks asked room z) n p
   -- "a call that fills a lent list or buffer returns how many places it filled"
   pub count : (room : ℕ) (raw s : List ℕ) → resolveInto room raw ≡ ok s → filledCount (resolveInto room raw) ≡ ok (length s)

@@ -174,7 +174,7 @@ pub record Demand2 : Type 0 where
 
 -- ── demand 3 ──
 
--- the places that a reading filled: the buffers themselves, cut at the counts that the reader returned
+-- the places that a reading of the run r filled: the buffers themselves, cut at the counts of r, which are those that the reader returns (`Passed.counts-are`)
 abbrev pub handedOn : Run → Outcome Run → List ℕ → List ℕ → List ℕ → Places
 handedOn r o us cs gs =
     places (take (2 * length (r .units)) (unitsAfter o us)) (take (8 * length (r .clusters)) (clustersAfter o cs))
@@ -184,7 +184,7 @@ handedOn r o us cs gs =
 abbrev pub passedOn : Run → List ℕ → List ℕ → List ℕ → List ℕ → List ℕ → Lengths → Outcome Label
 passedOn r t i us cs gs room = writeInto room (handedOn r (readInto (roomOf us cs gs) t i) us cs gs)
 
--- the text bytes that a writing of the run r with outcome w leaves in its output
+-- the text bytes that a writing of the run r with outcome w leaves in its output, cut at the length that the writer returns (`Wrote.lengths-are`)
 abbrev pub textWritten : Run → Outcome Label → List ℕ → List ℕ
 textWritten r w tx = take (length (normal r .text)) (textAfter w tx)
 

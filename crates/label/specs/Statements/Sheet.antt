@@ -1,7 +1,7 @@
 -- Document 02, CR 3: what a sheet's answers promise, stated on the definitions that the contracts of the calls cite: a record whose fields are its
 -- sentences. proofs/Statements/Sheet.antt has a value of it.
 -- Assumes nothing.
-use Prim.Native.Nat.{suc, ℕ, _*_, _+_, _/_, _≤_}
+use Prim.Native.Nat.{suc, ℕ, _*_, _+_, _≤_}
 use mathlib.Core.Path.{_≡_}
 use mathlib.Core.Logic.{_↔_}
 use mathlib.Core.Bool.{Bool, true, _&&_}
@@ -18,7 +18,7 @@ use Rattle.label.specs.Fetched.{words}
 use Rattle.label.specs.Write.{Label}
 use Rattle.label.specs.Statements.Memory.{GivenBy, Kept}
 use Rattle.label.specs.Calls.{filledCount, numbersAfter, readInto}
-use Rattle.label.specs.Requests.Sheet.{header, saidLabels, labelsOf, answerOf, answer, answers, sheetChecks, sheetInto}
+use Rattle.label.specs.Requests.Sheet.{header, listRoom, fileLabels, labelsOf, answerOf, answer, answers, sheetChecks, sheetInto}
 use Rattle.label.specs.Statements.Demands.{Roomy, allBytes}
 use Rattle.label.specs.declared.Counts.{Counts}
 
@@ -51,7 +51,7 @@ ofBytes (l ∷ ls) = allBytes (l .text) && allBytes (l .indices) && ofBytes ls
 
 -- a file can hold these labels, and an answer list that held `old` their answers, two numbers each; a number is 4 bytes
 abbrev pub Held : List Label → List ℕ → Type 0
-Held ls old = (fitsFile ls ≡ true) × (2 * length ls ≤ length old / 4)
+Held ls old = (fitsFile ls ≡ true) × (2 * length ls ≤ listRoom old)
 
 -- the file is that of these labels, which fit it, and of no others: the bytes of exactly one list of labels
 pub record OneList (file : List ℕ) (ls : List Label) : Type 0 where
@@ -61,7 +61,7 @@ pub record OneList (file : List ℕ) (ls : List Label) : Type 0 where
 
 -- the answer list that held `old`, after the call on the file of these labels
 abbrev pub answered : List Label → List ℕ → List ℕ
-answered ls old = numbersAfter (sheetInto (length old / 4) (sheetFile ls)) old
+answered ls old = numbersAfter (sheetInto (listRoom old) (sheetFile ls)) old
 
 -- the two numbers of label k in an answer list
 abbrev pub answerAt : ℕ → List ℕ → List ℤ
@@ -103,5 +103,5 @@ pub record Answering : Type 0 where
       → (ls : List Label) × (labelsOf file ≡ ok ls) × (filledCount (sheetInto room file) ≡ ok (2 * length ls))
   -- "and places behind them stay"; every refusal changes no lent place
   pub memory : (file old : List ℕ)
-      → Kept (sheetChecks (length old / 4) file) (answers (saidLabels file)) (λ zs. fromWords zs ∷ []) (sheetInto (length old / 4) file) (old ∷ [])
-      (numbersAfter (sheetInto (length old / 4) file) old ∷ [])
+      → Kept (sheetChecks (listRoom old) file) (answers (fileLabels file)) (λ zs. fromWords zs ∷ []) (sheetInto (listRoom old) file) (old ∷ [])
+      (numbersAfter (sheetInto (listRoom old) file) old ∷ [])
