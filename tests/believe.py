@@ -1,5 +1,5 @@
 #!/usr/bin/env python3
-"""Counts the lines of crates/label/specs that a reader must believe.
+"""Counts the lines of crates/label/specs that a reader must believe, and those of crates/glyph_label/specs for the calls for C.
 
   believe.py
 
@@ -12,6 +12,7 @@ import os, re, sys
 
 ROOT = os.path.dirname(os.path.dirname(os.path.abspath(__file__)))
 SPECS = os.path.join(ROOT, 'crates', 'label', 'specs')
+FOR_C = os.path.join(ROOT, 'crates', 'glyph_label', 'specs')
 MARKS = ('believe', 'proved equal', 'statement', 'computed')
 
 
@@ -52,6 +53,8 @@ def main():
     if unmarked:
         sys.exit('believe: no mark in a table of contents: ' + ' '.join(unmarked))
     print('believe: ' + ', '.join(f'{totals[mark]} lines {mark}' for mark in MARKS))
+    for_c = sum(code_lines(os.path.join(FOR_C, name)) for name in ('Answers.antt', 'Contracts.antt'))
+    print(f'believe: {for_c} lines more for the calls for C, in Answers and Contracts of glyph_label')
 
 
 if __name__ == '__main__':
