@@ -82,8 +82,6 @@ def rewrite(block, places):
     chain = places.needs.get(need) if need else places.chain(record)
     if not chain:
         return block
-    if need and re.fullmatch(re.escape(chain[0]) + r'-requires(-\d+)?', need):
-        chain = chain[1:]
     known = names_of(chain + ['start'])
     start = re.search(r'^' + re.escape(name) + r' c\b[^=\n]*=', block, re.M)
     if not start:
