@@ -53,7 +53,8 @@ pub struct TwoLines {
 pub fn two_lines(s: &[u8], at: usize) -> TwoLines
     requires { ⌜ at ≤ length (now s) ⌝ }
     ensures { λ r. ⌜ r ≡ twoLines (now (s .entry)) at ⌝ }
-    ensures bounds { λ r. ⌜ (at ≤ r .«text_end») × (r .«text_end» ≤ length (now (s .entry))) × (r .start ≤ r .end) × (r .end ≤ length (now (s .entry))) × (r .next ≤ length (now (s .entry))) × (at < length (now (s .entry)) → at < r .next) ⌝ }
+    ensures bounds { λ r. ⌜ (let n = length (now (s .entry)) in
+        (at ≤ r .«text_end») × (r .«text_end» ≤ n) × (r .start ≤ r .end) × (r .end ≤ n) × (r .next ≤ n) × (at < n → at < r .next)) ⌝ }
 {
     let text_end = line_end(s, at);
     let start = next_line(s, text_end);
@@ -87,9 +88,12 @@ fn write_places(
     second: &mut [u8],
 ) -> Relabelling
     requires { ⌜ (2 * n .units ≤ length (now units)) × (8 * n .clusters ≤ length (now clusters)) × (16 * n .glyphs ≤ length (now glyphs)) ⌝ }
-    ensures result { λ r. ⌜ relabelOutcome r ≡ answered n (lengths (placesWritten n (now (units .entry)) (now (clusters .entry)) (now (glyphs .entry)) (outputs (now (first .entry)) (now (second .entry))))) ⌝ }
-    ensures text { λ _. ⌜ now (first .exit) ≡ textAfter (placesWritten n (now (units .entry)) (now (clusters .entry)) (now (glyphs .entry)) (outputs (now (first .entry)) (now (second .entry)))) (now (first .entry)) ⌝ }
-    ensures indices { λ _. ⌜ now (second .exit) ≡ indicesAfter (placesWritten n (now (units .entry)) (now (clusters .entry)) (now (glyphs .entry)) (outputs (now (first .entry)) (now (second .entry)))) (now (second .entry)) ⌝ }
+    ensures result { λ r. ⌜ (let room = outputs (now (first .entry)) (now (second .entry)) in
+        relabelOutcome r ≡ answered n (lengths (placesWritten n (now (units .entry)) (now (clusters .entry)) (now (glyphs .entry)) room))) ⌝ }
+    ensures text { λ _. ⌜ (let room = outputs (now (first .entry)) (now (second .entry)) in
+        now (first .exit) ≡ textAfter (placesWritten n (now (units .entry)) (now (clusters .entry)) (now (glyphs .entry)) room) (now (first .entry))) ⌝ }
+    ensures indices { λ _. ⌜ (let room = outputs (now (first .entry)) (now (second .entry)) in
+        now (second .exit) ≡ indicesAfter (placesWritten n (now (units .entry)) (now (clusters .entry)) (now (glyphs .entry)) room) (now (second .entry))) ⌝ }
 {
     let u = 2 * n.units;
     let c = 8 * n.clusters;

@@ -75,7 +75,8 @@ fn tail_units(units: &[u8], j: usize) -> usize
 
 // The tail of these units, from cluster n and glyph k on.
 fn fill_tail(units: &[u8], n: usize, k: usize, clusters: &mut [u8], glyphs: &mut [u8])
-    requires { ⌜ (8 * (n + length (tail (halves (now units)) .clusters)) ≤ length (now clusters)) × (16 * (k + length (tail (halves (now units)) .glyphs)) ≤ length (now glyphs)) ⌝ }
+    requires { ⌜ (let t = tail (halves (now units)) in
+        (8 * (n + length (t .clusters)) ≤ length (now clusters)) × (16 * (k + length (t .glyphs)) ≤ length (now glyphs))) ⌝ }
     ensures { λ _. ⌜ now (clusters .exit) ≡ sets (now (clusters .entry)) (8 * n) (clusterBytes (tail (halves (now (units .entry))) .clusters)) ⌝ }
     ensures { λ _. ⌜ now (glyphs .exit) ≡ sets (now (glyphs .entry)) (16 * k) (glyphBytes (tail (halves (now (units .entry))) .glyphs)) ⌝ }
 {
@@ -122,7 +123,8 @@ fn put_entry(
 ) -> label::Cursor
     requires { ⌜ Storable count at x (length (now clusters)) (length (now glyphs)) ⌝ }
     ensures { λ r. ⌜ r ≡ advanced at 0 (takenBy count (at .lack) (x .units)) (x .glyphs) (at .place + x .used + 1) ⌝ }
-    ensures clusters { λ _. ⌜ now (clusters .exit) ≡ sets (now (clusters .entry)) (8 * at .clusters) (clusterBytes (openedHere (at .lack) (takenBy count (at .lack) (x .units)) (x .glyphs))) ⌝ }
+    ensures clusters { λ _. ⌜ (let a = takenBy count (at .lack) (x .units) in
+        now (clusters .exit) ≡ sets (now (clusters .entry)) (8 * at .clusters) (clusterBytes (openedHere (at .lack) a (x .glyphs)))) ⌝ }
     ensures glyphs { λ _. ⌜ now (glyphs .exit) ≡ sets (now (glyphs .entry)) (16 * at .entry) (glyphPlaces (x .glyph)) ⌝ }
 {
     let a = taken(count, at.lack, x.units);
@@ -181,11 +183,16 @@ pub fn read(
     clusters: &mut [u8],
     glyphs: &mut [u8],
 ) -> label::Reading
-    ensures result { λ r. ⌜ readingOutcome r ≡ counted (readInto (roomOf (now (units .entry)) (now (clusters .entry)) (now (glyphs .entry))) (now (text .entry)) (now (indices .entry))) ⌝ }
-    ensures rounded { λ r. ⌜ readingRounded r ≡ beside (roundedIn (now (indices .entry))) (readInto (roomOf (now (units .entry)) (now (clusters .entry)) (now (glyphs .entry))) (now (text .entry)) (now (indices .entry))) ⌝ }
-    ensures units { λ _. ⌜ now (units .exit) ≡ unitsAfter (readInto (roomOf (now (units .entry)) (now (clusters .entry)) (now (glyphs .entry))) (now (text .entry)) (now (indices .entry))) (now (units .entry)) ⌝ }
-    ensures clusters { λ _. ⌜ now (clusters .exit) ≡ clustersAfter (readInto (roomOf (now (units .entry)) (now (clusters .entry)) (now (glyphs .entry))) (now (text .entry)) (now (indices .entry))) (now (clusters .entry)) ⌝ }
-    ensures glyphs { λ _. ⌜ now (glyphs .exit) ≡ glyphsAfter (readInto (roomOf (now (units .entry)) (now (clusters .entry)) (now (glyphs .entry))) (now (text .entry)) (now (indices .entry))) (now (glyphs .entry)) ⌝ }
+    ensures result { λ r. ⌜ (let room = roomOf (now (units .entry)) (now (clusters .entry)) (now (glyphs .entry)) in
+        readingOutcome r ≡ counted (readInto room (now (text .entry)) (now (indices .entry)))) ⌝ }
+    ensures rounded { λ r. ⌜ (let room = roomOf (now (units .entry)) (now (clusters .entry)) (now (glyphs .entry)) in
+        readingRounded r ≡ beside (roundedIn (now (indices .entry))) (readInto room (now (text .entry)) (now (indices .entry)))) ⌝ }
+    ensures units { λ _. ⌜ (let room = roomOf (now (units .entry)) (now (clusters .entry)) (now (glyphs .entry)) in
+        now (units .exit) ≡ unitsAfter (readInto room (now (text .entry)) (now (indices .entry))) (now (units .entry))) ⌝ }
+    ensures clusters { λ _. ⌜ (let room = roomOf (now (units .entry)) (now (clusters .entry)) (now (glyphs .entry)) in
+        now (clusters .exit) ≡ clustersAfter (readInto room (now (text .entry)) (now (indices .entry))) (now (clusters .entry))) ⌝ }
+    ensures glyphs { λ _. ⌜ (let room = roomOf (now (units .entry)) (now (clusters .entry)) (now (glyphs .entry)) in
+        now (glyphs .exit) ≡ glyphsAfter (readInto room (now (text .entry)) (now (indices .entry))) (now (glyphs .entry))) ⌝ }
 {
     let found = survey::survey(text, indices);
     let reading = found.reading;

@@ -103,8 +103,10 @@ fn decide(units: &[u8], clusters: &[u8], glyphs: &[u8], room: usize) -> Plan
 
 // Lists the glyphs of a run in `out`: 19 where the run is not sound, 18 where `out` is too short. The records behind stay, and a refusal changes none.
 pub fn list_records(units: &[u8], clusters: &[u8], glyphs: &[u8], out: &mut [Glyph]) -> Filling
-    ensures result { λ r. ⌜ fillingOutcome r ≡ filledCount (listInto (length (now (out .entry))) (places (now (units .entry)) (now (clusters .entry)) (now (glyphs .entry)))) ⌝ }
-    ensures records { λ r. ⌜ now (out .exit) ≡ filledAfter (listInto (length (now (out .entry))) (places (now (units .entry)) (now (clusters .entry)) (now (glyphs .entry)))) (now (out .entry)) ⌝ }
+    ensures result { λ r. ⌜ (let p = places (now (units .entry)) (now (clusters .entry)) (now (glyphs .entry)) in
+        fillingOutcome r ≡ filledCount (listInto (length (now (out .entry))) p)) ⌝ }
+    ensures records { λ r. ⌜ (let p = places (now (units .entry)) (now (clusters .entry)) (now (glyphs .entry)) in
+        now (out .exit) ≡ filledAfter (listInto (length (now (out .entry))) p) (now (out .entry))) ⌝ }
 {
     let plan = decide(units, clusters, glyphs, out.len());
     fill(out, glyphs, plan.count);
@@ -119,8 +121,10 @@ pub struct Four {
 
 // The same with four records that are passed by value and handed back.
 pub fn list_four(units: &[u8], clusters: &[u8], glyphs: &[u8], records: [Glyph; 4]) -> Four
-    ensures result { λ r. ⌜ fillingOutcome (r .answer) ≡ filledCount (listInto 4 (places (now (units .entry)) (now (clusters .entry)) (now (glyphs .entry)))) ⌝ }
-    ensures records { λ r. ⌜ r .records ≡ filledAfter (listInto 4 (places (now (units .entry)) (now (clusters .entry)) (now (glyphs .entry)))) records ⌝ }
+    ensures result { λ r. ⌜ (let p = places (now (units .entry)) (now (clusters .entry)) (now (glyphs .entry)) in
+        fillingOutcome (r .answer) ≡ filledCount (listInto 4 p)) ⌝ }
+    ensures records { λ r. ⌜ (let p = places (now (units .entry)) (now (clusters .entry)) (now (glyphs .entry)) in
+        r .records ≡ filledAfter (listInto 4 p) records) ⌝ }
 {
     let mut out = records;
     let answer = list_records(units, clusters, glyphs, &mut out);

@@ -58,10 +58,11 @@ advanced c b units glyphs i =
 -- what 12 and 13 come to for an entry that opens a cluster of a units and b glyphs
 unfoldable pub Opens : List ℕ → Cursor → ℕ → ℕ → ℕ → Turn → Type 0
 Opens text c a b i (Took d n) =
-    (leb a (length (unitsFrom text (c .byte))) ≡ true) × (keepsPair a (unitsFrom text (c .byte)) ≡ true) × (d ≡ advanced c (d .byte) a b i)
-    × (decode 0 (d .byte) (drop (d .byte) text) ≡ ok (drop a (unitsFrom text (c .byte))))
+    let us = unitsFrom text (c .byte) in
+    (leb a (length us) ≡ true) × (keepsPair a us ≡ true) × (d ≡ advanced c (d .byte) a b i) × (decode 0 (d .byte) (drop (d .byte) text) ≡ ok (drop a us))
 Opens text c a b i (Stopped r) =
-    (need (leb a (length (unitsFrom text (c .byte)))) 12 (c .entry) >> need (keepsPair a (unitsFrom text (c .byte))) 13 (c .unit + a)) ≡ no (r .number) (r .place)
+    let us = unitsFrom text (c .byte) in
+    (need (leb a (length us)) 12 (c .entry) >> need (keepsPair a us) 13 (c .unit + a)) ≡ no (r .number) (r .place)
 
 -- what an entry's checks 10 to 13 come to: the cursor behind it, from whose byte on the units not used yet stand, or the refusal
 unfoldable pub Turns : Bool → List ℕ → Cursor → Item → Turn → Type 0

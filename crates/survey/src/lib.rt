@@ -107,7 +107,8 @@ fn opens_here(bare: bool, c: label::Cursor) -> bool
 // An entry's checks 10 to 13, where the walk stands.
 fn take_entry(text: &[u8], bare: bool, c: label::Cursor, x: entry::Item) -> Turn
     requires { ⌜ decode 0 (c .byte) (drop (c .byte) (now text)) ≡ ok (unitsFrom (now text) (c .byte)) ⌝ }
-    requires bounds { ⌜ (c .unit + length (unitsFrom (now text) (c .byte)) ≤ maxUnits) × (c .entry ≤ maxIndicesBytes) × (c .clusters ≤ c .entry) × (c .place + x .used ≤ maxIndicesBytes) ⌝ }
+    requires bounds { ⌜ (c .unit + length (unitsFrom (now text) (c .byte)) ≤ maxUnits) × (c .entry ≤ maxIndicesBytes) × (c .clusters ≤ c .entry)
+        × (c .place + x .used ≤ maxIndicesBytes) ⌝ }
     ensures { λ r. ⌜ Turns bare (now (text .entry)) c x r ⌝ }
     ensures rounded { λ r. ⌜ Carries (x .rounded) r ⌝ }
 {
@@ -134,7 +135,8 @@ fn take_entry(text: &[u8], bare: bool, c: label::Cursor, x: entry::Item) -> Turn
 // The entry where the walk stands: 7 to 13. An index alone at a character of U+0020 to U+007F, where a cluster may open, is taken without more reading.
 fn survey_entry(text: &[u8], indices: &[u8], bare: bool, c: label::Cursor) -> Turn
     requires { ⌜ decode 0 (c .byte) (drop (c .byte) (now text)) ≡ ok (unitsFrom (now text) (c .byte)) ⌝ }
-    requires bounds { ⌜ (c .unit + length (unitsFrom (now text) (c .byte)) ≤ maxUnits) × (c .entry ≤ c .place) × (c .clusters ≤ c .entry) × (c .place ≤ length (now indices)) × (length (now indices) ≤ maxIndicesBytes) ⌝ }
+    requires bounds { ⌜ (c .unit + length (unitsFrom (now text) (c .byte)) ≤ maxUnits) × (c .entry ≤ c .place) × (c .clusters ≤ c .entry)
+        × (c .place ≤ length (now indices)) × (length (now indices) ≤ maxIndicesBytes) ⌝ }
     ensures { λ r. ⌜ Steps bare (now (text .entry)) (now (indices .entry)) c r ⌝ }
 {
     let place = c.place;
@@ -207,7 +209,8 @@ fn limit(units: usize, clusters: usize, glyphs: usize, rounded: usize) -> label:
 // The tail behind the entries, of a text of `count` units: 15. It gives no fields, so the count of rounded ones is that of the entries.
 fn survey_tail(text: &[u8], count: usize, c: label::Cursor, rounded: usize) -> label::Reading
     requires { ⌜ decode 0 (c .byte) (drop (c .byte) (now text)) ≡ ok (unitsFrom (now text) (c .byte)) ⌝ }
-    requires bounds { ⌜ (c .unit + length (unitsFrom (now text) (c .byte)) ≡ count) × (count ≤ maxUnits) × (c .entry ≤ maxIndicesBytes + 1) × (c .clusters ≤ c .entry) ⌝ }
+    requires bounds { ⌜ (c .unit + length (unitsFrom (now text) (c .byte)) ≡ count) × (count ≤ maxUnits)
+        × (c .entry ≤ maxIndicesBytes + 1) × (c .clusters ≤ c .entry) ⌝ }
     ensures { λ r. ⌜ readingOutcome r ≡ countedFrom count (c .clusters) (c .entry) (ok (tail (unitsFrom (now (text .entry)) (c .byte)))) ⌝ }
     ensures rounded { λ r. ⌜ readingRounded r ≡ beside rounded (readingOutcome r) ⌝ }
 {

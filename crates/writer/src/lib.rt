@@ -122,9 +122,12 @@ pub fn write_as(
     text: &mut [u8],
     indices: &mut [u8],
 ) -> Writing
-    ensures result { λ r. ⌜ writingOutcome r ≡ lengths (writeAsked escape (outputs (now (text .entry)) (now (indices .entry))) (places (now (units .entry)) (now (clusters .entry)) (now (glyphs .entry)))) ⌝ }
-    ensures text { λ r. ⌜ now (text .exit) ≡ textAfter (writeAsked escape (outputs (now (text .entry)) (now (indices .entry))) (places (now (units .entry)) (now (clusters .entry)) (now (glyphs .entry)))) (now (text .entry)) ⌝ }
-    ensures indices { λ r. ⌜ now (indices .exit) ≡ indicesAfter (writeAsked escape (outputs (now (text .entry)) (now (indices .entry))) (places (now (units .entry)) (now (clusters .entry)) (now (glyphs .entry)))) (now (indices .entry)) ⌝ }
+    ensures result { λ r. ⌜ (let p = places (now (units .entry)) (now (clusters .entry)) (now (glyphs .entry)) in
+        writingOutcome r ≡ lengths (writeAsked escape (outputs (now (text .entry)) (now (indices .entry))) p)) ⌝ }
+    ensures text { λ r. ⌜ (let p = places (now (units .entry)) (now (clusters .entry)) (now (glyphs .entry)) in
+        now (text .exit) ≡ textAfter (writeAsked escape (outputs (now (text .entry)) (now (indices .entry))) p) (now (text .entry))) ⌝ }
+    ensures indices { λ r. ⌜ (let p = places (now (units .entry)) (now (clusters .entry)) (now (glyphs .entry)) in
+        now (indices .exit) ≡ indicesAfter (writeAsked escape (outputs (now (text .entry)) (now (indices .entry))) p) (now (indices .entry))) ⌝ }
 {
     let is_sound = sound::is_sound(units, clusters, glyphs);
     if !is_sound {
