@@ -455,7 +455,7 @@ module _ (k : ℕ) (t en r0 : List ℕ) (te : t ≡ en ++ r0) (k0 : ends isSemi 
         (answer (length en) k (c .p) (x .p) (y .p) (z .p))
 
   bridge-parts : entryRead (partsOf t .used) (roundedParts (partsOf t)) (scanned k t) ≡ entryRead (length en) (roundedEntry en) (entry k en)
-  unfolding scanned entryRead
+  unfolding scanned
   bridge-parts = cases (wellFormed en) well-bridge (λ e. rw (entry-steps k en, well-same t en r0 te k0 c x y z, e))
 
 -- an entry en and what follows it
@@ -469,7 +469,6 @@ bridge-entry k t en r0 te n k0 b =
 
 -- for every list of bytes: what the scan answers is what the definitions answer of the entry in front
 pub bridge : (k : ℕ) (t : List ℕ) → partsOf t .used ≤ length t → entryRead (partsOf t .used) (roundedParts (partsOf t)) (scanned k t) ≡ entryHere k t
-unfolding here
 bridge k t b = go (cutting isSemi t)
   where
     go : Cutting isSemi t → entryRead (partsOf t .used) (roundedParts (partsOf t)) (scanned k t) ≡ entryHere k t

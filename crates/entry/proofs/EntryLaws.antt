@@ -2,13 +2,13 @@
 use mathlib.Core.Path.{_≡_, refl, ap, sym, _∙_}
 use mathlib.Core.Bool.{Bool, true, false, not, _&&_, _||_, and-true, or-true}
 use mathlib.Core.List.{List, [], _∷_}
-use Prim.Native.Nat.{ℕ, _+_, _≤_, _<_, min}
+use Prim.Native.Nat.{ℕ, zero, suc, _+_, _≤_, _<_, min}
 use native.Mathlib.Omega.{arith}
 use native.Mathlib.Nat.{add-zero, zero-add}
 use lib.Dec.{leb, ltb, eqb}
 use lib.IntN.{ℤ, pos}
-use lib.ListN.{length, drop, length-drop}
-use lib.Seq.{drop-drop}
+use lib.ListN.{length, drop, getD, length-drop}
+use lib.Seq.{drop-drop, getD-drop}
 use borrow.Author.Tests.{eq-eqb, ne-eqb, eqb-true, eqb-false, le-leb, lt-leb, lt-ltb, leb-true, ltb-true}
 use Rattle.label.specs.Limits.{maxIndex}
 use Rattle.label.specs.Bytes.{value}
@@ -23,13 +23,14 @@ use Rattle.number.specs.declared.Digits.{Digits}
 use Rattle.number.specs.declared.Number.{Number}
 use Rattle.number.specs.Digits.{cap, headOf, ends, isBreak, lead, digitsFrom}
 use Rattle.number.specs.Numbers.{numberWithin, Small, signLength, numberOf}
+use Rattle.number.proofs.DigitLaws.{head-drop}
 use Rattle.number.proofs.NumberLaws.{number-small}
 use Rattle.entry.specs.declared.MapPart.{MapPart}
 use Rattle.entry.specs.declared.Front.{Front}
 use Rattle.entry.specs.declared.Field.{Field}
 use Rattle.entry.specs.declared.EntryRead.the-variants.{Read, Refused}
 use Rattle.entry.specs.Items.{isSemi, entryRead, entryHere, IsIndex}
-use Rattle.entry.specs.Parts.{Map, mapOf, mapBy, mapWith, noMap, badMap, leadAt, cutMap, indexAt, frontWith, frontOf, fieldOf, fieldWith, headAt, notGiven, givenBy, Parts, partsOf, wellParted, indexChoice, advanceChoice, offsetBy, roundedBy, roundedParts, judged, scanned}
+use Rattle.entry.specs.Parts.{Map, mapOf, mapBy, mapWith, noMap, badMap, leadAt, cutMap, indexAt, frontWith, frontOf, fieldOf, fieldWith, notGiven, givenBy, Parts, partsOf, wellParted, indexChoice, advanceChoice, offsetBy, roundedBy, roundedParts, judged, scanned}
 use Rattle.entry.proofs.EntryBridge.{bridge}
 
 -- ── the map ──
@@ -43,21 +44,21 @@ unfolding mapOf
 map-some s h = rw (eq-eqb _ _ h)
 
 module _ (s : List ℕ) (p : headOf s ≡ 40) (r : Digits) (e : r ≡ digitsFrom 0 (drop 1 s)) where
-  pub code-one : headOf (drop (1 + r .count) s) ≡ 41
+  pub code-one : getD s (1 + r .count) 0 ≡ 41
       → _≡_ {A = MapPart} (record { ok = ltb 0 (r .count); used = 1 + r .count + 1; mapped = true; units = r .value; glyphs = 1 }) (cutMap (mapOf s))
   code-one h = rw (map-some s p, eq-eqb _ _ (rw e at h), e)
 
-  pub code-odd : (headOf (drop (1 + r .count) s) ≡ 41 → ⊥) → (headOf (drop (1 + r .count) s) ≡ 58 → ⊥) → cutMap badMap ≡ cutMap (mapOf s)
+  pub code-odd : (getD s (1 + r .count) 0 ≡ 41 → ⊥) → (getD s (1 + r .count) 0 ≡ 58 → ⊥) → cutMap badMap ≡ cutMap (mapOf s)
   code-odd h k = rw (map-some s p, ne-eqb _ _ (rw e at h), ne-eqb _ _ (rw e at k))
 
-  module _ (h : headOf (drop (1 + r .count) s) ≡ 41 → ⊥) (k : headOf (drop (1 + r .count) s) ≡ 58) (q : Digits)
+  module _ (h : getD s (1 + r .count) 0 ≡ 41 → ⊥) (k : getD s (1 + r .count) 0 ≡ 58) (q : Digits)
       (f : q ≡ digitsFrom 0 (drop (1 + (r .count + 1)) s)) where
-    pub code-two : headOf (drop (1 + (r .count + 1) + q .count) s) ≡ 41 → (ok : Bool) → ok ≡ (ltb 0 (r .count) && ltb 0 (q .count))
+    pub code-two : getD s (1 + (r .count + 1) + q .count) 0 ≡ 41 → (ok : Bool) → ok ≡ (ltb 0 (r .count) && ltb 0 (q .count))
         → _≡_ {A = MapPart} (record { ok = ok; used = 1 + (r .count + 1) + q .count + 1; mapped = true; units = r .value; glyphs = q .value })
         (cutMap (mapOf s))
     code-two l ok eo = rw (map-some s p, ne-eqb _ _ (rw e at h), eq-eqb _ _ (rw e at k), eq-eqb _ _ (rw (f, e) at l), eo, f, e)
 
-    pub code-open : (headOf (drop (1 + (r .count + 1) + q .count) s) ≡ 41 → ⊥) → cutMap badMap ≡ cutMap (mapOf s)
+    pub code-open : (getD s (1 + (r .count + 1) + q .count) 0 ≡ 41 → ⊥) → cutMap badMap ≡ cutMap (mapOf s)
     code-open l = rw (map-some s p, ne-eqb _ _ (rw e at h), eq-eqb _ _ (rw e at k), ne-eqb _ _ (rw (f, e) at l))
 
 -- where there is no map, no byte is a map's
@@ -74,7 +75,7 @@ map-unused s m em h =
     ∙ cases (eqb (headOf s) 40)
     (λ e. clash (mapOf s .mapped)
     (ap (λ (x : Map). x .mapped) (map-some s (eqb-true (headOf s) 40 e))
-    ∙ by-mapped (headAt (1 + length ds) s) (headAt (1 + (length ds + 1) + length es) s) ds es) none)
+    ∙ by-mapped (getD s (1 + length ds) 0) (getD s (1 + (length ds + 1) + length es) 0) ds es) none)
     (λ e. ap (λ (x : Map). x .used) (map-none s (eqb-false (headOf s) 40 e)))
 
 -- ── map and index ──
@@ -99,21 +100,21 @@ field-none : (t : List ℕ) → (headOf t ≡ 44 → ⊥) → fieldOf t ≡ notG
 unfolding fieldOf
 field-none t h = rw (ne-eqb _ _ h)
 
-field-some : (t : List ℕ) → headOf t ≡ 44 → fieldOf t ≡ fieldWith (headAt 1 t) t
+field-some : (t : List ℕ) → headOf t ≡ 44 → fieldOf t ≡ fieldWith (getD t 1 0) t
 unfolding fieldOf
 field-some t h = rw (eq-eqb _ _ h)
 
-pub code-absent : (s : List ℕ) (at : ℕ) → (headOf (drop at s) ≡ 44 → ⊥) → notGiven 0 ≡ fieldOf (drop at s)
-code-absent s at h = sym (field-none (drop at s) h)
+pub code-absent : (s : List ℕ) (at : ℕ) → (getD s at 0 ≡ 44 → ⊥) → notGiven 0 ≡ fieldOf (drop at s)
+code-absent s at h = sym (field-none (drop at s) (rw head-drop h))
 
-module _ (s : List ℕ) (at : ℕ) (p : headOf (drop at s) ≡ 44) where
+module _ (s : List ℕ) (at : ℕ) (p : getD s at 0 ≡ 44) where
   pub code-empty : ends isBreak (drop (at + 1) s) ≡ true → notGiven 1 ≡ fieldOf (drop at s)
-  code-empty h = rw (field-some (drop at s) p, drop-drop 1 at s, h)
+  code-empty h = rw (field-some (drop at s) (rw head-drop p), drop-drop 1 at s, h)
 
-  pub code-given : (b : ℕ) → b ≡ headOf (drop (at + 1) s) → ends isBreak (drop (at + 1) s) ≡ false → (k : ℕ) → k ≡ signLength b → (n : Number)
+  pub code-given : (b : ℕ) → b ≡ getD s (at + 1) 0 → ends isBreak (drop (at + 1) s) ≡ false → (k : ℕ) → k ≡ signLength b → (n : Number)
       → n ≡ numberOf (drop (at + (1 + k)) s)
       → givenBy b (1 + k) n ≡ fieldOf (drop at s)
-  code-given b eb h k ek n en = rw (field-some (drop at s) p, drop-drop 1 at s, h, ← eb, ← ek, drop-drop, ← en)
+  code-given b eb h k ek n en = rw (field-some (drop at s) (rw head-drop p), drop-drop 1 at s, h, getD-drop, ← eb, ← ek, drop-drop, ← en)
 
 -- a size is within its limit
 pub field-small : (t : List ℕ) → Small (fieldOf t .size)
@@ -123,7 +124,7 @@ field-small t = go (eqb (headOf t) 44) refl (ends isBreak (drop 1 t)) refl
     go : (a : Bool) → eqb (headOf t) 44 ≡ a → (b : Bool) → ends isBreak (drop 1 t) ≡ b → Small (fieldOf t .size)
     go false e b f = rw e (omega arith)
     go true e true f = rw (e, f) (omega arith)
-    go true e false f = rw (e, f) (number-small (drop (1 + signLength (headAt 1 t)) t))
+    go true e false f = rw (e, f) (number-small (drop (1 + signLength (getD t 1 0)) t))
 
 -- ── an entry with fields ──
 
@@ -171,12 +172,10 @@ module _ (k : ℕ) (s : List ℕ) (f : Front) (x y z : Field) (p : Parted s f x 
   said = rw (parts-are, scanned-is) at (bridge k s (rw parts-are (p .inside)))
 
   pub code-wrong : Well s f x y z ≡ false → Refused (refusal 7 k) ≡ entryHere k s
-  unfolding entryRead
   code-wrong h = rw (well-is, h) at said
 
   module _ (h : Well s f x y z ≡ true) where
     pub code-index : maxIndex < f .index → Refused (refusal 8 k) ≡ entryHere k s
-    unfolding entryRead
     code-index l = rw (well-is, h, lt-leb (value (indexAt s)) maxIndex (omega (arith, value-is))) at said
 
     module _ (l : f .index ≤ maxIndex) where
@@ -187,7 +186,7 @@ module _ (k : ℕ) (s : List ℕ) (f : Front) (x y z : Field) (p : Parted s f x 
       exact = omega (arith, value-is)
 
       pub code-limits : Fit (x .size) (y .size) (z .size) ≡ false → Refused (refusal 9 k) ≡ entryHere k s
-      unfolding entryRead Fit
+      unfolding Fit
       code-limits n = rw (well-is, h, small, n) at said
 
       pub code-read : Fit (x .size) (y .size) (z .size) ≡ true
@@ -202,7 +201,7 @@ module _ (k : ℕ) (s : List ℕ) (f : Front) (x y z : Field) (p : Parted s f x 
             used = f .used + x .used + y .used + z .used;
             rounded = n;
           }) ≡ entryHere k s
-      unfolding entryRead Fit
+      unfolding Fit
       code-read w i ei a ea u v eu ev n en = rw (ei, ea, eu, ev, en, front-is, exact) (rw (well-is, h, small, w, front-is) at said)
 
 -- the flags that lead to a test, put together
@@ -229,7 +228,7 @@ unfolding OneWell
 one-chain s f x e1 e2 e3 e4 = rw (← e1, ← e2, ← e3) e4
 
 module _ (k : ℕ) (s : List ℕ) (f : Front) (x : Field) (ef : f ≡ frontOf s) (ex : x ≡ fieldOf (drop (f .used) s))
-    (h : headOf (drop (f .used + x .used) s) ≡ 44 → ⊥) (bound : f .used + x .used ≤ length s) where
+    (h : getD s (f .used + x .used) 0 ≡ 44 → ⊥) (bound : f .used + x .used ≤ length s) where
   one-sum : f .used + x .used + 0 + 0 ≡ f .used + x .used
   one-sum = omega arith
 
@@ -276,9 +275,10 @@ no-digit : (t : List ℕ) → headOf t ≡ 40 → length (lead t) ≡ 0
 no-digit [] h = refl
 no-digit (b ∷ t) h = rw h
 
-no-comma : (t : List ℕ) → ends isSemi t ≡ true → headOf t ≡ 44 → ⊥
-no-comma [] w h = omega (arith, h)
-no-comma (b ∷ t) w h = omega (arith, h, eqb-true b 59 w)
+no-comma : (t : List ℕ) (n : ℕ) → ends isSemi (drop n t) ≡ true → getD t n 0 ≡ 44 → ⊥
+no-comma [] n w h = omega (arith, h)
+no-comma (b ∷ t) zero w h = omega (arith, h, eqb-true b 59 w)
+no-comma (b ∷ t) (suc n) w h = no-comma t n w h
 
 index-alone : (t : List ℕ) (d : Digits) → d ≡ digitsFrom 0 t → d .count ≤ length t → 0 < d .count → d .value ≤ maxIndex
     → ends isSemi (drop (d .count) t) ≡ true → IsIndex t d
@@ -291,7 +291,7 @@ index-alone t d ed bound some l w =
     let ef : f ≡ frontOf t = rw (zero-add n) at (code-front t (cutMap noMap) (ap cutMap (sym plain)) d ed true true (sym (or-true (ltb 0 n))) refl) in
     let i : Named (d .value) ≡ indexChoice (ltb 0 n) (d .value) = ap (λ (b : Bool). indexChoice b (d .value)) (sym (lt-ltb 0 n some)) in (
       l,
-      λ k. sym (rw z at (one-read k t f (notGiven 0) ef (code-absent t n (no-comma (drop n t) w)) (rw z (no-comma (drop n t) w)) (rw z bound) (rw z w) l refl
+      λ k. sym (rw z at (one-read k t f (notGiven 0) ef (code-absent t n (no-comma t n w)) (rw z (no-comma t n w)) (rw z bound) (rw z w) l refl
           (Named (d .value)) i Own refl 0 refl)),
     )
 

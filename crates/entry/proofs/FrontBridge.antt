@@ -14,6 +14,7 @@ use Rattle.label.specs.Entry.{hasMap, atParenthesis, atColon, isIndexPart, inde
 use Rattle.label.proofs.Basics.{and-r, cases}
 use Rattle.label.proofs.Splits.{none}
 use Rattle.number.specs.Digits.{headOf, ends, isBreak, lead}
+use Rattle.number.proofs.DigitLaws.{head-drop}
 use Rattle.number.proofs.Scan.{after, Front, full, odd, front, Cutting, whole, parted, cutting, none-left, none-right, some-is, at-break}
 use Rattle.entry.specs.Parts.{Map, mapOf, mapBy, badMap, noMap, oneMap, twoMap, indexAt, frontOk}
 
@@ -63,7 +64,10 @@ module _ (z : List ℕ) where
 
   map-is : mapOf (40 ∷ z) ≡ mapBy (headOf (after z)) (headOf (after (drop 1 (after z)))) (lead z) (lead (drop 1 (after z)))
   unfolding mapOf
-  map-is = rw (one (length (lead z)), two (length (lead z)), three (length (lead z)) (length (lead (drop 1 (after z)))))
+  map-is =
+      let n : ℕ = length (lead z) in
+      let k : ℕ = length (lead (drop 1 (after z))) in
+      rw (two n, ← head-drop (40 ∷ z) (1 + n), ← head-drop (40 ∷ z) (1 + (n + 1) + k), one n, three n k)
 
 assoc : (a b c : Bool) → (a && b && c) ≡ (a && (b && c))
 assoc true b c = refl

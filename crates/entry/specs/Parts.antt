@@ -3,7 +3,7 @@
 use mathlib.Core.Bool.{Bool, true, false, cond, not, _&&_, _||_}
 use mathlib.Core.List.{List}
 use Prim.Native.Nat.{ℕ, _+_, min}
-use lib.ListN.{length, drop}
+use lib.ListN.{length, drop, getD}
 use lib.Dec.{leb, ltb, eqb}
 use lib.IntN.{ℤ, pos, negℤ}
 use Rattle.label.specs.Limits.{maxIndex}
@@ -53,15 +53,12 @@ noMap = record { ok = true; used = 0; mapped = false; units = 1; glyphs = 1 }
 abbrev pub mapBy : ℕ → ℕ → List ℕ → List ℕ → Map
 mapBy h k ds es = cond (eqb h 41) (oneMap ds) (cond (eqb h 58) (cond (eqb k 41) (twoMap ds es) badMap) badMap)
 
--- the digits and the byte behind place k
+-- the digits from place k on
 abbrev pub leadAt : ℕ → List ℕ → List ℕ
 leadAt k t = lead (drop k t)
 
-abbrev pub headAt : ℕ → List ℕ → ℕ
-headAt k t = headOf (drop k t)
-
 abbrev pub mapWith : List ℕ → List ℕ → List ℕ → Map
-mapWith t ds es = mapBy (headAt (1 + length ds) t) (headAt (1 + (length ds + 1) + length es) t) ds es
+mapWith t ds es = mapBy (getD t (1 + length ds) 0) (getD t (1 + (length ds + 1) + length es) 0) ds es
 
 unfoldable pub mapOf : List ℕ → Map
 mapOf t = cond (eqb (headOf t) 40) (mapWith t (leadAt 1 t) (leadAt (1 + (length (leadAt 1 t) + 1)) t)) noMap
@@ -109,7 +106,7 @@ fieldWith b t = cond (ends isBreak (drop 1 t)) (notGiven 1) (givenBy b (1 + sign
 
 -- a field with its comma; where there is no comma, nothing is given in no bytes
 unfoldable pub fieldOf : List ℕ → Field
-fieldOf t = cond (eqb (headOf t) 44) (fieldWith (headAt 1 t) t) (notGiven 0)
+fieldOf t = cond (eqb (headOf t) 44) (fieldWith (getD t 1 0) t) (notGiven 0)
 
 -- ── the entry ──
 

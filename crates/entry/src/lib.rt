@@ -3,10 +3,10 @@ ghost use mathlib.Core.Path.{_≡_};
 ghost use mathlib.Core.Bool.{true, _&&_};
 ghost use Prim.Native.Nat.{_+_, _≤_};
 ghost use lib.Dec.{leb, ltb};
-ghost use lib.ListN.{length, drop};
+ghost use lib.ListN.{length, drop, getD};
 ghost use Rattle.label.specs.Limits.{maxIndex, maxThousandths};
 ghost use Rattle.label.specs.Calls.{refusal};
-ghost use Rattle.number.specs.Digits.{headOf, ends, isBreak, digitsFrom};
+ghost use Rattle.number.specs.Digits.{ends, isBreak, digitsFrom};
 ghost use Rattle.number.specs.Numbers.{numberWithin, Small};
 ghost use Rattle.entry.specs.declared.EntryRead.the-variants.{Refused};
 ghost use Rattle.entry.specs.Items.{isSemi, entryHere, indexItem, IsIndex};
@@ -102,12 +102,12 @@ fn map_of(s: &[u8]) -> MapPart
     ensures { λ r. ⌜ r ≡ cutMap (mapOf (now (s .entry))) ⌝ }
     ensures bounds { λ r. ⌜ r .used ≤ length (now (s .entry)) ⌝ }
 {
-    if number::byte_at(s, 0) != 40 {
+    if octets::byte_or_zero(s, 0) != 40 {
         return no_map();
     }
     let x = number::digits_at(s, 1, 0);
     let n = x.count;
-    let h = number::byte_at(s, 1 + n);
+    let h = octets::byte_or_zero(s, 1 + n);
     if h == 41 {
         return MapPart {
             ok: 0 < n,
@@ -122,7 +122,7 @@ fn map_of(s: &[u8]) -> MapPart
     }
     let y = number::digits_at(s, 1 + (n + 1), 0);
     let k = y.count;
-    if number::byte_at(s, 1 + (n + 1) + k) != 41 {
+    if octets::byte_or_zero(s, 1 + (n + 1) + k) != 41 {
         return bad_map();
     }
     MapPart {
@@ -206,13 +206,13 @@ fn field_at(s: &[u8], at: usize) -> Field
     ensures { λ r. ⌜ r ≡ fieldOf (drop at (now (s .entry))) ⌝ }
     ensures bounds { λ r. ⌜ at + r .used ≤ length (now (s .entry)) ⌝ }
 {
-    if number::byte_at(s, at) != 44 {
+    if octets::byte_or_zero(s, at) != 44 {
         return not_given(0);
     }
     if breaks_at(s, at + 1) {
         return not_given(1);
     }
-    let b = number::byte_at(s, at + 1);
+    let b = octets::byte_or_zero(s, at + 1);
     let k = 1 + number::sign_length(b);
     let n = number::number_at(s, at + k);
     let size = n.size;
@@ -294,7 +294,7 @@ fn offset_of(negative: bool, z: Thousandths) -> i32
 // An entry with at most the field x behind its front.
 fn read_advance(s: &[u8], k: usize, f: Front, x: Field) -> EntryRead
     requires { ⌜ (f ≡ frontOf (now s)) × (x ≡ fieldOf (drop (f .used) (now s))) × (f .used + x .used ≤ length (now s)) ⌝ }
-    requires no_more { ⌜ (headOf (drop (f .used + x .used) (now s)) ≡ 44 → ⊥) ⌝ }
+    requires no_more { ⌜ (getD (now s) (f .used + x .used) 0 ≡ 44 → ⊥) ⌝ }
     ensures { λ r. ⌜ r ≡ entryHere k (now (s .entry)) ⌝ }
 {
     let end = f.used + x.used;
@@ -333,7 +333,7 @@ fn read_fields(s: &[u8], k: usize, f: Front) -> EntryRead
 {
     let x = field_at(s, f.used);
     let i = f.used + x.used;
-    if number::byte_at(s, i) != 44 {
+    if octets::byte_or_zero(s, i) != 44 {
         return read_advance(s, k, f, x);
     }
     let y = field_at(s, i);

@@ -4,9 +4,10 @@ use mathlib.Core.Bool.{Bool, true, false}
 use mathlib.Core.List.{List, [], _∷_}
 use Prim.Native.Nat.{ℕ, suc, zero, _+_, _-_, _*_, _≤_, _<_, min}
 use native.Mathlib.Omega.{arith}
+use native.Mathlib.Nat.{add-zero}
 use native.Mathlib.Numerals.{add-one}
 use lib.ListN.{length, drop, getD, drop-of-length-le}
-use lib.Seq.{drop-cons}
+use lib.Seq.{drop-cons, getD-drop}
 use lib.Dec.{leb}
 use borrow.Author.Tests.{leb-true}
 use Rattle.label.specs.Bytes.{isDigit, valueFrom}
@@ -16,11 +17,9 @@ use Rattle.number.specs.Digits.{cap, headOf, ends, lead, pushed, digitsF
 
 -- ── bytes ──
 
-pub head-at : (s : List ℕ) (i : ℕ) → i < length s → headOf (drop i s) ≡ getD s i 0
-head-at s i h = rw (drop-cons s i 0 h)
-
-pub head-end : (s : List ℕ) (i : ℕ) → length s ≤ i → headOf (drop i s) ≡ 0
-head-end s i h = rw (drop-of-length-le s h)
+-- the byte at a place is the first from there on
+pub head-drop : (s : List ℕ) (i : ℕ) → headOf (drop i s) ≡ getD s i 0
+head-drop s i = rw (getD-drop, add-zero)
 
 pub ends-at : (t : ℕ → Bool) (s : List ℕ) (i : ℕ) → i < length s → ends t (drop i s) ≡ t (getD s i 0)
 ends-at t s i h = rw (drop-cons s i 0 h)
@@ -29,13 +28,12 @@ pub ends-end : (t : ℕ → Bool) (s : List ℕ) (i : ℕ) → length s ≤ i �
 ends-end t s i h = rw (drop-of-length-le s h)
 
 -- a byte that is not 0 stands before the end
-pub head-in : (s : List ℕ) (i b : ℕ) → headOf (drop i s) ≡ b → 0 < b → i < length s
-head-in [] zero b e h = omega arith
-head-in [] (suc i) b e h = omega arith
+pub head-in : (s : List ℕ) (i b : ℕ) → getD s i 0 ≡ b → 0 < b → i < length s
+head-in [] i b e h = omega arith
 head-in (x ∷ s) zero b e h = omega arith
 head-in (x ∷ s) (suc i) b e h = omega (arith, head-in s i b e h)
 
-pub next-in : (s : List ℕ) (at n b : ℕ) → headOf (drop (at + n) s) ≡ b → 0 < b → at + (n + 1) ≤ length s
+pub next-in : (s : List ℕ) (at n b : ℕ) → getD s (at + n) 0 ≡ b → 0 < b → at + (n + 1) ≤ length s
 next-in s at n b e h = omega (arith, head-in s (at + n) b e h)
 
 -- ── digits ──

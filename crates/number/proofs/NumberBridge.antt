@@ -18,7 +18,8 @@ use Rattle.label.proofs.Splits.{none}
 use Rattle.number.specs.declared.Thousandths.{Thousandths}
 use Rattle.number.specs.declared.Thousandths.the-variants.{Of, Over}
 use Rattle.number.specs.Digits.{headOf, ends, isBreak, lead}
-use Rattle.number.specs.Numbers.{Mant, Expo, mantissaOf, exponentOf, numberOf, pointed, raised, unraised, signLength, sizeOf}
+use Rattle.number.specs.Numbers.{Mant, Expo, mantissaOf, exponentOf, numberOf, pointed, plain, raised, unraised, signLength, sizeOf}
+use Rattle.number.proofs.DigitLaws.{head-drop}
 use Rattle.number.proofs.NumberLaws.{expo-none, expo-some}
 use Rattle.number.proofs.Scan.{after, Front, full, odd, front, Cutting, whole, parted, cutting, none-left, none-right, none-or, some-is, at-break}
 
@@ -48,22 +49,27 @@ data Manted (u s t : List ℕ) : Type 0 where
       → drop k t ≡ s → Manted u s t
   wrong : isDecimals u ≡ false → (mantissaOf t .ok && ends isTail (drop (mantissaOf t .used) t)) ≡ false → Manted u s t
 
+-- whether the first byte behind the digits is a point
+mant-is : (t : List ℕ) → mantissaOf t ≡ cond (isPoint (headOf (after t))) (pointed (lead t) (lead (drop (length (lead t) + 1) t))) (plain (lead t))
+unfolding mantissaOf
+mant-is t = rw head-drop
+
 mant-whole : (u s : List ℕ) → none isPoint u ≡ true → none isTail u ≡ true → ends isTail s ≡ true
     → cut isPoint u ≡ record { before = u; found = false; after = [] } → Manted u s (u ++ s)
-unfolding isDecimals mantissaOf
+unfolding isDecimals
 mant-whole u s p n h c = go u refl (front u s (tail-head s h isDigit refl refl refl refl refl))
   where
     go : (v : List ℕ) → u ≡ v → Front u s → Manted u s (u ++ s)
-    go [] e (full a l f) = wrong (rw (c, e)) (rw (f, tail-head s h isPoint refl refl refl refl refl, l, e))
+    go [] e (full a l f) = wrong (rw (c, e)) (rw (mant-is, f, tail-head s h isPoint refl refl refl refl refl, l, e))
     go (b ∷ v) e (full a l f) =
         good (rw (c, a, e)) (length u)
-        (rw (f, tail-head s h isPoint refl refl refl refl refl, l, c, append-nil u, ap (λ (w : List ℕ). ltb 0 (length w)) e ∙ some-is (b ∷ v)))
+        (rw (mant-is, f, tail-head s h isPoint refl refl refl refl refl, l, c, append-nil u, ap (λ (w : List ℕ). ltb 0 (length w)) e ∙ some-is (b ∷ v)))
         (drop-append-seam u s)
-    go v e (odd a b y f g) = wrong (rw (c, a, and-false)) (rw (f, g isPoint p, f, g isTail n, and-false))
+    go v e (odd a b y f g) = wrong (rw (c, a, and-false)) (rw (mant-is, f, g isPoint p, f, g isTail n, and-false))
 
 mant-pointed-part : (d f s : List ℕ) → none isPoint d ≡ true → none isTail d ≡ true → none isTail f ≡ true → ends isTail s ≡ true
     → (u : List ℕ) → cut isPoint u ≡ record { before = d; found = true; after = f } → Manted u s (d ++ (46 ∷ (f ++ s)))
-unfolding isDecimals mantissaOf
+unfolding isDecimals
 mant-pointed-part d f s p nd nf h u c = outer (front d (46 ∷ (f ++ s)) refl)
   where
     t : List ℕ
@@ -85,8 +91,8 @@ mant-pointed-part d f s p nd nf h u c = outer (front d (46 ∷ (f ++ s)) refl)
     inner m a v e (odd b' b y g k) = wrong (rw (c, b', and-false, and-false)) (rw (m, rest, g, k isTail nf, and-false))
 
     outer : Front d (46 ∷ (f ++ s)) → Manted u s (d ++ (46 ∷ (f ++ s)))
-    outer (full a l g) = inner (rw (g, l, seam)) a f refl (front f s (tail-head s h isDigit refl refl refl refl refl))
-    outer (odd a b y g k) = wrong (rw (c, a)) (rw (g, k isPoint p, g, k isTail nd, and-false))
+    outer (full a l g) = inner (rw (mant-is, g, l, seam)) a f refl (front f s (tail-head s h isDigit refl refl refl refl refl))
+    outer (odd a b y g k) = wrong (rw (c, a)) (rw (mant-is, g, k isPoint p, g, k isTail nd, and-false))
 
 mant : (u s : List ℕ) → none isTail u ≡ true → ends isTail s ≡ true → Manted u s (u ++ s)
 mant u s n h = go (cutting isPoint u)

@@ -7,9 +7,9 @@ use native.Mathlib.Omega.{arith}
 use native.Mathlib.Nat.{mul-le-mul-right, pow-suc, lt-of-lt-of-le}
 use lib.Pow.{pow-add}
 use lib.Dec.{leb, ltb, eqb}
-use lib.ListN.{length, drop, length-append}
+use lib.ListN.{length, drop, getD, length-append}
 use borrow.Author.Tests.{le-leb, lt-leb, leb-true, eq-eqb, ne-eqb}
-use lib.Seq.{drop-drop}
+use lib.Seq.{drop-drop, getD-drop}
 use Rattle.label.specs.Limits.{maxThousandths}
 use Rattle.label.specs.Bytes.{isDigit, valueFrom, value}
 use Rattle.label.specs.Entry.{isE, scaled}
@@ -24,7 +24,7 @@ use Rattle.number.specs.declared.Mantissa.{Mantissa}
 use Rattle.number.specs.declared.Exponent.{Exponent}
 use Rattle.number.specs.Digits.{cap, headOf, lead, digitsFrom}
 use Rattle.number.specs.Numbers.{sized, Small, Mant, Expo, pointed, plain, unraised, mantissaOf, exponentOf, signLength, sizeOf, numberOf, cutMantissa, cutExponent, raisedBy}
-use Rattle.number.proofs.DigitLaws.{lead-yes, lead-no, digit-high, cut-from}
+use Rattle.number.proofs.DigitLaws.{head-drop, lead-yes, lead-no, digit-high, cut-from}
 use Rattle.number.proofs.ValueLaws.{ten-mono}
 
 step-small : (v d p w : ℕ) → d ≤ 9 → w < (v * 10 + d + 1) * p → w < (v + 1) * (p * 10)
@@ -55,7 +55,7 @@ within n k v h p = lt-of-lt-of-le p (ten-mono n k h)
 
 mant-small : (t : List ℕ) → value (mantissaOf t .digits) < 10 ^ length (mantissaOf t .digits)
 unfolding mantissaOf
-mant-small t = go (eqb (headOf (drop (length (lead t)) t)) 46)
+mant-small t = go (eqb (getD t (length (lead t)) 0) 46)
   where
     go : (p : Bool) → let m : Mant = cond p (pointed (lead t) (lead (drop (length (lead t) + 1) t))) (plain (lead t)) in value (m .digits) < 10 ^ length
         (m .digits)
@@ -64,7 +64,7 @@ mant-small t = go (eqb (headOf (drop (length (lead t)) t)) 46)
 
 mant-behind : (t : List ℕ) → mantissaOf t .behind ≤ length (mantissaOf t .digits)
 unfolding mantissaOf
-mant-behind t = go (eqb (headOf (drop (length (lead t)) t)) 46)
+mant-behind t = go (eqb (getD t (length (lead t)) 0) 46)
   where
     go : (p : Bool) → let m : Mant = cond p (pointed (lead t) (lead (drop (length (lead t) + 1) t))) (plain (lead t)) in m .behind ≤ length (m .digits)
     go true = omega (arith, length-append (lead t) (lead (drop (length (lead t) + 1) t)))
@@ -74,8 +74,8 @@ expo-small : (t : List ℕ) → value (exponentOf t .digits) < 10 ^ length (expo
 unfolding exponentOf
 expo-small t = go (isE (headOf t))
   where
-    go : (p : Bool) → let x : Expo = cond p (raisedBy (headOf (drop 1 t)) t) unraised in value (x .digits) < 10 ^ length (x .digits)
-    go true = lead-small (drop (1 + signLength (headOf (drop 1 t))) t)
+    go : (p : Bool) → let x : Expo = cond p (raisedBy (getD t 1 0) t) unraised in value (x .digits) < 10 ^ length (x .digits)
+    go true = lead-small (drop (1 + signLength (getD t 1 0)) t)
     go false = lead-small []
 
 module _ (m : Mant) (x : Expo) where
@@ -90,11 +90,11 @@ module _ (m : Mant) (x : Expo) where
       (isWhole (value (m .digits)) (m .behind) (x .negative) (value (x .digits)))
   size-is h k = rw (le-leb (length (m .digits)) 18 h, le-leb (length (x .digits)) 2 k)
 
-mant-pointed : (t : List ℕ) → headOf (drop (length (lead t)) t) ≡ 46 → mantissaOf t ≡ pointed (lead t) (lead (drop (length (lead t) + 1) t))
+mant-pointed : (t : List ℕ) → getD t (length (lead t)) 0 ≡ 46 → mantissaOf t ≡ pointed (lead t) (lead (drop (length (lead t) + 1) t))
 unfolding mantissaOf
 mant-pointed t h = rw (eq-eqb _ _ h)
 
-mant-plain : (t : List ℕ) → (headOf (drop (length (lead t)) t) ≡ 46 → ⊥) → mantissaOf t ≡ plain (lead t)
+mant-plain : (t : List ℕ) → (getD t (length (lead t)) 0 ≡ 46 → ⊥) → mantissaOf t ≡ plain (lead t)
 unfolding mantissaOf
 mant-plain t h = rw (ne-eqb _ _ h)
 
@@ -103,18 +103,18 @@ cut-append a b = rw (value-append 0 a b) (cut-from b (min (value a) cap) (value 
 
 -- what the code makes of two runs of digits
 module _ (s : List ℕ) (at : ℕ) (r : Digits) (e : r ≡ digitsFrom 0 (drop at s)) where
-  pub code-pointed : (q : Digits) → q ≡ digitsFrom (r .value) (drop (at + (r .count + 1)) s) → headOf (drop (at + r .count) s) ≡ 46
+  pub code-pointed : (q : Digits) → q ≡ digitsFrom (r .value) (drop (at + (r .count + 1)) s) → getD s (at + r .count) 0 ≡ 46
       → _≡_ {A = Mantissa} (record { ok = ltb 0 (q .count); used = r .count + 1 + q .count; count = r .count + q .count; value = q .value; behind = q .count })
       (cutMantissa (mantissaOf (drop at s)))
   code-pointed q f h =
-      let g : headOf (drop (length (lead (drop at s))) (drop at s)) ≡ 46 = rw drop-drop (rw e at h) in
+      let g : getD (drop at s) (length (lead (drop at s))) 0 ≡ 46 = rw getD-drop (rw e at h) in
       rw (mant-pointed (drop at s) g, f, e, drop-drop, length-append, ← cut-append)
 
-  pub code-plain : (headOf (drop (at + r .count) s) ≡ 46 → ⊥)
+  pub code-plain : (getD s (at + r .count) 0 ≡ 46 → ⊥)
       → _≡_ {A = Mantissa} (record { ok = ltb 0 (r .count); used = r .count; count = r .count; value = r .value; behind = 0 })
       (cutMantissa (mantissaOf (drop at s)))
   code-plain h =
-      let g : headOf (drop (length (lead (drop at s))) (drop at s)) ≡ 46 → ⊥ = rw drop-drop (rw e at h) in
+      let g : getD (drop at s) (length (lead (drop at s))) 0 ≡ 46 → ⊥ = rw getD-drop (rw e at h) in
       rw (mant-plain (drop at s) g, e)
 
 sign-le : (b : ℕ) → signLength b ≤ 1
@@ -124,42 +124,40 @@ sign-le b = go (eqb b 43 || eqb b 45)
     go true = omega arith
     go false = omega arith
 
-sign-in : (s : List ℕ) (i : ℕ) → i ≤ length s → i + signLength (headOf (drop i s)) ≤ length s
-sign-in [] zero h = omega arith
-sign-in [] (suc i) h = omega arith
+sign-in : (s : List ℕ) (i : ℕ) → i ≤ length s → i + signLength (getD s i 0) ≤ length s
+sign-in [] i h = omega arith
 sign-in (x ∷ s) zero h = omega (arith, sign-le x)
 sign-in (x ∷ s) (suc i) h = omega (arith, sign-in s i (omega arith))
 
-exponent-in : (s : List ℕ) (i : ℕ) → isE (headOf (drop i s)) ≡ true → i < length s
-exponent-in [] zero e = let z : _≡_ {A = ℕ} 0 1 = cc in omega arith
-exponent-in [] (suc i) e = let z : _≡_ {A = ℕ} 0 1 = cc in omega arith
+exponent-in : (s : List ℕ) (i : ℕ) → isE (getD s i 0) ≡ true → i < length s
+exponent-in [] i e = let z : _≡_ {A = ℕ} 0 1 = cc in omega arith
 exponent-in (x ∷ s) zero e = omega arith
 exponent-in (x ∷ s) (suc i) e = omega (arith, exponent-in s i e)
 
-pub signed-after : (s : List ℕ) (at b k : ℕ) → b ≡ headOf (drop (at + 1) s) → k ≡ signLength b → at < length s → at + (1 + k) ≤ length s
+pub signed-after : (s : List ℕ) (at b k : ℕ) → b ≡ getD s (at + 1) 0 → k ≡ signLength b → at < length s → at + (1 + k) ≤ length s
 signed-after s at b k eb ek p = rw (ek, eb) (omega (arith, sign-in s (at + 1) (omega arith)))
 
-pub signed-in : (s : List ℕ) (at b k : ℕ) → b ≡ headOf (drop (at + 1) s) → k ≡ signLength b → isE (headOf (drop at s)) ≡ true → at + (1 + k) ≤ length s
+pub signed-in : (s : List ℕ) (at b k : ℕ) → b ≡ getD s (at + 1) 0 → k ≡ signLength b → isE (getD s at 0) ≡ true → at + (1 + k) ≤ length s
 signed-in s at b k eb ek h = signed-after s at b k eb ek (exponent-in s at h)
 
 pub expo-none : (t : List ℕ) → isE (headOf t) ≡ false → exponentOf t ≡ unraised
 unfolding exponentOf
 expo-none t h = rw h
 
-pub code-unraised : (s : List ℕ) (at : ℕ) → isE (headOf (drop at s)) ≡ false
+pub code-unraised : (s : List ℕ) (at : ℕ) → isE (getD s at 0) ≡ false
     → _≡_ {A = Exponent} (record { ok = true; used = 0; negative = false; count = 0; value = 0 }) (cutExponent (exponentOf (drop at s)))
 unfolding valueFrom
-code-unraised s at h = rw (expo-none (drop at s) h)
+code-unraised s at h = rw (expo-none (drop at s) (rw head-drop h))
 
-pub expo-some : (t : List ℕ) → isE (headOf t) ≡ true → exponentOf t ≡ raisedBy (headOf (drop 1 t)) t
+pub expo-some : (t : List ℕ) → isE (headOf t) ≡ true → exponentOf t ≡ raisedBy (getD t 1 0) t
 unfolding exponentOf
 expo-some t h = rw h
 
-pub code-raised : (s : List ℕ) (at b k : ℕ) (r : Digits) → b ≡ headOf (drop (at + 1) s) → k ≡ signLength b → r ≡ digitsFrom 0 (drop (at + (1 + k)) s)
-    → isE (headOf (drop at s)) ≡ true
+pub code-raised : (s : List ℕ) (at b k : ℕ) (r : Digits) → b ≡ getD s (at + 1) 0 → k ≡ signLength b → r ≡ digitsFrom 0 (drop (at + (1 + k)) s)
+    → isE (getD s at 0) ≡ true
     → _≡_ {A = Exponent} (record { ok = ltb 0 (r .count); used = 1 + k + r .count; negative = eqb b 45; count = r .count; value = r .value })
     (cutExponent (exponentOf (drop at s)))
-code-raised s at b k r eb ek er h = rw (expo-some (drop at s) h, drop-drop 1 at s, ← eb, ← ek, drop-drop, er)
+code-raised s at b k r eb ek er h = rw (expo-some (drop at s) (rw head-drop h), getD-drop, ← eb, ← ek, drop-drop, er)
 
 -- a value within the digits' limits is exact, and within what the code asks of it
 module _ (t : List ℕ) (m : Mantissa) (e : m ≡ cutMantissa (mantissaOf t)) (h : m .count ≤ 18) where

@@ -3,15 +3,14 @@
 use mathlib.Core.Bool.{Bool, true, cond, _||_}
 use mathlib.Core.List.{List, [], _∷_}
 use Prim.Native.Nat.{ℕ, _+_, _-_, _*_, min}
-use lib.ListN.{length}
+use lib.ListN.{length, getD}
 use lib.Dec.{eqb}
 use Rattle.label.specs.Bytes.{isDigit, valueFrom}
 use Rattle.number.specs.declared.Digits.{Digits}
 
 -- the first byte; 0 where there is none
 abbrev pub headOf : List ℕ → ℕ
-headOf [] = 0
-headOf (b ∷ t) = b
+headOf t = getD t 0 0
 
 -- at the end, or before a byte of a kind
 abbrev pub ends : (ℕ → Bool) → List ℕ → Bool

@@ -3,7 +3,7 @@
 use mathlib.Core.Bool.{Bool, true, false, cond, _&&_, _||_}
 use mathlib.Core.List.{List, [], _++_}
 use Prim.Native.Nat.{ℕ, _+_, _≤_, min}
-use lib.ListN.{length, drop}
+use lib.ListN.{length, drop, getD}
 use lib.Dec.{leb, ltb, eqb}
 use Rattle.label.specs.Limits.{maxDigits, maxExponentDigits, maxThousandths}
 use Rattle.label.specs.Bytes.{value}
@@ -47,7 +47,7 @@ plain ip = record { ok = ltb 0 (length ip); used = length ip; digits = ip; behin
 -- whether the byte behind the first digits is a point
 unfoldable pub mantissaOf : List ℕ → Mant
 mantissaOf t =
-    cond (eqb (headOf (drop (length (lead t)) t)) 46)
+    cond (eqb (getD t (length (lead t)) 0) 46)
     (pointed (lead t) (lead (drop (length (lead t) + 1) t)))
     (plain (lead t))
 
@@ -74,7 +74,7 @@ abbrev pub unraised : Expo
 unraised = record { ok = true; used = 0; negative = false; digits = [] }
 
 unfoldable pub exponentOf : List ℕ → Expo
-exponentOf t = cond (isE (headOf t)) (raisedBy (headOf (drop 1 t)) t) unraised
+exponentOf t = cond (isE (headOf t)) (raisedBy (getD t 1 0) t) unraised
 
 -- within the limits on digits, and then on the value
 abbrev pub sizeOf : Mant → Expo → Thousandths

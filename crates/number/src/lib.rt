@@ -8,18 +8,9 @@ ghost use Rattle.label.specs.Bytes.{isDigit};
 ghost use Rattle.label.specs.Entry.{isE, nearest, scaled};
 ghost use Rattle.label.specs.Requests.RoundedCount.{isWhole};
 ghost use Rattle.number.specs.declared.Thousandths.the-variants.{Of};
-ghost use Rattle.number.specs.Digits.{cap, headOf, pushed, digitsFrom};
+ghost use Rattle.number.specs.Digits.{cap, pushed, digitsFrom};
 ghost use Rattle.number.specs.Numbers.{sized, mantissaOf, cutMantissa, signLength, exponentOf, cutExponent, numberOf};
 use label::Limits;
-
-// ── bytes ──
-
-// The byte at a place; 0 at the end, which is no byte that an entry may have.
-pub fn byte_at(s: &[u8], at: usize) -> u8
-    ensures { λ r. ⌜ r ≡ headOf (drop at (now (s .entry))) ⌝ }
-{
-    if at < s.len() { s[at] } else { 0 }
-}
 
 // ── digits ──
 
@@ -227,7 +218,7 @@ fn mantissa_at(s: &[u8], at: usize) -> Mantissa
     let whole = digits_at(s, at, 0);
     let n = whole.count;
     let v = whole.value;
-    let b = byte_at(s, at + n);
+    let b = octets::byte_or_zero(s, at + n);
     if b == 46 {
         let part = digits_at(s, at + (n + 1), v);
         let k = part.count;
@@ -272,8 +263,8 @@ fn exponent_at(s: &[u8], at: usize) -> Exponent
     ensures { λ r. ⌜ r ≡ cutExponent (exponentOf (drop at (now (s .entry)))) ⌝ }
     ensures bounds { λ r. ⌜ at + r .used ≤ length (now (s .entry)) ⌝ }
 {
-    if is_exponent(byte_at(s, at)) {
-        let b = byte_at(s, at + 1);
+    if is_exponent(octets::byte_or_zero(s, at)) {
+        let b = octets::byte_or_zero(s, at + 1);
         let k = 1 + sign_length(b);
         let d = digits_at(s, at + k, 0);
         let n = d.count;

@@ -1,6 +1,5 @@
 // Bytes in memory: numbers low byte first, bytes looked at, and bytes stored as far as there is room.
 ghost use mathlib.Core.Path.{_≡_};
-ghost use mathlib.Core.Bool.{_&&_, _||_};
 ghost use mathlib.Core.List.{[], _∷_};
 ghost use Prim.Native.Nat.{_+_, _-_, _/_, _%_, _<_, _≤_};
 ghost use lib.Dec.{eqb};

@@ -6,7 +6,7 @@ use native.Mathlib.Numerals.{add-one}
 use mathlib.Core.Path.{_≡_, refl, sym, _∙_}
 use mathlib.Core.Bool.{Bool, true, false, cond, not, _&&_, false≢true, and-false}
 use mathlib.Core.List.{List, [], _∷_}
-use borrow.Author.Tests.{le-leb, lt-leb}
+use borrow.Author.Tests.{le-leb, lt-leb, leb-true}
 use lib.Dec.{leb}
 use lib.ListN.{length, getD, drop, length-drop, drop-of-length-le}
 use lib.Seq.{drop-cons}
@@ -39,23 +39,38 @@ chosen-nth (r ∷ rs) m (suc k) b (f, fs, e, l, u, o) h =
     let n : inFirst (r .bytes) b ≡ false = rw e (above-range (f .lo) (f .hi) b (omega (arith, nth-above rs (suc (f .hi)) k b o h))) in
     rw n (chosen-nth rs (suc (f .hi)) k b o h)
 
--- written out, the rows by their first bytes are nine tests in the table's order, as in the code
-pub lead-rows : (b : ℕ) → lead b ≡ cond (within 0x00 0x7f b) (trailingRow 0 0 0)
-    (cond (within 0xc2 0xdf b) (trailingRow 1 0x80 0xbf)
-    (cond (within 0xe0 0xe0 b) (trailingRow 2 0xa0 0xbf)
-    (cond (within 0xe1 0xec b) (trailingRow 2 0x80 0xbf)
-    (cond (within 0xed 0xed b) (trailingRow 2 0x80 0x9f)
-    (cond (within 0xee 0xef b) (trailingRow 2 0x80 0xbf)
-    (cond (within 0xf0 0xf0 b) (trailingRow 3 0x90 0xbf)
-    (cond (within 0xf1 0xf3 b) (trailingRow 3 0x80 0xbf)
-    (cond (within 0xf4 0xf4 b) (trailingRow 3 0x80 0x8f) no-row))))))))
-unfolding lead chosen table
-lead-rows b = refl
+-- the byte is in the first of the ranges, as the code's tests say it
+abbrev InFirst : List Range → ℕ → Type 0
+InFirst [] b = ⊥
+InFirst (r ∷ rs) b = (r .lo ≤ b) × (b ≤ r .hi)
 
--- row k, by the code's flag of its first byte
-pub by-row : (k b : ℕ) {x : Bool} → x ≡ inFirst (nth table k) b → x ≡ true → behind (drop 1 (nth table k)) ≡ lead b
+in-first : (rs : List Range) (b : ℕ) → InFirst rs b → inFirst rs b ≡ true
+in-first [] b h = absurd h
+in-first (r ∷ rs) b (h, k) = within-is (r .lo) (r .hi) b h k
+
+-- row k is chosen by a byte of its first range
+pub by-row : (k b : ℕ) → InFirst (nth table k) b → behind (drop 1 (nth table k)) ≡ lead b
 unfolding lead
-by-row k b e t = sym (chosen-nth table 0 k b rising (sym e ∙ t))
+by-row k b h = sym (chosen-nth table 0 k b rising (in-first (nth table k) b h))
+
+-- no row is chosen between 7F and C2, and above F4
+pub by-none : (b : ℕ) → 0x7f < b → (0xc2 ≤ b → 0xf4 < b) → no-row ≡ lead b
+unfolding lead chosen table
+by-none b h k =
+    rw (
+      above-range 0x00 0x7f b h,
+      out 0xc2 0xdf (omega arith, omega arith),
+      out 0xe0 0xe0 (omega arith, omega arith),
+      out 0xe1 0xec (omega arith, omega arith),
+      out 0xed 0xed (omega arith, omega arith),
+      out 0xee 0xef (omega arith, omega arith),
+      out 0xf0 0xf0 (omega arith, omega arith),
+      out 0xf1 0xf3 (omega arith, omega arith),
+      out 0xf4 0xf4 (omega arith, omega arith),
+    )
+  where
+    out : (lo hi : ℕ) → (0xc2 ≤ lo) × (hi ≤ 0xf4) → within lo hi b ≡ false
+    out lo hi (l, u) = cases (leb lo b) (λ t. above-range lo hi b (omega (arith, k (omega (arith, leb-true lo b t))))) (λ t. rw t)
 
 -- ── the bytes behind the first ──
 
@@ -195,6 +210,6 @@ following-inside b bs h =
 pub starts-one : (b : ℕ) (bs : List ℕ) → b ≤ 127 → (startsChar b bs ≡ true) × (following b bs ≡ 0)
 unfolding trail table
 starts-one b bs h =
-    let r : trailingRow 0 0 0 ≡ lead b = by-row 0 b refl (within-is 0 127 b (omega arith) h) in
+    let r : trailingRow 0 0 0 ≡ lead b = by-row 0 b (omega arith, h) in
     let t : startsChar b bs ≡ true = rw (starts-is b bs, ← r) in
     (t, following-is b bs t ∙ rw (← r))

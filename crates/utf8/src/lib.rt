@@ -34,47 +34,31 @@ fn row(more: usize, lo: u8, hi: u8) -> Trailing
 fn row_of(b: u8) -> Trailing
     ensures { λ r. ⌜ r ≡ lead b ⌝ }
 {
-    // U+0000..U+007F: 00..7F
-    if octets::is_within(0x00, 0x7f, b) {
-        return row(0, 0, 0);
-    }
-    // U+0080..U+07FF: C2..DF, 80..BF
-    if octets::is_within(0xc2, 0xdf, b) {
-        return row(1, 0x80, 0xbf);
-    }
-    // U+0800..U+0FFF: E0, A0..BF, 80..BF
-    if octets::is_within(0xe0, 0xe0, b) {
-        return row(2, 0xa0, 0xbf);
-    }
-    // U+1000..U+CFFF: E1..EC, 80..BF, 80..BF
-    if octets::is_within(0xe1, 0xec, b) {
-        return row(2, 0x80, 0xbf);
-    }
-    // U+D000..U+D7FF: ED, 80..9F, 80..BF
-    if octets::is_within(0xed, 0xed, b) {
-        return row(2, 0x80, 0x9f);
-    }
-    // U+E000..U+FFFF: EE..EF, 80..BF, 80..BF
-    if octets::is_within(0xee, 0xef, b) {
-        return row(2, 0x80, 0xbf);
-    }
-    // U+10000..U+3FFFF: F0, 90..BF, 80..BF, 80..BF
-    if octets::is_within(0xf0, 0xf0, b) {
-        return row(3, 0x90, 0xbf);
-    }
-    // U+40000..U+FFFFF: F1..F3, 80..BF, 80..BF, 80..BF
-    if octets::is_within(0xf1, 0xf3, b) {
-        return row(3, 0x80, 0xbf);
-    }
-    // U+100000..U+10FFFF: F4, 80..8F, 80..BF, 80..BF
-    if octets::is_within(0xf4, 0xf4, b) {
-        return row(3, 0x80, 0x8f);
-    }
-    Trailing {
-        fits: false,
-        more: 0,
-        lo: 0,
-        hi: 0,
+    match b {
+        // U+0000..U+007F: 00..7F
+        0x00..=0x7f => row(0, 0, 0),
+        // U+0080..U+07FF: C2..DF, 80..BF
+        0xc2..=0xdf => row(1, 0x80, 0xbf),
+        // U+0800..U+0FFF: E0, A0..BF, 80..BF
+        0xe0 => row(2, 0xa0, 0xbf),
+        // U+1000..U+CFFF: E1..EC, 80..BF, 80..BF
+        0xe1..=0xec => row(2, 0x80, 0xbf),
+        // U+D000..U+D7FF: ED, 80..9F, 80..BF
+        0xed => row(2, 0x80, 0x9f),
+        // U+E000..U+FFFF: EE..EF, 80..BF, 80..BF
+        0xee..=0xef => row(2, 0x80, 0xbf),
+        // U+10000..U+3FFFF: F0, 90..BF, 80..BF, 80..BF
+        0xf0 => row(3, 0x90, 0xbf),
+        // U+40000..U+FFFFF: F1..F3, 80..BF, 80..BF, 80..BF
+        0xf1..=0xf3 => row(3, 0x80, 0xbf),
+        // U+100000..U+10FFFF: F4, 80..8F, 80..BF, 80..BF
+        0xf4 => row(3, 0x80, 0x8f),
+        _ => Trailing {
+            fits: false,
+            more: 0,
+            lo: 0,
+            hi: 0,
+        },
     }
 }
 

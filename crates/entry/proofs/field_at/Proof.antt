@@ -9,8 +9,8 @@ use Rattle.number.proofs.DigitLaws.{head-in}
 use Rattle.entry.proofs.field_at.Statement.{statement}
 use Rattle.entry.proofs.field_at.Tie as tie
 
-byte-at-requires : tie.Need-byte-at-requires
-byte-at-requires c κs = search needs
+byte-or-zero-requires : tie.Need-byte-or-zero-requires
+byte-or-zero-requires c κs = search needs
 
 not-given-requires : tie.Need-not-given-requires
 not-given-requires c κs = search needs
@@ -18,9 +18,9 @@ not-given-requires c κs = search needs
 returns : tie.Need-returns
 returns c =
     let at-if1 = c .before in
-    let at-byte-at = at-if1 .before in
-    let at-start = at-byte-at .before .before in (
-      c .not-given .ensures ∙ code-absent (at-start .args .s .now) (at-start .args .at) (λ h. at-if1 .if1 .taken (at-byte-at .byte-at .ensures ∙ h)),
+    let at-byte-or-zero = at-if1 .before in
+    let at-start = at-byte-or-zero .before .before in (
+      c .not-given .ensures ∙ code-absent (at-start .args .s .now) (at-start .args .at) (λ h. at-if1 .if1 .taken (at-byte-or-zero .byte-or-zero .ensures ∙ h)),
       rw (c .not-given .ensures) (omega arith),
     )
 
@@ -38,21 +38,21 @@ returns-2 c =
     let at-if2 = c .before in
     let at-breaks-at = at-if2 .before in
     let at-if1 = at-breaks-at .before in
-    let at-byte-at = at-if1 .before in
-    let at-start = at-byte-at .before .before in (
-      c .not-given2 .ensures ∙ code-empty (at-start .args .s .now) (at-start .args .at) (sym (at-byte-at .byte-at .ensures) ∙ at-if1 .if1 .left)
+    let at-byte-or-zero = at-if1 .before in
+    let at-start = at-byte-or-zero .before .before in (
+      c .not-given2 .ensures ∙ code-empty (at-start .args .s .now) (at-start .args .at) (sym (at-byte-or-zero .byte-or-zero .ensures) ∙ at-if1 .if1 .left)
           (sym (at-breaks-at .breaks-at .ensures) ∙ at-if2 .if2 .taken),
       rw (c .not-given2 .ensures) (omega (
         arith,
-        head-in (at-start .args .s .now) (at-start .args .at) 44 (sym (at-byte-at .byte-at .ensures) ∙ at-if1 .if1 .left) (lit< tt),
+        head-in (at-start .args .s .now) (at-start .args .at) 44 (sym (at-byte-or-zero .byte-or-zero .ensures) ∙ at-if1 .if1 .left) (lit< tt),
       )),
     )
 
-add-byte-at : tie.Need-add-byte-at
-add-byte-at c = search needs
+add-byte-or-zero : tie.Need-add-byte-or-zero
+add-byte-or-zero c = search needs
 
-byte-at-requires-2 : tie.Need-byte-at-requires-2
-byte-at-requires-2 c κs = search needs
+byte-or-zero-requires-2 : tie.Need-byte-or-zero-requires-2
+byte-or-zero-requires-2 c κs = search needs
 
 sign-length-requires : tie.Need-sign-length-requires
 sign-length-requires c κs = search needs
@@ -65,11 +65,12 @@ add-number-at c = search needs
 
 number-at-requires : tie.Need-number-at-requires
 number-at-requires c κs =
-    let at-byte-at2 = c .before in
-    let at-if1 = at-byte-at2 .before .before .before in
-    let at-byte-at = at-if1 .before in
-    signed-after _ _ _ _ (at-byte-at2 .byte-at2 .ensures) (c .sign-length .ensures .0)
-    (head-in _ _ _ (sym (at-byte-at .byte-at .ensures) ∙ at-if1 .if1 .left) (lit< tt))
+    let at-byte-or-zero2 = c .before in
+    let at-if1 = at-byte-or-zero2 .before .before .before in
+    let at-byte-or-zero = at-if1 .before in
+    let at-start = at-byte-or-zero .before .before in
+    signed-after (at-start .args .s .now) _ _ _ (at-byte-or-zero2 .byte-or-zero2 .ensures) (c .sign-length .ensures .0)
+    (head-in (at-start .args .s .now) _ _ (sym (at-byte-or-zero .byte-or-zero .ensures) ∙ at-if1 .if1 .left) (lit< tt))
 
 add-t10 : tie.Need-add-t10
 add-t10 c = search needs
@@ -78,12 +79,12 @@ returns-3 : tie.Need-returns-3
 returns-3 c =
     let at-number-at = c .before in
     let at-sign-length = at-number-at .before in
-    let at-byte-at2 = at-sign-length .before in
-    let at-if2 = at-byte-at2 .before in
+    let at-byte-or-zero2 = at-sign-length .before in
+    let at-if2 = at-byte-or-zero2 .before in
     let at-breaks-at = at-if2 .before in
     let at-if1 = at-breaks-at .before in
-    let at-byte-at = at-if1 .before in (
-      code-given _ _ (sym (at-byte-at .byte-at .ensures) ∙ at-if1 .if1 .left) _ (at-byte-at2 .byte-at2 .ensures)
+    let at-byte-or-zero = at-if1 .before in (
+      code-given _ _ (sym (at-byte-or-zero .byte-or-zero .ensures) ∙ at-if1 .if1 .left) _ (at-byte-or-zero2 .byte-or-zero2 .ensures)
           (sym (at-breaks-at .breaks-at .ensures) ∙ at-if2 .if2 .left) _ (at-sign-length .sign-length .ensures .0) _ (at-number-at .number-at .ensures .0),
       omega arith,
     )
@@ -92,15 +93,15 @@ pub field-at-spec : {M : Type 1} → statement M
 field-at-spec =
     tie.close
     (tie.spec
-    byte-at-requires
+    byte-or-zero-requires
     not-given-requires
     returns
     add-breaks-at
     breaks-at-requires
     not-given-requires-2
     returns-2
-    add-byte-at
-    byte-at-requires-2
+    add-byte-or-zero
+    byte-or-zero-requires-2
     sign-length-requires
     add-k
     add-number-at

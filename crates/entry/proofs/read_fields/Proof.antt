@@ -45,8 +45,8 @@ field-at-requires c κs = search needs
 add-i : tie.Need-add-i
 add-i c = search needs
 
-byte-at-requires : tie.Need-byte-at-requires
-byte-at-requires c κs = search needs
+byte-or-zero-requires : tie.Need-byte-or-zero-requires
+byte-or-zero-requires c κs = search needs
 
 read-advance-requires : tie.Need-read-advance-requires
 read-advance-requires c κs = search needs
@@ -192,7 +192,7 @@ read-fields-spec =
     (tie.spec
     field-at-requires
     add-i
-    byte-at-requires
+    byte-or-zero-requires
     read-advance-requires
     returns
     field-at-requires-2

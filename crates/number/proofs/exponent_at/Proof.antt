@@ -7,17 +7,17 @@ use Rattle.number.proofs.NumberLaws.{signed-in, code-raised, code-unrai
 use Rattle.number.proofs.exponent_at.Statement.{statement}
 use Rattle.number.proofs.exponent_at.Tie as tie
 
-byte-at-requires : tie.Need-byte-at-requires
-byte-at-requires c κs = search needs
+byte-or-zero-requires : tie.Need-byte-or-zero-requires
+byte-or-zero-requires c κs = search needs
 
 is-exponent-requires : tie.Need-is-exponent-requires
 is-exponent-requires c κs = search needs
 
-add-byte-at : tie.Need-add-byte-at
-add-byte-at c = search needs
+add-byte-or-zero : tie.Need-add-byte-or-zero
+add-byte-or-zero c = search needs
 
-byte-at-requires-2 : tie.Need-byte-at-requires-2
-byte-at-requires-2 c κs = search needs
+byte-or-zero-requires-2 : tie.Need-byte-or-zero-requires-2
+byte-or-zero-requires-2 c κs = search needs
 
 sign-length-requires : tie.Need-sign-length-requires
 sign-length-requires c κs = search needs
@@ -30,12 +30,12 @@ add-digits-at c = search needs
 
 digits-at-requires : tie.Need-digits-at-requires
 digits-at-requires c κs =
-    let at-byte-at2 = c .before in
-    let at-if1 = at-byte-at2 .before in
+    let at-byte-or-zero2 = c .before in
+    let at-if1 = at-byte-or-zero2 .before in
     let at-is-exponent = at-if1 .before in
-    let at-byte-at = at-is-exponent .before in (
-      signed-in _ _ _ _ (at-byte-at2 .byte-at2 .ensures) (c .sign-length .ensures .0)
-          (ap isE (sym (at-byte-at .byte-at .ensures)) ∙ sym (at-is-exponent .is-exponent .ensures) ∙ at-if1 .if1 .taken),
+    let at-byte-or-zero = at-is-exponent .before in (
+      signed-in (at-byte-or-zero .before .before .args .s .now) _ _ _ (at-byte-or-zero2 .byte-or-zero2 .ensures) (c .sign-length .ensures .0)
+          (ap isE (sym (at-byte-or-zero .byte-or-zero .ensures)) ∙ sym (at-is-exponent .is-exponent .ensures) ∙ at-if1 .if1 .taken),
       search needs,
     )
 
@@ -45,21 +45,21 @@ add-t10 c = search needs
 returns : tie.Need-returns
 returns c =
     let at-sign-length = c .before in
-    let at-byte-at2 = at-sign-length .before in
-    let at-if1 = at-byte-at2 .before in
+    let at-byte-or-zero2 = at-sign-length .before in
+    let at-if1 = at-byte-or-zero2 .before in
     let at-is-exponent = at-if1 .before in
-    let at-byte-at = at-is-exponent .before in (
-      code-raised _ _ _ _ _ (at-byte-at2 .byte-at2 .ensures) (at-sign-length .sign-length .ensures .0) (c .digits-at .ensures .0)
-          (ap isE (sym (at-byte-at .byte-at .ensures)) ∙ sym (at-is-exponent .is-exponent .ensures) ∙ at-if1 .if1 .taken),
+    let at-byte-or-zero = at-is-exponent .before in (
+      code-raised _ _ _ _ _ (at-byte-or-zero2 .byte-or-zero2 .ensures) (at-sign-length .sign-length .ensures .0) (c .digits-at .ensures .0)
+          (ap isE (sym (at-byte-or-zero .byte-or-zero .ensures)) ∙ sym (at-is-exponent .is-exponent .ensures) ∙ at-if1 .if1 .taken),
       omega arith,
     )
 
 returns-2 : tie.Need-returns-2
 returns-2 c =
     let at-is-exponent = c .before in
-    let at-byte-at = at-is-exponent .before in
-    let at-start = at-byte-at .before .before in (
-      code-unraised (at-start .args .s .now) (at-start .args .at) (ap isE (sym (at-byte-at .byte-at .ensures)) ∙ sym (at-is-exponent .is-exponent .ensures)
+    let at-byte-or-zero = at-is-exponent .before in
+    let at-start = at-byte-or-zero .before .before in (
+      code-unraised (at-start .args .s .now) (at-start .args .at) (ap isE (sym (at-byte-or-zero .byte-or-zero .ensures)) ∙ sym (at-is-exponent .is-exponent .ensures)
           ∙ c .if1 .left),
       omega arith,
     )
@@ -68,10 +68,10 @@ pub exponent-at-spec : {M : Type 1} → statement M
 exponent-at-spec =
     tie.close
     (tie.spec
-    byte-at-requires
+    byte-or-zero-requires
     is-exponent-requires
-    add-byte-at
-    byte-at-requires-2
+    add-byte-or-zero
+    byte-or-zero-requires-2
     sign-length-requires
     add-k
     add-digits-at
