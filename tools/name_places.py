@@ -37,14 +37,23 @@ def without_aliases(body):
         body = re.sub(PLACE % re.escape(name), lambda m: path + m.group(1), body)
 
 
+def halfway(used):
+    """Places between those used, so that no name counts more than ten steps."""
+    found, last = set(), 0
+    for k in sorted(used):
+        found.update(range(last + 10, k - 1, 10))
+        last = k
+    return found
+
+
 def named(body, names):
     """The lets for the places that the body uses, and the body over them."""
     body = without_aliases(body)
-    used = sorted({m.group(1).count('.before') for m in re.finditer(PLACE % 'c', body)} - {0})
+    used = {m.group(1).count('.before') for m in re.finditer(PLACE % 'c', body)} - {0}
+    if any(k >= len(names) for k in used):
+        return None
     lets, known, count = [], 'c', 0
-    for k in used:
-        if k >= len(names):
-            return None
+    for k in sorted(used | halfway(used)):
         lets.append(f"let {names[k]} = {known}{' .before' * (k - count)} in")
         known, count = names[k], k
     body = re.sub(PLACE % 'c', lambda m: names[m.group(1).count('.before')] if m.group(1) else 'c', body)

@@ -239,7 +239,8 @@ module _ (t en r0 : List ℕ) (te : t ≡ en ++ r0) (k0 : ends isSemi r0 ≡ tru
     unfolding wellFormed
     well-same =
         scan-test t
-        ∙ head-test (first (one (one (ends isSemi)))) (stuck-first (one (one (ends isSemi))) (stuck-one (one (ends isSemi)) (stuck-one (ends isSemi) stuck-end)))
+        ∙ head-test (first (one (one (ends isSemi)))) (stuck-first (one (one (ends isSemi)))
+        (stuck-one (one (ends isSemi)) (stuck-one (ends isSemi) stuck-end)))
         (c .p) (c .r ++ r0) t headed
         ∙ rw (
           first-is (one (one (ends isSemi))) (stuck-one (one (ends isSemi)) (stuck-one (ends isSemi) stuck-end)) (x .p) (x .r' ++ r0) (c .r ++ r0) (x .fld),

@@ -182,7 +182,8 @@ sheet-refusal room file n p e =
         → ((n ≡ 25) × (p ≡ 0)) ⊎ ((n ≡ 26) × (p < length (sheetRecords file))) ⊎ ((n ≡ 27) × (p ≡ length (fileLabels file)) × (room < 2 * p))
     first v =
         cases (begins header file)
-        (λ t. inr (inl (subst (OneNumber 26 (length (sheetRecords file))) (rw t at v) (record-checks (length (sheetRecords file)) (sheetRecords file) 0 (omega arith)))))
+        (λ t. inr (inl (subst (OneNumber 26 (length (sheetRecords file))) (rw t at v)
+        (record-checks (length (sheetRecords file)) (sheetRecords file) 0 (omega arith)))))
         (λ t. let f : _≡_ {A = Outcome (Unit {0})} (no 25 0) (no n p) = rw t at v in
         let a : n ≡ 25 = cc in
         let b : p ≡ 0 = cc in inl (a, b))

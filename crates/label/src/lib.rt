@@ -51,7 +51,17 @@ impl Limits {
 
     // Ties each constant to the name that the definitions cite.
     pub fn values() -> LimitValues
-        ensures { λ r. ⌜ r ≡ record { text = maxTextBytes; indices = maxIndicesBytes; units = maxUnits; glyphs = maxGlyphs; index = maxIndex; digits = maxDigits; exponent = maxExponentDigits; thousandths = maxThousandths; line = maxLineBytes } ⌝ }
+        ensures { λ r. ⌜ r ≡ record {
+          text = maxTextBytes;
+          indices = maxIndicesBytes;
+          units = maxUnits;
+          glyphs = maxGlyphs;
+          index = maxIndex;
+          digits = maxDigits;
+          exponent = maxExponentDigits;
+          thousandths = maxThousandths;
+          line = maxLineBytes;
+        } ⌝ }
     {
         LimitValues {
             text: Limits::TEXT_BYTES,

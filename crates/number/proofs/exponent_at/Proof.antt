@@ -59,7 +59,8 @@ returns-2 c =
     let at-is-exponent = c .before in
     let at-byte-or-zero = at-is-exponent .before in
     let at-start = at-byte-or-zero .before .before in (
-      code-unraised (at-start .args .s .now) (at-start .args .at) (ap isE (sym (at-byte-or-zero .byte-or-zero .ensures)) ∙ sym (at-is-exponent .is-exponent .ensures)
+      code-unraised (at-start .args .s .now) (at-start .args .at) (ap isE (sym (at-byte-or-zero .byte-or-zero .ensures))
+          ∙ sym (at-is-exponent .is-exponent .ensures)
           ∙ c .if1 .left),
       omega arith,
     )

@@ -43,7 +43,8 @@ returns c =
     let at-if1 = c .before in
     let at-byte-or-zero = at-if1 .before in
     let at-digits-at = at-byte-or-zero .before in (
-      code-pointed _ _ _ (at-digits-at .digits-at .ensures .0) _ (c .digits-at2 .ensures .0) (sym (at-byte-or-zero .byte-or-zero .ensures) ∙ at-if1 .if1 .taken),
+      code-pointed _ _ _ (at-digits-at .digits-at .ensures .0) _ (c .digits-at2 .ensures .0)
+          (sym (at-byte-or-zero .byte-or-zero .ensures) ∙ at-if1 .if1 .taken),
       omega arith,
     )
 

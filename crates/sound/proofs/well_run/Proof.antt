@@ -49,12 +49,13 @@ numbers : (c : tie.After-number-at6 Inv-loop μ-loop)
     → (let at-number-at5 = c .before in
     let at-loop = at-number-at5 .before .before .before .before .before .before .before .before .before .before .before in
     let at-start = at-loop .before .before .before .before .before .before .before in
-    (let a = at-start .args in
-    Numbers (words (a .cs .now)) (at-loop .loop .i) (at-number-at5 .number-at5 .result) (c .number-at6 .result)))
+    let a = at-start .args in
+    Numbers (words (a .cs .now)) (at-loop .loop .i) (at-number-at5 .number-at5 .result) (c .number-at6 .result))
 numbers c =
     let at-number-at5 = c .before in
     let at-if4 = at-number-at5 .before in
-    let at-number-count = at-if4 .before .before .before .before .before .before .before .before .before .before .before .before in
+    let at-loop = at-if4 .before .before .before .before .before .before .before .before .before .before in
+    let at-number-count = at-loop .before .before in
     record {
       left = omega (arith, at-if4 .if4 .left, at-number-count .number-count .ensures .0);
       first = at-number-at5 .number-at5 .ensures;
@@ -207,16 +208,18 @@ tail-from-requires c κs = search needs
 add-at : tie.Need-add-at Inv-loop μ-loop
 add-at c =
     let at-count = c .before .before .before .before .before .before in
-    let p1 = at-count .before .before .before .before .before .before .before .before .before .before .before .before in
-    let at-loop = p1 .before .before .before .before in
+    let at-glyph-ok = at-count .before .before .before .before .before .before .before .before .before .before in
+    let at-loop = at-glyph-ok .before .before .before .before .before .before in
     let at-unit-count = at-loop .before .before .before in
-    let start = at-unit-count .before .before .before .before in
-    record { fits = omega (arith, at-loop .loop .inv .0, at-unit-count .unit-count .ensures .1, start .good .0 .0, at-count .count .ensures .1) }
+    let at-start = at-unit-count .before .before .before .before in
+    record { fits = omega (arith, at-loop .loop .inv .0, at-unit-count .unit-count .ensures .1, at-start .good .0 .0, at-count .count .ensures .1) }
 
 add-i : tie.Need-add-i Inv-loop μ-loop
 add-i c =
-    let at-if4 = c .before .before .before .before .before .before .before .before .before .before .before .before in
-    let at-number-count = at-if4 .before .before .before .before .before .before .before .before .before .before .before .before in
+    let at-number-at6 = c .before .before .before .before .before .before .before .before .before .before in
+    let at-if4 = at-number-at6 .before .before in
+    let at-loop = at-if4 .before .before .before .before .before .before .before .before .before .before in
+    let at-number-count = at-loop .before .before in
     record { fits = omega (arith, at-if4 .if4 .left, at-number-count .number-count .ok) }
 
 less-one-requires : tie.Need-less-one-requires Inv-loop μ-loop
@@ -224,7 +227,9 @@ less-one-requires c κs = search needs
 
 loop-less-2 : tie.Need-loop-less-2 Inv-loop μ-loop
 loop-less-2 c =
-    let at-loop-test = c .before .before .before .before .before .before .before .before .before .before .before .before .before .before .before .before .before .before .before .before .before .before in
+    let at-is-natural2 = c .before .before .before .before .before .before .before .before .before .before in
+    let at-number-at2 = at-is-natural2 .before .before .before .before .before .before .before .before .before .before in
+    let at-loop-test = at-number-at2 .before .before in
     omega (arith, at-loop-test .loop-test .taken)
 
 loop-again-2 : tie.Need-loop-again-2 Inv-loop μ-loop
