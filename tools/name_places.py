@@ -2,12 +2,12 @@
 """Names the places that a proof counts, and breaks its long lines.
 
   name_places.py CRATE [FN..]     for the proof files of these functions, or of all
-  name_places.py CRATE --again    the same, over what an earlier run generated
+  name_places.py CRATE --again    the same, over the places that an earlier run, `dev.py --places` or `answers.py` had generated
   name_places.py CRATE --wrap     only breaks long lines, in the law files of proofs/ too
 
 In a proof `c .before .before .loop` is a fact of the place two steps before `c`. Where one answer goes back far, or has a line above 160 characters, each place
 that it uses is named once, after what stands there: `let at-loop = c .before .before in`, and the facts are `at-loop .loop`. Long lines are broken between
-arguments. Run `rt fmt` afterwards, and check the crate.
+arguments. Prints the files that it writes, and nothing where all is well. Run `rt fmt` afterwards, and check the crate.
 """
 import argparse, glob, os, re
 

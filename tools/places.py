@@ -1,4 +1,4 @@
-"""The places behind `c` in a function's needs, for dev.py and answers.py.
+"""The places behind `c` in a function's needs, for dev.py, answers.py and name_places.py.
 
 A need is stated of `c`, the record of what is known at one place of the code. `c` has a field named after that place, and `before`, the record of the place
 before it, and so on back to `Start`, the function's entry. The check writes all this out when it is asked for its generated files; here they are read.
