@@ -1,3 +1,4 @@
+-- `glyph_label::glyph_label_read` meets its contract. Assumes nothing.
 use mathlib.Core.Path.{sym, subst, _∙_}
 use Rattle.glyph_label.specs.Fits.{Small32, ReadingFits}
 use Rattle.label.specs.Calls.{roomOf, readInto}
@@ -6,39 +7,33 @@ use Rattle.glyph_label.proofs.Bounds.{reading-fits, rounded-fits, answe
 use borrow.Author.Needs.{needs}
 use Rattle.glyph_label.proofs.glyph_label_read.Statement.{statement}
 use Rattle.glyph_label.proofs.glyph_label_read.Tie as tie
-use Rattle.glyph_label.proofs.glyph_label_read.Reads as reads
-use Rattle.glyph_label.proofs.glyph_label_read.Lts as lts
-use Rattle.glyph_label.proofs.reading_answer.Reads as reading-answer-reads
-use Rattle.reader.proofs.read.Reads as read-reads
 
--- src/lib.rt:188:20
 read-requires : tie.Need-read-requires
 read-requires c κs = search needs
 
--- src/lib.rt:188:5
 reading-answer-requires : tie.Need-reading-answer-requires
 reading-answer-requires c κs =
-    let a = c .before .before .before .before .before .before .before .before .before .before .before .before .before .before .before .args in
-    let r = c .before .before .before .before .before .before .read .ensures in
+    let at-read = c .before .before .before .before .before .before in
+    let at-start = at-read .before .before .before .before .before .before .before .before .before in
+    let a = at-start .args in
+    let r = at-read .read .ensures in
     (subst ReadingFits (sym (r .0)) (reading-fits _ _ _), subst Small32 (sym (r .1 .0)) (rounded-fits _ (a .text .now) (a .indices .now)))
 
--- src/lib.rt:175:1
 same-length : tie.Need-same-length
 same-length c = search needs
 
--- src/lib.rt:175:1
 same-length-2 : tie.Need-same-length-2
 same-length-2 c = search needs
 
--- src/lib.rt:175:1
 same-length-3 : tie.Need-same-length-3
 same-length-3 c = search needs
 
--- src/lib.rt:175:1
 returns : tie.Need-returns
 returns c =
-    let a = c .before .before .before .before .before .before .before .before .before .before .before .before .before .before .before .before .args in
-    let b = c .before .before .before .before .before .before .before .read in
+    let at-read = c .before .before .before .before .before .before .before in
+    let at-start = at-read .before .before .before .before .before .before .before .before .before in
+    let a = at-start .args in
+    let b = at-read .read in
     let r = b .ensures in
     let o = readInto (roomOf (a .units .now) (a .clusters .now) (a .glyphs .now)) (a .text .now) (a .indices .now) in
     record {

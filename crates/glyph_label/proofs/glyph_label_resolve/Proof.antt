@@ -18,8 +18,9 @@ same-length c = search needs
 
 returns : tie.Need-returns
 returns c =
-    let at-fill = c .before .before .before .resolve in
-    record { answer = c .filled-answer .ensures ∙ ap filledAnswer (at-fill .ensures .0); buffer = at-fill .ensures .1 }
+    let at-resolve = c .before .before .before in
+    let f = at-resolve .resolve .ensures in
+    record { answer = c .filled-answer .ensures ∙ ap filledAnswer (f .0); buffer = f .1 }
 
 pub glyph-label-resolve-spec : {M : Type 1} → statement M
 glyph-label-resolve-spec =

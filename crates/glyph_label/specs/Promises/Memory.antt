@@ -22,7 +22,7 @@ pub record Fixed (checks : List Check) (number place : ℕ) : Type 0 where
   -- and what the first cause that holds gives is the answer
   pub only : (n p : ℕ) → GivenBy checks n p → (number ≡ n) × (place ≡ p)
 
--- such a call with these checks fills `count` places, which are these bytes
+-- what a call promises that fills one lent buffer (`FillCall` of Contracts): it has these checks, and `count` places to fill with these bytes
 pub record Fills (checks : List Check) (count : ℕ) (bytes old : List ℕ) (a : GlyphLabelFilled) (new : List ℕ) : Type 0 where
   pub fixed : Fixed checks (a .number) (a .place)
   -- document 02: "a call that fills a lent list or buffer returns how many places it filled, and places behind them stay"
