@@ -151,35 +151,37 @@ module _ (turn : Bool) (us cs gs : List ℕ) (first end : ℕ) where
       by true = glyphs-steps z first end
       by false = units-steps z first end
 
+  -- the run is sound, and y says whether the stretch is inside what the pick counts
+  pub record Asked (y : Bool) : Type 0 where
+    pub yes : sound z ≡ true
+    pub is : y ≡ inside first end count
+
   module _ {x : Bool} (ex : x ≡ sound z) where
     pub refuses-19 : not x ≡ true → no 19 0 ≡ pickAlong turn z first end
     refuses-19 k = sym (pick-is ∙ rw (sym ex ∙ not-true x k))
 
-    module _ (kx : not x ≡ false) {n : ℕ} (en : n ≡ count) {y : Bool} (ey : y ≡ (ltb first end && leb end n)) where
-      yes : sound z ≡ true
-      yes = sym ex ∙ not-false x kx
+    pub asks : not x ≡ false → {n : ℕ} → n ≡ count → {y : Bool} → y ≡ (ltb first end && leb end n) → Asked y
+    asks k en ey = record { yes = sym ex ∙ not-false x k; is = ey ∙ rw en }
 
-      judged : y ≡ inside first end count
-      judged = ey ∙ rw en
+  module _ {y : Bool} (a : Asked y) where
+    pub refuses-22 : not y ≡ true → no 22 0 ≡ pickAlong turn z first end
+    refuses-22 k = sym (pick-is ∙ rw (a .yes, sym (a .is) ∙ not-true y k))
 
-      pub refuses-22 : not y ≡ true → no 22 0 ≡ pickAlong turn z first end
-      refuses-22 k = sym (pick-is ∙ rw (yes, sym judged ∙ not-true y k))
+    module _ (k : not y ≡ false) where
+      within : inside first end count ≡ true
+      within = sym (a .is) ∙ not-false y k
 
-      module _ (ky : not y ≡ false) where
-        within : inside first end count ≡ true
-        within = sym judged ∙ not-false y ky
+      pub picks-stretch : {s : Stretch} → s ≡ touched first end (way turn (clustersOf (words cs))) → ok s ≡ pickAlong turn z first end
+      picks-stretch e = sym (pick-is ∙ rw (a .yes, within, e))
 
-        pub picks-stretch : {s : Stretch} → s ≡ touched first end (way turn (clustersOf (words cs))) → ok s ≡ pickAlong turn z first end
-        picks-stretch e = sym (pick-is ∙ rw (yes, within, e))
+      few : (t : Bool) → (cond t (length (halves us)) (length (glyphsOf (words gs))) ≤ 4096) × (unitSum (way t (clustersOf (words cs))) ≤ 4096)
+      unfolding way
+      few true = (few-units us cs gs (a .yes), let e = glyphs-add-up us cs gs (a .yes) in let f = few-glyphs us cs gs (a .yes) in omega arith)
+      few false = (few-glyphs us cs gs (a .yes), let e = units-add-up us cs gs (a .yes) in let f = few-units us cs gs (a .yes) in omega arith)
 
-        few : (t : Bool) → (cond t (length (halves us)) (length (glyphsOf (words gs))) ≤ 4096) × (unitSum (way t (clustersOf (words cs))) ≤ 4096)
-        unfolding way
-        few true = (few-units us cs gs yes, let e = glyphs-add-up us cs gs yes in let f = few-glyphs us cs gs yes in omega arith)
-        few false = (few-glyphs us cs gs yes, let e = units-add-up us cs gs yes in let f = few-units us cs gs yes in omega arith)
-
-        pub within-limits : (first < end) × (end < 4294967296) × (unitSum (way turn (clustersOf (words cs))) < 4294967296)
-        within-limits =
-            let a : first < end = ltb-true first end (and-l _ _ within) in
-            let b : end ≤ count = leb-true end count (and-r (ltb first end) _ within) in
-            let (f, g) = few turn in
-            (a, omega arith, omega arith)
+      pub within-limits : (first < end) × (end < 4294967296) × (unitSum (way turn (clustersOf (words cs))) < 4294967296)
+      within-limits =
+          let a : first < end = ltb-true first end (and-l _ _ within) in
+          let b : end ≤ count = leb-true end count (and-r (ltb first end) _ within) in
+          let (f, g) = few turn in
+          (a, omega arith, omega arith)

@@ -112,6 +112,13 @@ pub record Filled (us s : List ℕ) (c₀ g₀ cs gs : List ℕ) (c : Cursor) : 
   pub clusters : Stored c₀ cs (clusterBytes (pre .clusters))
   pub glyphs : Stored g₀ gs (glyphBytes (pre .glyphs))
 
+-- entry x at c, in a text of n units, can be stored, and then the walk stands behind it
+pub record Fills (us s : List ℕ) (c₀ g₀ cs gs : List ℕ) (c : Cursor) (n : ℕ) (x : Item) : Type 0 where
+  pub fits : Storable n c x (length cs) (length gs)
+  pub then : (d : Cursor) (cs′ gs′ : List ℕ) → d ≡ advanced c 0 (takenBy n (c .lack) (x .units)) (x .glyphs) (c .place + x .used + 1)
+      → cs′ ≡ sets cs (8 * c .clusters) (clusterBytes (openedHere (c .lack) (takenBy n (c .lack) (x .units)) (x .glyphs)))
+      → gs′ ≡ sets gs (16 * c .entry) (glyphPlaces (x .glyph)) → Filled us s c₀ g₀ cs′ gs′ d
+
 after-ok : (p : Parts) (o : Outcome Parts) (q : Parts) → after p o ≡ ok q → (r : Parts) × (o ≡ ok r) × (joined p r ≡ q)
 after-ok p (ok r) q h = (r, refl, ok-path (joined p r) q h)
 after-ok p (no n m) q h = no-ok n m q h
@@ -215,7 +222,6 @@ module _ (us s : List ℕ) (all : Parts) (good : walk (empty us) (startState us)
           → 16 * length (all .glyphs) ≤ length old → Stored old out′ (glyphBytes (joined pre more .glyphs))
       glyphs-stored = listed-stored _ _ _ _ glyphs-listed all pre (c .entry) (st .glyphs-are) more (then .others) (then .is) _ glyph-is old out out′
 
-  -- an entry x that was read can be stored, and then the walk stands behind it
   module _ (c₀ g₀ cs gs : List ℕ) (c : Cursor) (l : Filled us s c₀ g₀ cs gs c) (hi : c .place ≤ length s) (hc : 8 * length (all .clusters) ≤ length c₀)
       (hg : 16 * length (all .glyphs) ≤ length g₀)
       (n : ℕ) (en : n ≡ length us) (x : Item) (h : entryAt s c ≡ Read x) where
@@ -228,7 +234,7 @@ module _ (us s : List ℕ) (all : Parts) (good : walk (empty us) (startState us)
     turn : (d : Cursor) → d ≡ behind → Turned us s (l .pre) (l .lack) c d units x
     turn d ed = fill-turn (l .pre) (l .lack) c (l .stands) (l .ready) hi x n units h en refl d ed
 
-    pub storable : Storable n c x (length cs) (length gs)
+    storable : Storable n c x (length cs) (length gs)
     storable =
         let w : Turned us s (l .pre) (l .lack) c behind units x = turn behind refl in (
           small-counts (l .pre) (l .lack) c behind units x w (l .stands),
@@ -240,7 +246,7 @@ module _ (us s : List ℕ) (all : Parts) (good : walk (empty us) (startState us)
           omega (arith, w .behind, l .ready .few-bytes),
         )
 
-    pub filled-on : (d : Cursor) (cs′ gs′ : List ℕ) → d ≡ behind → cs′ ≡ sets cs (8 * c .clusters) (clusterBytes (openedHere (c .lack) units (x .glyphs)))
+    filled-on : (d : Cursor) (cs′ gs′ : List ℕ) → d ≡ behind → cs′ ≡ sets cs (8 * c .clusters) (clusterBytes (openedHere (c .lack) units (x .glyphs)))
         → gs′ ≡ sets gs (16 * c .entry) (glyphPlaces (x .glyph)) → Filled us s c₀ g₀ cs′ gs′ d
     filled-on d cs′ gs′ ed ec eg =
         let w : Turned us s (l .pre) (l .lack) c d units x = turn d ed in
@@ -252,6 +258,9 @@ module _ (us s : List ℕ) (all : Parts) (good : walk (empty us) (startState us)
           clusters = clusters-stored (l .pre) (l .lack) c d units x w (l .stands) c₀ cs cs′ (l .clusters) ec hc;
           glyphs = glyphs-stored (l .pre) (l .lack) c d units x w (l .stands) g₀ gs gs′ (l .glyphs) eg hg;
         }
+
+    pub fills : Fills us s c₀ g₀ cs gs c n x
+    fills = record { fits = storable; then = filled-on }
 
   -- ── the end ──
 

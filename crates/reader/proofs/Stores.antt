@@ -15,9 +15,13 @@ use Rattle.label.specs.Wire.{bitsOf, fourBytes, fromWords}
 use Rattle.label.specs.Places.{indexNumber, advanceNumber, flatClusters, flatGlyphs}
 use Rattle.label.specs.Calls.{filled}
 use Rattle.label.specs.declared.Glyph.{Glyph}
-use Rattle.octets.specs.Puts.{puts}
-use Rattle.octets.proofs.Puts.{sets-append}
+use Rattle.octets.specs.Puts.{puts, Put}
+use Rattle.octets.proofs.Puts.{sets-append, then}
 use Rattle.reader.specs.Stores.{openedHere, clusterBytes, glyphBytes, clusterPlaces, glyphPlaces}
+
+-- a number stored behind those before it
+number-put : (l : List ℕ) (w k n : ℕ) {m : List ℕ} → n ≡ k + 1 → m ≡ puts l (4 * k) (fourBytes w) → Put l (4 * k) (fourBytes w) (4 * n) m
+number-put l w k n e h = let i : 4 * n ≡ 4 * k + 4 = omega arith in record { behind = i; is = h }
 
 -- ── a cluster ──
 
@@ -41,9 +45,8 @@ pub pair-stored : (out o₁ o₂ : List ℕ) (lack n a b : ℕ) → lack ≡ 0 �
     → o₂ ≡ sets out (8 * n) (clusterBytes (openedHere lack a b))
 unfolding puts clusterPlaces
 pair-stored out o₁ o₂ lack n a b h e₁ e₂ =
-    let p0 : 4 * (2 * n) ≡ 8 * n = omega arith in
-    let p1 : 4 * (2 * n + 1) ≡ suc (suc (suc (suc (8 * n)))) = omega arith in
-    e₂ ∙ rw (e₁, opened-yes lack a b h, p0, p1)
+    let p : 4 * (2 * n) ≡ 8 * n = omega arith in
+    then (number-put out a (2 * n) (2 * n + 1) refl e₁) (number-put o₁ b (2 * n + 1) (2 * n + 2) (omega arith) e₂) .is ∙ rw (opened-yes lack a b h, p)
 
 -- ── a glyph ──
 
@@ -54,11 +57,10 @@ pub four-stored : (out o₁ o₂ o₃ o₄ : List ℕ) (k : ℕ) (g : Glyph) (i 
     → o₄ ≡ sets out (16 * k) (glyphPlaces g)
 unfolding puts glyphPlaces
 four-stored out o₁ o₂ o₃ o₄ k g i a u v ei ea eu ev e₁ e₂ e₃ e₄ =
-    let p0 : 4 * (4 * k) ≡ 16 * k = omega arith in
-    let p1 : 4 * (4 * k + 1) ≡ suc (suc (suc (suc (16 * k)))) = omega arith in
-    let p2 : 4 * (4 * k + 2) ≡ suc (suc (suc (suc (suc (suc (suc (suc (16 * k)))))))) = omega arith in
-    let p3 : 4 * (4 * k + 3) ≡ suc (suc (suc (suc (suc (suc (suc (suc (suc (suc (suc (suc (16 * k)))))))))))) = omega arith in
-    e₄ ∙ rw (e₃, e₂, e₁, ei, ea, eu, ev, p0, p1, p2, p3)
+    let p : 4 * (4 * k) ≡ 16 * k = omega arith in
+    then (number-put out i (4 * k) (4 * k + 1) refl e₁) (then (number-put o₁ a (4 * k + 1) (4 * k + 2) (omega arith) e₂)
+    (then (number-put o₂ (bitsOf u) (4 * k + 2) (4 * k + 3) (omega arith) e₃) (number-put o₃ (bitsOf v) (4 * k + 3) (4 * k + 4) (omega arith) e₄))) .is
+    ∙ rw (← ei, ← ea, ← eu, ← ev, p)
 
 -- ── stores one behind the other ──
 

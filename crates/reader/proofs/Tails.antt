@@ -49,16 +49,18 @@ wide-inside [] h = absurd (omega arith)
 wide-inside (u ∷ []) h = cases (isPair (u ∷ [])) (λ p. clash false (and-r (isHigh u) false p) refl) (λ p. rw p (omega arith))
 wide-inside (u ∷ v ∷ us) h = cases (isPair (u ∷ v ∷ us)) (λ p. rw p (omega arith)) (λ p. rw p (omega arith))
 
+-- the next cluster has a units, and there is room for it and for its glyph
+pub record Room (us cs gs : List ℕ) (j c g a : ℕ) : Type 0 where
+  pub some : 1 ≤ a
+  pub few : a ≤ 2
+  pub units : j + a ≤ length us
+  pub clusters : 8 * c + 7 < length cs
+  pub glyphs : 16 * g + 15 < length gs
+
 module _ (us : List ℕ) (c₀ g₀ : List ℕ) (n k : ℕ) (cs gs : List ℕ) (j c g : ℕ) (s : Storing us c₀ g₀ n k cs gs j c g) where
   module _ (h : j < length us) (a : ℕ) (e : a ≡ wide (drop j us)) where
     some : 1 ≤ length (drop j us)
     some = omega (arith, length-drop j us)
-
-    pub inside-next : (1 ≤ a) × (a ≤ 2) × (j + a ≤ length us)
-    inside-next =
-        let w : wide (drop j us) ≤ length (drop j us) = wide-inside (drop j us) some in
-        let b : (1 ≤ wide (drop j us)) × (wide (drop j us) ≤ 2) = cases (isPair (drop j us)) (λ p. rw p (omega arith)) (λ p. rw p (omega arith)) in
-        omega (arith, w, b .0, b .1, length-drop j us)
 
     more : tail (drop j us) ≡ addGlyph true (cluster a 1) fontGlyph (tail (drop (j + a) us))
     more = tail-first (drop j us) a some (sym e) ∙ ap (λ (r : List ℕ). addGlyph true (cluster a 1) fontGlyph (tail r)) (drop-drop a j us)
@@ -69,14 +71,23 @@ module _ (us : List ℕ) (c₀ g₀ : List ℕ) (n k : ℕ) (cs gs : List ℕ) (
     one-glyph : length (tail (drop j us) .glyphs) ≡ suc (length (tail (drop (j + a) us) .glyphs))
     one-glyph = ap (λ (p : Parts). length (p .glyphs)) more
 
-    pub storing-room : (8 * c + 7 < length cs) × (16 * g + 15 < length gs)
-    storing-room = omega (arith, one-cluster, one-glyph, s .room-clusters, s .room-glyphs, s .same-clusters, s .same-glyphs)
+    pub storing-room : Room us cs gs j c g a
+    storing-room =
+        let w : wide (drop j us) ≤ length (drop j us) = wide-inside (drop j us) some in
+        let b : (1 ≤ wide (drop j us)) × (wide (drop j us) ≤ 2) = cases (isPair (drop j us)) (λ p. rw p (omega arith)) (λ p. rw p (omega arith)) in
+        record {
+          some = omega (arith, b .0);
+          few = omega (arith, b .1);
+          units = omega (arith, w, length-drop j us);
+          clusters = omega (arith, one-cluster, s .room-clusters, s .same-clusters);
+          glyphs = omega (arith, one-glyph, s .room-glyphs, s .same-glyphs);
+        }
 
     pub storing-next : (cs′ gs′ : List ℕ) → cs′ ≡ sets cs (8 * c) (clusterPlaces (cluster a 1)) → gs′ ≡ sets gs (16 * g) (glyphPlaces fontGlyph)
         → Storing us c₀ g₀ n k cs′ gs′ (j + a) (c + 1) (g + 1)
     storing-next cs′ gs′ ec eg =
         record {
-          inside = inside-next .2;
+          inside = storing-room .units;
           same-clusters = ap length ec ∙ length-sets cs (8 * c) (clusterPlaces (cluster a 1)) ∙ s .same-clusters;
           same-glyphs = ap length eg ∙ length-sets gs (16 * g) (glyphPlaces fontGlyph) ∙ s .same-glyphs;
           room-clusters = omega (arith, one-cluster, s .room-clusters);

@@ -145,6 +145,11 @@ pub record Numbers (cs : List ℤ) (i p q : ℕ) : Type 0 where
   pub first : signed p ≡ place cs i
   pub second : signed q ≡ place cs (i + 1)
 
+-- v says whether the cluster at place i, of a units and b glyphs, may open here; the rest of the test stands behind it
+pub record Opened (W b₀ : Bool) (us : List ℕ) (cs gs : List ℤ) (t : Bool) (at i k a b : ℕ) (n v : Bool) : Type 0 where
+  pub opens : W ≡ (v && wellAt b₀ us cs gs (t || owes n a b) (b - 1) (at + a) (i + 2) (k + 4))
+  pub within : v ≡ true → at ≤ length us → at + a ≤ length us
+
 -- the code's flags: r, the glyph is allowed; n, it names an index
 module _ {W b₀ : Bool} {us : List ℕ} {cs gs : List ℤ} {t : Bool} {lack at i k x y z w : ℕ} (T : Turn W b₀ us cs gs t lack at i k x y z w) {r : Bool}
     (er : r ≡ glyphOk t (signed x) (signed y) (signed z) (signed w)) where
@@ -187,23 +192,28 @@ module _ {W b₀ : Bool} {us : List ℕ} {cs gs : List ℤ} {t : Bool} {lack at 
       unfolding glyphAt
       font-is = ef ∙ rw (T .first, T .second, T .third, T .fourth)
 
-      abbrev behind : Bool
-      behind = wellAt b₀ us cs gs (t || owes n a b) (b - 1) (at + a) (i + 2) (k + 4)
-
-      cluster-opens : W ≡ (v && behind)
+      cluster-opens : W ≡ (v && wellAt b₀ us cs gs (t || owes n a b) (b - 1) (at + a) (i + 2) (k + 4))
       cluster-opens =
           goes _ _ (T .whole) (turn-opens b₀ us cs gs t lack at i k (T .left) l (C .left)) ok-is h
           ∙ rw (ev, em, eo, ed, ee, C .first, C .second, a-is, b-is, name-is, font-is)
 
-      pub turn-not-opened : not v ≡ true → false ≡ W
-      turn-not-opened s = stops v behind cluster-opens refl refl s
+      pub opens-here : Opened W b₀ us cs gs t at i k a b n v
+      opens-here =
+          record { opens = cluster-opens; within = λ s g. opens-within b₀ us at a b n f g (sym eo ∙ and-r m o (sym ev ∙ s)) }
 
-      module _ (s : not v ≡ false) where
-        pub turn-opened : {t′ : Bool} {m′ : ℕ} → t′ ≡ (t || owes n a b) → m′ ≡ b - 1 → W ≡ wellAt b₀ us cs gs t′ m′ (at + a) (i + 2) (k + 4)
-        turn-opened et el = goes v behind cluster-opens refl refl s ∙ rw (et, el)
+module _ {W b₀ : Bool} {us : List ℕ} {cs gs : List ℤ} {t : Bool} {at i k a b : ℕ} {n v : Bool} (O : Opened W b₀ us cs gs t at i k a b n v) where
+  abbrev behind : Bool
+  behind = wellAt b₀ us cs gs (t || owes n a b) (b - 1) (at + a) (i + 2) (k + 4)
 
-        pub turn-within : at ≤ length us → at + a ≤ length us
-        turn-within g = opens-within b₀ us at a b n f g (sym eo ∙ and-r m o (sym ev ∙ not-false v s))
+  pub turn-not-opened : not v ≡ true → false ≡ W
+  turn-not-opened s = stops v behind (O .opens) refl refl s
+
+  module _ (s : not v ≡ false) where
+    pub turn-opened : {t′ : Bool} {m′ : ℕ} → t′ ≡ (t || owes n a b) → m′ ≡ b - 1 → W ≡ wellAt b₀ us cs gs t′ m′ (at + a) (i + 2) (k + 4)
+    turn-opened et el = goes v behind (O .opens) refl refl s ∙ rw (et, el)
+
+    pub turn-within : at ≤ length us → at + a ≤ length us
+    turn-within = O .within (not-false v s)
 
 -- ── the whole test ──
 
@@ -224,7 +234,7 @@ word-is (a ∷ b ∷ c ∷ d ∷ s) = let e : suc (suc (suc (suc (length s)))) %
 whole-is : (us cs gs : List ℕ) → wholeBytes (length us) (length cs) (length gs) ≡ noLeftOver (places us cs gs)
 whole-is us cs gs = rw (even-is us, word-is cs, word-is gs)
 
-pub sound-is : (us cs gs : List ℕ) → sound (places us cs gs) ≡ (wholeBytes (length us) (length cs) (length gs) && limited (length (halves us))
+sound-is : (us cs gs : List ℕ) → sound (places us cs gs) ≡ (wholeBytes (length us) (length cs) (length gs) && limited (length (halves us))
     (length (words gs) / 4) && (properUnits false (halves us) && wellRun (halves us) (words cs) (words gs)))
 unfolding sound soundRun wellRun
 sound-is us cs gs =
@@ -232,3 +242,19 @@ sound-is us cs gs =
     (regroup (noLeftOver (places us cs gs)) (wholeClusters (words cs)) (wholeGlyphs (words gs)) (properUnits false (halves us))
     (leb (length (halves us)) maxUnits) (leb (length (glyphsOf (words gs))) maxGlyphs) (not (empty (halves us) && empty (glyphsOf (words gs))))
     (fits (empty (halves us)) 0 (halves us) (clustersOf (words cs)) (glyphsOf (words gs))))
+
+-- the code's flags: x, bytes and counts are within the limits; y, the units are those of a text
+module _ (us cs gs : List ℕ) {x : Bool}
+    (e : x ≡ (wholeBytes (length us) (length cs) (length gs) && limited (length (halves us)) (length (words gs) / 4))) where
+  pub not-limited : not x ≡ true → false ≡ sound (places us cs gs)
+  not-limited k = stops _ _ refl (sound-is us cs gs) e k
+
+  module _ (k : not x ≡ false) {y : Bool} (f : y ≡ properUnits false (halves us)) where
+    both-left : sound (places us cs gs) ≡ (properUnits false (halves us) && wellRun (halves us) (words cs) (words gs))
+    both-left = goes _ _ refl (sound-is us cs gs) e k
+
+    pub not-proper : not y ≡ true → false ≡ sound (places us cs gs)
+    not-proper l = stops _ _ both-left refl f l
+
+    pub well-left : not y ≡ false → wellRun (halves us) (words cs) (words gs) ≡ sound (places us cs gs)
+    well-left l = sym (goes _ _ both-left refl f l)

@@ -29,6 +29,13 @@ Answer w r T T′ I I′ = (writingOutcome r ≡ lengths w) × ((T′ ≡ textAf
 refuses : {w : Outcome Label} {r : Writing} (n p : ℕ) (T I : List ℕ) → r ≡ Refused (refusal n p) → w ≡ no n p → Answer w r T T I I
 refuses n p T I f e = rw (e, f) (refl, (refl, refl))
 
+-- a sound run is small
+pub few : (us cs gs : List ℕ) {x : Bool} → x ≡ sound (places us cs gs) → not x ≡ false
+    → (length (halves us) ≤ 1000000000000) × (length (words gs) ≤ 1000000000000)
+few us cs gs {x} e k =
+    let yes : sound (places us cs gs) ≡ true = sym e ∙ not-false x k in
+    omega (arith, few-units us cs gs yes, few-numbers us cs gs yes)
+
 module _ (a : Bool) (us cs gs T I : List ℕ) {x : Bool} (e : x ≡ sound (places us cs gs)) where
   abbrev W : Outcome Label
   W = writeAsked a (outputs T I) (places us cs gs)
@@ -48,12 +55,6 @@ module _ (a : Bool) (us cs gs T I : List ℕ) {x : Bool} (e : x ≡ sound (place
   module _ (k : not x ≡ false) where
     yes : sound (places us cs gs) ≡ true
     yes = sym e ∙ not-false x k
-
-    pub units-few : length (halves us) ≤ 1000000000000
-    units-few = let f = few-units us cs gs yes in omega arith
-
-    pub numbers-few : length (words gs) ≤ 1000000000000
-    numbers-few = let f = few-numbers us cs gs yes in omega arith
 
     module _ {n : ℕ} (et : n ≡ t) where
       pub refuses-20 : {r : Writing} → r ≡ Refused (refusal 20 n) → length T < n → Answer W r T T I I

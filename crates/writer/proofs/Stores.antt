@@ -126,15 +126,17 @@ unfolding led owing
 owes-is n at p [] e = rw (le-ltb at p (omega arith))
 owes-is n at p (a ∷ x) e = rw (lt-ltb at p (omega (arith, e, length-append (semis n) (a ∷ x))))
 
-pub entry-stored : (n : ℕ) (x : List ℕ) (ls : List (List ℕ)) {old whole l m s : List ℕ} {at p r : ℕ} → s ≡ led n x ++ owed (owing n x) ls
-    → Left old whole l 0 at s
-    → Put l at (led n x) p m → r ≡ cond (ltb at p) 1 (n + 1) → Left old whole m 0 p (owed r ls)
-entry-stored n x ls {at = at} {p = p} e f g d =
-    left-next (left-as (e ∙ ap (λ (z : ℕ). led n x ++ owed z ls) (sym (d ∙ owes-is n at p x (g .behind)))) f) g
-
 -- 80 bytes an entry and a separator bound the place
-pub owes-bound : (at p n k r : ℕ) → r ≡ cond (ltb at p) 1 (n + 1) → at ≤ p → p ≤ at + n + 80 → at + n ≤ 21 * k → p + r ≤ 21 * (k + 4)
+owes-bound : (at p n k r : ℕ) → r ≡ cond (ltb at p) 1 (n + 1) → at ≤ p → p ≤ at + n + 80 → at + n ≤ 21 * k → p + r ≤ 21 * (k + 4)
 owes-bound at p n k r h a b e =
     cases (ltb at p)
     (λ t. let q : r ≡ 1 = h ∙ rw t in omega arith)
     (λ t. let z = ltb-false at p t in let q : r ≡ n + 1 = h ∙ rw t in omega arith)
+
+pub entry-stored : (n k : ℕ) (x : List ℕ) (ls : List (List ℕ)) {old whole l m s : List ℕ} {at p r : ℕ} → s ≡ led n x ++ owed (owing n x) ls
+    → Left old whole l 0 at s × (at + n ≤ 21 * k) → Put l at (led n x) p m × (p ≤ at + n + 80) → r ≡ cond (ltb at p) 1 (n + 1)
+    → Left old whole m 0 p (owed r ls) × (p + r ≤ 21 * (k + 4))
+entry-stored n k x ls {at = at} {p = p} {r = r} e f g d = (
+  left-next (left-as (e ∙ ap (λ (z : ℕ). led n x ++ owed z ls) (sym (d ∙ owes-is n at p x (g .0 .behind)))) (f .0)) (g .0),
+  owes-bound at p n k r d (omega (arith, g .0 .behind)) (g .1) (f .1),
+)

@@ -1,10 +1,18 @@
 -- `picks::pick` meets its contract. Assumes nothing.
-use Rattle.picks.proofs.Touches.{refuses-19, refuses-22, picks-stretch, within-limits}
+use Rattle.picks.proofs.Touches.{Asked, asks, refuses-19, refuses-22, picks-stretch, within-limits}
 use Rattle.label.specs.Calls.{pickOutcome}
 use mathlib.Core.Path.{ap, _∙_}
 use borrow.Author.Needs.{needs}
 use Rattle.picks.proofs.pick.Statement.{statement}
 use Rattle.picks.proofs.pick.Tie as tie
+
+-- of a sound run, what the two tests say
+asked : (c : tie.After-both)
+    → (let a = c .before .before .before .before .before .before .before .args in
+    Asked (a .turn) (a .units .now) (a .clusters .now) (a .glyphs .now) (a .first) (a .end) (c .both .result))
+asked c =
+    let at-if1 = c .before .before in
+    asks _ _ _ _ _ _ (at-if1 .before .is-sound .ensures) (at-if1 .if1 .left) (c .before .count-of .ensures) (c .both .ensures)
 
 is-sound-requires : tie.Need-is-sound-requires
 is-sound-requires c κs = search needs
@@ -31,40 +39,13 @@ refused-requires-2 : tie.Need-refused-requires-2
 refused-requires-2 c κs = search needs
 
 returns-2 : tie.Need-returns-2
-returns-2 c =
-    let at-if2 = c .before in
-    let at-both = at-if2 .before in
-    let at-count-of = at-both .before in
-    let at-if1 = at-count-of .before in
-    let at-is-sound = at-if1 .before in
-    let at-start = at-is-sound .before .before .before .before in
-    let a = at-start .args in
-    ap pickOutcome (c .refused2 .ensures)
-    ∙ refuses-22 (a .turn) (a .units .now) (a .clusters .now) (a .glyphs .now) (a .first) (a .end) (at-is-sound .is-sound .ensures) (at-if1 .if1 .left)
-    (at-count-of .count-of .ensures) (at-both .both .ensures) (at-if2 .if2 .taken)
+returns-2 c = ap pickOutcome (c .refused2 .ensures) ∙ refuses-22 _ _ _ _ _ _ (asked (c .before .before)) (c .before .if2 .taken)
 
 touched-by-requires : tie.Need-touched-by-requires
-touched-by-requires c κs =
-    let at-both = c .before in
-    let at-count-of = at-both .before in
-    let at-if1 = at-count-of .before in
-    let at-is-sound = at-if1 .before in
-    let at-start = at-is-sound .before .before .before .before in
-    let a = at-start .args in
-    within-limits (a .turn) (a .units .now) (a .clusters .now) (a .glyphs .now) (a .first) (a .end) (at-is-sound .is-sound .ensures) (at-if1 .if1 .left)
-    (at-count-of .count-of .ensures) (at-both .both .ensures) (c .if2 .left)
+touched-by-requires c κs = within-limits _ _ _ _ _ _ (asked (c .before)) (c .if2 .left)
 
 returns-3 : tie.Need-returns-3
-returns-3 c =
-    let at-if2 = c .before in
-    let at-both = at-if2 .before in
-    let at-count-of = at-both .before in
-    let at-if1 = at-count-of .before in
-    let at-is-sound = at-if1 .before in
-    let at-start = at-is-sound .before .before .before .before in
-    let a = at-start .args in
-    picks-stretch (a .turn) (a .units .now) (a .clusters .now) (a .glyphs .now) (a .first) (a .end) (at-is-sound .is-sound .ensures) (at-if1 .if1 .left)
-    (at-count-of .count-of .ensures) (at-both .both .ensures) (at-if2 .if2 .left) (c .touched-by .ensures)
+returns-3 c = picks-stretch _ _ _ _ _ _ (asked (c .before .before)) (c .before .if2 .left) (c .touched-by .ensures)
 
 pub pick-spec : {M : Type 1} → statement M
 pick-spec =

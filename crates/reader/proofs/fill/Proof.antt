@@ -1,15 +1,17 @@
 -- `reader::fill` meets its contract. Assumes nothing.
 use Prim.Native.Nat.{_+_, _-_}
 use native.Mathlib.Omega.{arith}
-use mathlib.Core.Path.{sym, _∙_, ap}
+use mathlib.Core.Path.{_≡_, sym, _∙_, ap}
 use lib.ListN.{length}
 use Rattle.label.specs.Wire.{fromWords}
 use Rattle.label.specs.Places.{flatClusters, flatGlyphs}
 use Rattle.text.specs.Moves.{unitsFrom}
+use Rattle.entry.specs.declared.Item.{Item}
 use Rattle.entry.specs.declared.EntryRead.the-variants.{Read}
+use Rattle.survey.specs.Steps.{entryAt}
 use Rattle.reader.specs.Stores.{clusterBytes, glyphBytes}
 use Rattle.reader.proofs.Calls.{filling, units-are, clusters-room, glyphs-room, units-filled, clusters-filled, glyphs-filled}
-use Rattle.reader.proofs.Filling.{Filled, place-behind, fill-never, storable, filled-on, end-clusters, end-glyphs, clusters-end, glyphs-end}
+use Rattle.reader.proofs.Filling.{Filled, Fills, place-behind, fill-never, fills, end-clusters, end-glyphs, clusters-end, glyphs-end}
 use Rattle.reader.proofs.Stores.{stored-start}
 use Rattle.reader.proofs.Tails.{units-left}
 use Rattle.survey.proofs.Walking.{nothing, stands-start, ready-start, read-here, digits-here}
@@ -22,6 +24,39 @@ Inv-loop text start indices count units clusters₀ glyphs₀ at₀ clusters gly
 
 abbrev μ-loop : tie.MeasureT-loop
 μ-loop text start indices count units clusters₀ glyphs₀ at₀ clusters glyphs at = length indices + 1 - at .place
+
+-- entry x at the cursor can be stored, and then the walk stands behind it
+abbrev Taking : tie.Then1 Inv-loop μ-loop → Item → Type 0
+Taking c x =
+    let l = c .before .before in
+    let a = l .before .before .before .before .before .before .before .before .before .before .before .args in
+    Fills (unitsFrom (a .text .now) (a .start)) (a .indices .now) (a .clusters .now) (a .glyphs .now) (l .loop .clusters) (l .loop .glyphs) (l .loop .at)
+    (a .count) x
+
+taking : (c : tie.Then1 Inv-loop μ-loop) (x : Item)
+    → (let l = c .before .before in
+    let a = l .before .before .before .before .before .before .before .before .before .before .before .args in
+    entryAt (a .indices .now) (l .loop .at) ≡ Read x) → Taking c x
+taking c x h =
+    let at-loop = c .before .before in
+    let at-start = at-loop .before .before .before .before .before .before .before .before .before .before .before in
+    let p = at-start .pre in
+    let f = filling p in
+    fills _ _ (f .all) (f .walked) _ _ _ _ _ (at-loop .loop .inv) (c .if1 .taken) (clusters-room p) (glyphs-room p) _ (units-are p) x h
+
+-- so an index alone, and any other entry that was read
+alone : (c : tie.After-index-item Inv-loop μ-loop) → Taking (c .before .before .before .before) (c .index-item .result)
+alone c =
+    let at-is-index = c .before .before in
+    let at-if1 = at-is-index .before .before in
+    taking at-if1 _
+    (at-is-index .is-index .ensures .1 (c .before .if2 .taken) .1 (at-if1 .before .before .loop .at .entry) ∙ ap Read (sym (c .index-item .ensures)))
+
+other : (c : tie.After-x Inv-loop μ-loop) → Taking (c .before .before .before .before .before .before .before) (c .x .given .0 .0)
+other c =
+    let at-read-entry = c .before .before in
+    let at-if1 = at-read-entry .before .before .before .before .before in
+    taking at-if1 _ (read-here _ (at-if1 .before .before .loop .at) _ (at-read-entry .read-entry .ensures) _ (c .x .given .1))
 
 fill-units-requires : tie.Need-fill-units-requires Inv-loop μ-loop
 fill-units-requires c κs =
@@ -56,18 +91,7 @@ index-item-requires : tie.Need-index-item-requires Inv-loop μ-loop
 index-item-requires c κs = c .before .is-index .ensures .1 (c .if2 .taken) .0
 
 put-entry-requires : tie.Need-put-entry-requires Inv-loop μ-loop
-put-entry-requires c κs =
-    let at-index-item = c .before .before in
-    let at-if2 = at-index-item .before in
-    let at-is-index = at-if2 .before in
-    let at-if1 = at-is-index .before .before in
-    let at-loop = at-if1 .before .before in
-    let at-start = at-loop .before .before .before .before .before .before .before .before .before .before .before in
-    let p = at-start .pre in
-    let f = filling p in
-    let l = at-loop .loop in
-    let x = at-is-index .is-index .ensures .1 (at-if2 .if2 .taken) .1 (l .at .entry) ∙ ap Read (sym (at-index-item .index-item .ensures)) in
-    storable _ _ (f .all) (f .walked) _ _ _ _ (l .at) (l .inv) (at-if1 .if1 .taken) (clusters-room p) (glyphs-room p) _ (units-are p) _ x
+put-entry-requires c κs = alone (c .before .before) .fits
 
 loop-less : tie.Need-loop-less Inv-loop μ-loop
 loop-less c =
@@ -78,19 +102,8 @@ loop-less c =
 loop-again : tie.Need-loop-again Inv-loop μ-loop
 loop-again c =
     let at-put-entry = c .before .before .before .before in
-    let at-index-item = at-put-entry .before .before .before in
-    let at-if2 = at-index-item .before in
-    let at-is-index = at-if2 .before in
-    let at-if1 = at-is-index .before .before in
-    let at-loop = at-if1 .before .before in
-    let at-start = at-loop .before .before .before .before .before .before .before .before .before .before .before in
-    let p = at-start .pre in
-    let f = filling p in
-    let l = at-loop .loop in
-    let x = at-is-index .is-index .ensures .1 (at-if2 .if2 .taken) .1 (l .at .entry) ∙ ap Read (sym (at-index-item .index-item .ensures)) in
     let e = at-put-entry .put-entry .ensures in
-    filled-on _ _ (f .all) (f .walked) _ _ _ _ (l .at) (l .inv) (at-if1 .if1 .taken) (clusters-room p) (glyphs-room p) _ (units-are p) _ x _ _ _ (e .0)
-    (e .1 .0) (e .1 .1)
+    alone (at-put-entry .before .before .before) .then _ _ _ (e .0) (e .1 .0) (e .1 .1)
 
 sub-read-entry : tie.Need-sub-read-entry Inv-loop μ-loop
 sub-read-entry c = search needs
@@ -113,17 +126,7 @@ enum-known-x : tie.Need-enum-known-x Inv-loop μ-loop
 enum-known-x c = search needs
 
 put-entry-requires-2 : tie.Need-put-entry-requires-2 Inv-loop μ-loop
-put-entry-requires-2 c κs =
-    let at-x = c .before .before .before in
-    let at-read-entry = at-x .before .before in
-    let at-if1 = at-read-entry .before .before .before .before .before in
-    let at-loop = at-if1 .before .before in
-    let at-start = at-loop .before .before .before .before .before .before .before .before .before .before .before in
-    let p = at-start .pre in
-    let f = filling p in
-    let l = at-loop .loop in
-    let x = read-here _ (l .at) _ (at-read-entry .read-entry .ensures) _ (at-x .x .given .1) in
-    storable _ _ (f .all) (f .walked) _ _ _ _ (l .at) (l .inv) (at-if1 .if1 .taken) (clusters-room p) (glyphs-room p) _ (units-are p) _ x
+put-entry-requires-2 c κs = other (c .before .before .before) .fits
 
 loop-less-2 : tie.Need-loop-less-2 Inv-loop μ-loop
 loop-less-2 c =
@@ -134,18 +137,8 @@ loop-less-2 c =
 loop-again-2 : tie.Need-loop-again-2 Inv-loop μ-loop
 loop-again-2 c =
     let at-put-entry2 = c .before .before .before .before in
-    let at-x = at-put-entry2 .before .before .before .before in
-    let at-read-entry = at-x .before .before in
-    let at-if1 = at-read-entry .before .before .before .before .before in
-    let at-loop = at-if1 .before .before in
-    let at-start = at-loop .before .before .before .before .before .before .before .before .before .before .before in
-    let p = at-start .pre in
-    let f = filling p in
-    let l = at-loop .loop in
-    let x = read-here _ (l .at) _ (at-read-entry .read-entry .ensures) _ (at-x .x .given .1) in
     let e = at-put-entry2 .put-entry2 .ensures in
-    filled-on _ _ (f .all) (f .walked) _ _ _ _ (l .at) (l .inv) (at-if1 .if1 .taken) (clusters-room p) (glyphs-room p) _ (units-are p) _ x _ _ _ (e .0)
-    (e .1 .0) (e .1 .1)
+    other (at-put-entry2 .before .before .before .before) .then _ _ _ (e .0) (e .1 .0) (e .1 .1)
 
 enum-told : tie.Need-enum-told Inv-loop μ-loop
 enum-told c = search needs

@@ -1,5 +1,5 @@
 -- `reader::fill_tail` meets its contract. Assumes nothing.
-use Rattle.reader.proofs.Tails.{Storing, storing-start, inside-next, storing-room, storing-next, storing-end}
+use Rattle.reader.proofs.Tails.{Storing, storing-start, Room, storing-room, storing-next, storing-end}
 use Rattle.reader.proofs.Stores.{opened-yes, room-pair}
 use lib.Seq.{sets}
 use lib.ListN.{length}
@@ -25,99 +25,51 @@ loop-holds c =
     let at-start = c .before .before .before .before in
     storing-start _ _ _ _ _ (at-start .pre .0) (at-start .pre .1)
 
+-- the next cluster, whose units `tail_units` gives, is inside the units, and there is room for it
+inside : (c : tie.After-tail-units Inv-loop μ-loop)
+    → (let l = c .before .before in l .loop .j < length (halves (l .before .before .before .before .before .args .units .now)))
+inside c = omega (arith, c .before .loop-test .taken, c .before .before .before .unit-count .ensures .0)
+
+room : (c : tie.After-tail-units Inv-loop μ-loop)
+    → (let l = c .before .before in
+    Room (halves (l .before .before .before .before .before .args .units .now)) (l .loop .clusters) (l .loop .glyphs) (l .loop .j) (l .loop .c) (l .loop .g)
+    (c .tail-units .result))
+room c = storing-room _ _ _ _ _ _ _ _ _ _ (c .before .before .loop .inv) (inside c) _ (c .tail-units .ensures)
+
 tail-units-requires : tie.Need-tail-units-requires Inv-loop μ-loop
 tail-units-requires c κs = omega (arith, c .before .loop .inv .inside, c .before .before .unit-count .ensures .0, c .before .before .unit-count .ensures .1)
 
 put-cluster-requires : tie.Need-put-cluster-requires Inv-loop μ-loop
 put-cluster-requires c κs =
-    let at-tail-units = c .before in
-    let at-loop-test = at-tail-units .before in
-    let at-loop = at-loop-test .before in
-    let at-unit-count = at-loop .before in
-    let at-start = at-unit-count .before .before .before .before in
-    let t : at-loop .loop .j < length (halves (at-start .args .units .now)) = omega
-    (arith, at-loop-test .loop-test .taken, at-unit-count .unit-count .ensures .0)
-    in (
-      λ _. omega (arith, inside-next _ _ _ _ _ _ _ _ _ _ (at-loop .loop .inv) t _ (at-tail-units .tail-units .ensures) .1),
-      room-pair 0 (at-loop .loop .c)
-          (at-tail-units .tail-units .result) 1 _ refl (storing-room _ _ _ _ _ _ _ _ _ _ (at-loop .loop .inv) t _ (at-tail-units .tail-units .ensures) .0),
-    )
+    let r = room (c .before) in
+    (λ _. omega (arith, r .few), room-pair 0 (c .before .before .before .loop .c) (c .before .tail-units .result) 1 _ refl (r .clusters))
 
 put-glyph-requires : tie.Need-put-glyph-requires Inv-loop μ-loop
-put-glyph-requires c κs =
-    let at-tail-units = c .before .before .before .before .before in
-    let at-loop-test = at-tail-units .before in
-    let at-loop = at-loop-test .before in
-    let at-unit-count = at-loop .before in
-    let at-start = at-unit-count .before .before .before .before in
-    let t : at-loop .loop .j < length (halves (at-start .args .units .now)) = omega (
-      arith,
-      at-loop-test .loop-test .taken,
-      at-unit-count .unit-count .ensures .0,
-    )
-    in omega (arith, storing-room _ _ _ _ _ _ _ _ _ _ (at-loop .loop .inv) t _ (at-tail-units .tail-units .ensures) .1)
+put-glyph-requires c κs = let at-tail-units = c .before .before .before .before .before in omega (arith, room at-tail-units .glyphs)
 
 add-j : tie.Need-add-j Inv-loop μ-loop
-add-j c =
-    let at-tail-units = c .before .before .before .before .before .before .before .before in
-    let at-loop-test = at-tail-units .before in
-    let at-loop = at-loop-test .before in
-    let at-unit-count = at-loop .before in
-    let start = at-unit-count .before .before .before .before in
-    let t : at-loop .loop .j < length (halves (start .args .units .now)) = omega (arith, at-loop-test .loop-test .taken, at-unit-count .unit-count .ensures .0)
-    in omega (arith, inside-next _ _ _ _ _ _ _ _ _ _ (at-loop .loop .inv) t _ (at-tail-units .tail-units .ensures) .2)
+add-j c = let at-tail-units = c .before .before .before .before .before .before .before .before in omega (arith, room at-tail-units .units)
 
 add-c : tie.Need-add-c Inv-loop μ-loop
-add-c c =
-    let at-tail-units = c .before .before .before .before .before .before .before .before in
-    let at-loop-test = at-tail-units .before in
-    let at-loop = at-loop-test .before in
-    let at-unit-count = at-loop .before in
-    let start = at-unit-count .before .before .before .before in
-    let t : at-loop .loop .j < length (halves (start .args .units .now)) = omega (arith, at-loop-test .loop-test .taken, at-unit-count .unit-count .ensures .0)
-    in omega (arith, storing-room _ _ _ _ _ _ _ _ _ _ (at-loop .loop .inv) t _ (at-tail-units .tail-units .ensures) .0)
+add-c c = let at-tail-units = c .before .before .before .before .before .before .before .before in omega (arith, room at-tail-units .clusters)
 
 add-g : tie.Need-add-g Inv-loop μ-loop
-add-g c =
-    let at-tail-units = c .before .before .before .before .before .before .before .before in
-    let at-loop-test = at-tail-units .before in
-    let at-loop = at-loop-test .before in
-    let at-unit-count = at-loop .before in
-    let start = at-unit-count .before .before .before .before in
-    let t : at-loop .loop .j < length (halves (start .args .units .now)) = omega (arith, at-loop-test .loop-test .taken, at-unit-count .unit-count .ensures .0)
-    in omega (arith, storing-room _ _ _ _ _ _ _ _ _ _ (at-loop .loop .inv) t _ (at-tail-units .tail-units .ensures) .1)
+add-g c = let at-tail-units = c .before .before .before .before .before .before .before .before in omega (arith, room at-tail-units .glyphs)
 
 loop-less : tie.Need-loop-less Inv-loop μ-loop
 loop-less c =
     let at-tail-units = c .before .before .before .before .before .before .before .before in
-    let at-loop-test = at-tail-units .before in
-    let at-loop = at-loop-test .before in
-    let at-unit-count = at-loop .before in
-    let at-start = at-unit-count .before .before .before .before in
-    let t : at-loop .loop .j < length (halves (at-start .args .units .now)) = omega (
-      arith,
-      at-loop-test .loop-test .taken,
-      at-unit-count .unit-count .ensures .0,
-    )
-    in omega (arith, at-loop-test .loop-test .taken, inside-next _ _ _ _ _ _ _ _ _ _ (at-loop .loop .inv) t _ (at-tail-units .tail-units .ensures) .0)
+    omega (arith, at-tail-units .before .loop-test .taken, room at-tail-units .some)
 
 loop-again : tie.Need-loop-again Inv-loop μ-loop
 loop-again c =
     let at-put-glyph = c .before .before in
     let at-put-cluster = at-put-glyph .before .before .before .before in
     let at-tail-units = at-put-cluster .before .before in
-    let at-loop-test = at-tail-units .before in
-    let at-loop = at-loop-test .before in
-    let at-unit-count = at-loop .before in
-    let at-start = at-unit-count .before .before .before .before in
-    let t : at-loop .loop .j < length (halves (at-start .args .units .now)) = omega (
-      arith,
-      at-loop-test .loop-test .taken,
-      at-unit-count .unit-count .ensures .0,
-    )
-    in storing-next _ _ _ _ _ _ _ _ _ _ (at-loop .loop .inv) t _ (at-tail-units .tail-units .ensures) _ _
-    (at-put-cluster .put-cluster .ensures ∙ ap (sets (at-loop .loop .clusters) (8 * at-loop .loop .c))
-    (opened-yes 0 (at-tail-units .tail-units .result) 1 refl)) (at-put-glyph .put-glyph .ensures)
+    let l = at-tail-units .before .before .loop in
+    storing-next _ _ _ _ _ _ _ _ _ _ (l .inv) (inside at-tail-units) _ (at-tail-units .tail-units .ensures) _ _
+    (at-put-cluster .put-cluster .ensures ∙ ap (sets (l .clusters) (8 * l .c)) (opened-yes 0 (at-tail-units .tail-units .result) 1 refl))
+    (at-put-glyph .put-glyph .ensures)
 
 same-length : tie.Need-same-length Inv-loop μ-loop
 same-length c = c .before .loop .inv .same-clusters

@@ -1,33 +1,37 @@
 -- `reader::put_cluster` meets its contract. Assumes nothing.
 use Rattle.reader.proofs.Stores.{pair-room, pair-stored, opened-no}
 use native.Mathlib.Omega.{arith}
+use Prim.Native.Nat.{_+_, _*_, _<_}
+use lib.ListN.{length}
 use borrow.Author.Needs.{needs}
 use Rattle.reader.proofs.put_cluster.Statement.{statement}
 use Rattle.reader.proofs.put_cluster.Tie as tie
+
+-- where a cluster opens, its counts fit, and there is room for it
+opened : (c : tie.Then1)
+    → (let a = c .before .before .args in (a .a < 2147483648) × (a .b < 2147483648) × (8 * a .n + 7 < length (a .out .now)))
+opened c =
+    let at-start = c .before .before in
+    let h = at-start .pre .0 (c .if1 .taken) in
+    (h .0, h .1, pair-room _ _ _ _ _ (c .if1 .taken) (at-start .pre .1))
 
 mul-at : tie.Need-mul-at
 mul-at c = search needs
 
 cast-put-bits : tie.Need-cast-put-bits
-cast-put-bits c = let h = c .before .before .before .pre .0 (c .before .if1 .taken) .0 in record { fits = omega (arith, h) }
+cast-put-bits c = record { fits = omega (arith, opened (c .before) .0) }
 
 put-bits-requires : tie.Need-put-bits-requires
-put-bits-requires c κs = let h = pair-room _ _ _ _ _ (c .before .if1 .taken) (c .before .before .before .pre .1) in omega (arith, h)
+put-bits-requires c κs = omega (arith, opened (c .before) .2)
 
 add-put-bits : tie.Need-add-put-bits
 add-put-bits c = search needs
 
 cast-put-bits-2 : tie.Need-cast-put-bits-2
-cast-put-bits-2 c =
-    let at-if1 = c .before .before .before .before .before in
-    let at-start = at-if1 .before .before in
-    let h = at-start .pre .0 (at-if1 .if1 .taken) .1 in record { fits = omega (arith, h) }
+cast-put-bits-2 c = record { fits = omega (arith, opened (c .before .before .before .before .before) .1) }
 
 put-bits-requires-2 : tie.Need-put-bits-requires-2
-put-bits-requires-2 c κs =
-    let at-if1 = c .before .before .before .before .before in
-    let at-start = at-if1 .before .before in
-    let h = pair-room _ _ _ _ _ (at-if1 .if1 .taken) (at-start .pre .1) in omega (arith, h)
+put-bits-requires-2 c κs = omega (arith, opened (c .before .before .before .before .before) .2)
 
 same-length : tie.Need-same-length
 same-length c = search needs

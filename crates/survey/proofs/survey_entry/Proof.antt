@@ -1,6 +1,7 @@
 -- `survey::survey_entry` meets its contract. Assumes nothing.
 use native.Mathlib.Omega.{arith}
-use mathlib.Core.Path.{refl, sym, _∙_}
+use mathlib.Core.Path.{_≡_, refl, sym, _∙_}
+use mathlib.Core.Bool.{true}
 use borrow.Author.Needs.{needs}
 use Rattle.survey.proofs.Placing.{moves-fit, plain-is, turn-plain}
 use Rattle.survey.proofs.Walking.{read-here, read-inside, digits-here, steps-read, steps-refused}
@@ -25,11 +26,14 @@ is-index-requires c κs = search needs
 both-requires-2 : tie.Need-both-requires-2
 both-requires-2 c κs = search needs
 
+-- an index alone at a character of one byte, where a cluster may open: the three flags
+easy : (c : tie.Then1)
+    → (c .before .before .before .before .before .opens-here .result ≡ true) × (c .before .before .before .before .is-plain .result ≡ true)
+    × (c .before .before .is-index .result ≡ true)
+easy c = plain-is _ _ _ (c .before .before .before .both .ensures) (c .before .both2 .ensures) (c .if1 .taken)
+
 add-advance : tie.Need-add-advance
-add-advance c =
-    let q = plain-is (c .before .before .before .before .before .opens-here .result) (c .before .before .before .before .is-plain .result)
-    (c .before .before .is-index .result) (c .before .before .before .both .ensures) (c .before .both2 .ensures) (c .if1 .taken) in
-    let m = c .before .before .before .before .is-plain .ensures .1 (q .1) in record { fits = omega (arith, m .0) }
+add-advance c = let m = c .before .before .before .before .is-plain .ensures .1 (easy c .1) in record { fits = omega (arith, m .0) }
 
 add-advance-2 : tie.Need-add-advance-2
 add-advance-2 c = search needs
@@ -40,29 +44,20 @@ add-advance-3 c = search needs
 advance-requires : tie.Need-advance-requires
 advance-requires c κs =
     let at-if1 = c .before in
-    let at-both2 = at-if1 .before in
-    let at-is-index = at-both2 .before in
-    let at-both = at-is-index .before in
-    let at-is-plain = at-both .before in
-    let at-opens-here = at-is-plain .before in
-    let at-start = at-opens-here .before .before .before .before in
-    let q = plain-is (at-opens-here .opens-here .result) (at-is-plain .is-plain .result) (at-is-index .is-index .result) (at-both .both .ensures)
-    (at-both2 .both2 .ensures) (at-if1 .if1 .taken) in
-    let m = at-is-plain .is-plain .ensures .1 (q .1) in
+    let at-is-plain = at-if1 .before .before .before .before in
+    let at-start = at-is-plain .before .before .before .before .before in
+    let m = at-is-plain .is-plain .ensures .1 (easy at-if1 .1) in
     let n = moves-fit (at-start .args .text .now) (at-start .args .c) 1 0 0 _ _ (m .1) refl in
     (omega (arith, at-start .pre .1 .1, at-start .pre .1 .3, at-start .pre .1 .4), omega (arith, n, at-start .pre .1 .0), at-start .pre .1 .2)
 
 returns : tie.Need-returns
 returns c =
     let at-if1 = c .before .before in
-    let at-both2 = at-if1 .before in
-    let at-is-index = at-both2 .before in
-    let at-both = at-is-index .before in
-    let at-is-plain = at-both .before in
+    let at-is-index = at-if1 .before .before in
+    let at-is-plain = at-is-index .before .before in
     let at-opens-here = at-is-plain .before in
     let at-start = at-opens-here .before .before .before .before in
-    let q = plain-is (at-opens-here .opens-here .result) (at-is-plain .is-plain .result) (at-is-index .is-index .result) (at-both .both .ensures)
-    (at-both2 .both2 .ensures) (at-if1 .if1 .taken) in
+    let q = easy at-if1 in
     let m = at-is-plain .is-plain .ensures .1 (q .1) in
     let i = at-is-index .is-index .ensures .1 (q .2) in
     steps-read _ _ _ _ _ _ (i .1 (at-start .args .c .entry)) (turn-plain _ _ _ _ _ (sym (at-opens-here .opens-here .ensures) ∙ q .0) (m .1)

@@ -1,11 +1,27 @@
 -- `survey::take_entry` meets its contract. Assumes nothing.
-use mathlib.Core.Bool.{not}
-use mathlib.Core.Path.{refl, sym, _∙_}
+use mathlib.Core.Bool.{true, not, _&&_, _||_}
+use mathlib.Core.Path.{_≡_, refl, sym, _∙_}
+use lib.Dec.{leb, eqb}
+use Rattle.label.specs.Run.{named}
 use borrow.Author.Needs.{needs}
 use borrow.Author.Tests.{not-true, not-false}
 use Rattle.survey.proofs.Placing.{turn-ten, turn-eleven, turn-opens, turn-further, stopped-carries, allowed-is}
 use Rattle.survey.proofs.take_entry.Statement.{statement}
 use Rattle.survey.proofs.take_entry.Tie as tie
+
+-- what 10 and 11 ask, by the code's flags
+enough : (c : tie.Else1)
+    → (let x = c .before .before .before .before .before .args .x in (leb 1 (x .units) && leb 1 (x .glyphs)) ≡ true)
+enough c = sym (c .before .both .ensures) ∙ not-false _ (c .if1 .left)
+
+allowed : (c : tie.After-either)
+    → (let a = c .before .before .before .before .before .before .before .before .before .before .before .args in
+    c .either .result ≡ ((eqb (a .c .lack) 0 && not (a .bare)) || (not (a .x .mapped) && named (a .x .glyph .index))))
+allowed c =
+    let at-is-named = c .before .before in
+    let at-start = at-is-named .before .before .before .before .before .before .before .before .before in
+    allowed-is _ _ _ _ _ (not (at-start .args .x .mapped)) _ (c .either .ensures) (at-is-named .before .before .before .opens-here .ensures) (c .before .both2 .ensures)
+    (at-is-named .is-named .ensures)
 
 both-requires : tie.Need-both-requires
 both-requires c κs = search needs
@@ -38,16 +54,8 @@ returns-2 : tie.Need-returns-2
 returns-2 c =
     let at-if2 = c .before in
     let at-either = at-if2 .before in
-    let at-both2 = at-either .before in
-    let at-is-named = at-both2 .before in
-    let at-opens-here = at-is-named .before .before .before in
-    let at-if1 = at-opens-here .before in
-    let at-both = at-if1 .before in
-    let at-start = at-both .before .before .before .before in
-    let allowed = allowed-is _ _ _ _ _ (not (at-start .args .x .mapped)) _ (at-either .either .ensures) (at-opens-here .opens-here .ensures)
-    (at-both2 .both2 .ensures) (at-is-named .is-named .ensures) in (
-      turn-eleven _ _ _ _ _ (c .stopped2 .ensures) (sym (at-both .both .ensures) ∙ not-false _ (at-if1 .if1 .left))
-          (sym allowed ∙ not-true _ (at-if2 .if2 .taken)),
+    let at-if1 = at-either .before .before .before .before .before .before in (
+      turn-eleven _ _ _ _ _ (c .stopped2 .ensures) (enough at-if1) (sym (allowed at-either) ∙ not-true _ (at-if2 .if2 .taken)),
       stopped-carries _ _ _ (c .stopped2 .ensures),
     )
 
@@ -65,11 +73,8 @@ open-cluster-requires c κs =
 returns-3 : tie.Need-returns-3
 returns-3 c =
     let at-if3 = c .before in
-    let at-opens-here = at-if3 .before .before .before .before .before .before .before .before .before in
-    let at-if1 = at-opens-here .before in
-    let at-both = at-if1 .before in (
-      turn-opens _ _ _ _ _ (c .open-cluster .ensures .0) (sym (at-both .both .ensures) ∙ not-false _ (at-if1 .if1 .left))
-          (sym (at-opens-here .opens-here .ensures) ∙ at-if3 .if3 .taken),
+    let at-opens-here = at-if3 .before .before .before .before .before .before .before .before .before in (
+      turn-opens _ _ _ _ _ (c .open-cluster .ensures .0) (enough (at-opens-here .before)) (sym (at-opens-here .opens-here .ensures) ∙ at-if3 .if3 .taken),
       c .open-cluster .ensures .1,
     )
 
@@ -81,16 +86,11 @@ returns-4 c =
     let at-if3 = c .before in
     let at-if2 = at-if3 .before .before .before in
     let at-either = at-if2 .before in
-    let at-both2 = at-either .before in
-    let at-is-named = at-both2 .before in
-    let at-opens-here = at-is-named .before .before .before in
+    let at-opens-here = at-either .before .before .before .before .before in
     let at-if1 = at-opens-here .before in
-    let at-both = at-if1 .before in
-    let at-start = at-both .before .before .before .before in
-    let allowed = allowed-is _ _ _ _ _ (not (at-start .args .x .mapped)) _ (at-either .either .ensures) (at-opens-here .opens-here .ensures)
-    (at-both2 .both2 .ensures) (at-is-named .is-named .ensures) in (
-      turn-further _ _ _ _ _ _ (c .advance .ensures) (at-start .pre .0) (sym (at-both .both .ensures) ∙ not-false _ (at-if1 .if1 .left))
-          (sym allowed ∙ not-false _ (at-if2 .if2 .left)) (sym (at-opens-here .opens-here .ensures) ∙ at-if3 .if3 .left),
+    let at-start = at-if1 .before .before .before .before .before in (
+      turn-further _ _ _ _ _ _ (c .advance .ensures) (at-start .pre .0) (enough at-if1) (sym (allowed at-either) ∙ not-false _ (at-if2 .if2 .left))
+          (sym (at-opens-here .opens-here .ensures) ∙ at-if3 .if3 .left),
       refl,
     )
 

@@ -6,7 +6,7 @@ use Rattle.label.specs.Fetched.{words}
 use Rattle.label.specs.Sound.{nat as natOf, clustersOf, glyphsOf}
 use Rattle.label.specs.Write.{indicesOf}
 use Rattle.octets.proofs.Puts.{Left, left-start, left-as, left-end}
-use Rattle.writer.proofs.Stores.{owed, writtenAt, indices-start, rest-further, rest-opens, rest-none, rest-end, entry-stored, owes-bound}
+use Rattle.writer.proofs.Stores.{owed, writtenAt, indices-start, rest-further, rest-opens, rest-none, rest-end, entry-stored}
 use borrow.Author.Needs.{needs}
 use Rattle.writer.proofs.put_indices.Statement.{statement}
 use Rattle.writer.proofs.put_indices.Tie as tie
@@ -58,14 +58,11 @@ loop-again c =
     let at-number-count2 = at-loop .before in
     let at-start = at-number-count2 .before .before .before .before .before in
     let a = at-start .args in
-    let l = at-loop .loop in (
-      entry-stored _ _ _ (rest-further (words (a .cs .now)) (words (a .gs .now)) (l .owed) (l .lack) (l .i) (l .k)
-          (omega (arith, at-number-count2 .number-count2 .ensures .0, at-loop-test .loop-test .taken)) (at-if1 .if1 .taken)) (l .inv .0)
-          (at-put-next .put-next .ensures .0) (c .owes .ensures .0),
-      owes-bound (l .at) _ (l .owed) (l .k) _ (c .owes .ensures .0) (omega arith) (at-put-next .put-next .ensures .1) (l .inv .1),
-      omega arith,
-      omega arith,
-    )
+    let l = at-loop .loop in
+    let e = rest-further (words (a .cs .now)) (words (a .gs .now)) (l .owed) (l .lack) (l .i) (l .k)
+    (omega (arith, at-number-count2 .number-count2 .ensures .0, at-loop-test .loop-test .taken)) (at-if1 .if1 .taken) in
+    let w = entry-stored _ (l .k) _ _ e (l .inv .0, l .inv .1) (at-put-next .put-next .ensures) (c .owes .ensures .0) in
+    (w .0, w .1, omega arith, omega arith)
 
 sub-if2 : tie.Need-sub-if2 Inv-loop μ-loop
 sub-if2 c = search needs
@@ -139,17 +136,13 @@ loop-again-2 c =
     let at-start = at-number-count .before .before .before .before in
     let a = at-start .args in
     let l = at-loop .loop in
-    let d = c .less-one .ensures ∙ ap (λ (z : ℕ). z - 1) (at-widened .widened .ensures .0) in (
-      entry-stored _ _ _ (rest-opens (words (a .cs .now)) (words (a .gs .now)) (l .owed) (l .lack) (l .i) (l .k)
-          (at-nat .nat .ensures .0 ∙ ap natOf (at-number-at .number-at .ensures)) (at-nat2 .nat2 .ensures .0 ∙ ap natOf (at-number-at2 .number-at2 .ensures)) d
-          (omega (arith, at-number-count2 .number-count2 .ensures .0, at-loop-test .loop-test .taken)) (omega arith)
-          (omega (arith, at-number-count .number-count .ensures .0, at-if2 .if2 .left))) (l .inv .0) (at-put-next2 .put-next2 .ensures .0)
-          (at-owes2 .owes2 .ensures .0),
-      owes-bound (l .at) _ (l .owed) (l .k) _ (at-owes2 .owes2 .ensures .0) (omega (arith, at-put-next2 .put-next2 .ensures .0 .behind))
-          (at-put-next2 .put-next2 .ensures .1) (l .inv .1),
-      omega arith,
-      omega arith,
-    )
+    let d = c .less-one .ensures ∙ ap (λ (z : ℕ). z - 1) (at-widened .widened .ensures .0) in
+    let e = rest-opens (words (a .cs .now)) (words (a .gs .now)) (l .owed) (l .lack) (l .i) (l .k)
+    (at-nat .nat .ensures .0 ∙ ap natOf (at-number-at .number-at .ensures)) (at-nat2 .nat2 .ensures .0 ∙ ap natOf (at-number-at2 .number-at2 .ensures)) d
+    (omega (arith, at-number-count2 .number-count2 .ensures .0, at-loop-test .loop-test .taken)) (omega arith)
+    (omega (arith, at-number-count .number-count .ensures .0, at-if2 .if2 .left)) in
+    let w = entry-stored _ (l .k) _ _ e (l .inv .0, l .inv .1) (at-put-next2 .put-next2 .ensures) (at-owes2 .owes2 .ensures .0) in
+    (w .0, w .1, omega arith, omega arith)
 
 same-length-2 : tie.Need-same-length-2 Inv-loop μ-loop
 same-length-2 c = c .before .loop .inv .0 .same

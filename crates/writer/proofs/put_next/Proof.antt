@@ -2,17 +2,38 @@
 use native.Mathlib.Omega.{arith}
 use Rattle.octets.proofs.Puts.{none, then, put-as}
 use Rattle.writer.proofs.Stores.{glyph-is, led-none, led-some}
-use Rattle.wire.specs.Numbers.{glyphAt}
+use Rattle.wire.specs.Numbers.{glyphAt, glyphOf}
 use Rattle.label.proofs.Values.{normal-writer}
 use Rattle.label.proofs.Outputs.{empty-is-font}
-use Rattle.label.specs.Fetched.{words}
+use Rattle.label.specs.Bytes.{empty}
+use Rattle.label.specs.Fetched.{words, signed}
 use Rattle.label.specs.Sound.{isFont}
 use Rattle.label.specs.Write.{valueBytes, entryBy}
-use mathlib.Core.Path.{sym, ap, _∙_}
+use mathlib.Core.Path.{_≡_, sym, ap, _∙_}
 use Rattle.wire.proofs.Fetched.{words-length}
 use borrow.Author.Needs.{needs}
 use Rattle.writer.proofs.put_next.Statement.{statement}
 use Rattle.writer.proofs.put_next.Tie as tie
+
+-- the glyph of the four numbers fetched
+glyph : (c : tie.After-number-at4)
+    → (let at-number-at = c .before .before .before in
+    let a = at-number-at .before .before .before .args in
+    glyphOf (signed (at-number-at .number-at .result)) (signed (c .before .before .number-at2 .result)) (signed (c .before .number-at3 .result))
+    (signed (c .number-at4 .result)) ≡ glyphAt (words (a .gs .now)) (a .k))
+glyph c =
+    let at-number-at = c .before .before .before in
+    let a = at-number-at .before .before .before .args in
+    glyph-is (words (a .gs .now)) (a .k) _ _ _ _ (at-number-at .number-at .ensures) (c .before .before .number-at2 .ensures) (c .before .number-at3 .ensures)
+    (c .number-at4 .ensures)
+
+-- it is wholly the font's exactly where its entry has no bytes
+blank : (c : tie.After-is-font)
+    → (let a = c .before .before .before .before .before .before .before .args in
+    c .is-font .result ≡ empty (entryBy valueBytes (a .a) (a .b) (glyphAt (words (a .gs .now)) (a .k))))
+blank c =
+    let a = c .before .before .before .before .before .before .before .args in
+    c .is-font .ensures ∙ ap isFont (glyph (c .before)) ∙ sym (empty-is-font normal-writer (a .a) (a .b) (glyphAt (words (a .gs .now)) (a .k)))
 
 number-at-requires : tie.Need-number-at-requires
 number-at-requires c κs = search needs
@@ -43,19 +64,7 @@ is-font-requires : tie.Need-is-font-requires
 is-font-requires c κs = search needs
 
 returns : tie.Need-returns
-returns c =
-    let at-number-at3 = c .before .before .before in
-    let at-number-at2 = at-number-at3 .before in
-    let at-number-at = at-number-at2 .before in
-    let start = at-number-at .before .before .before in
-    let a = start .args in
-    let g = glyph-is (words (a .gs .now)) (a .k) _ _ _ _ (at-number-at .number-at .ensures) (at-number-at2 .number-at2 .ensures)
-    (at-number-at3 .number-at3 .ensures) (c .before .before .number-at4 .ensures) in (
-      put-as (led-none (a .owed) _
-          (c .before .is-font .ensures ∙ ap isFont g ∙ sym (empty-is-font normal-writer (a .a) (a .b) (glyphAt (words (a .gs .now)) (a .k)))) (c .if1 .taken))
-          none,
-      omega arith,
-    )
+returns c = (put-as (led-none _ _ (blank (c .before)) (c .if1 .taken)) none, omega arith)
 
 put-semis-requires : tie.Need-put-semis-requires
 put-semis-requires c κs = search needs
@@ -71,19 +80,9 @@ returns-2 c =
     let at-put-entry = c .before .before in
     let at-put-semis = at-put-entry .before .before .before .before in
     let at-if1 = at-put-semis .before .before in
-    let at-is-font = at-if1 .before in
-    let at-number-at4 = at-is-font .before in
-    let at-number-at3 = at-number-at4 .before in
-    let at-number-at2 = at-number-at3 .before in
-    let at-number-at = at-number-at2 .before in
-    let at-start = at-number-at .before .before .before in
-    let a = at-start .args in
-    let g = glyph-is (words (a .gs .now)) (a .k) _ _ _ _ (at-number-at .number-at .ensures) (at-number-at2 .number-at2 .ensures)
-    (at-number-at3 .number-at3 .ensures) (at-number-at4 .number-at4 .ensures) in (
-      put-as (led-some (a .owed) _
-          (at-is-font .is-font .ensures ∙ ap isFont g ∙ sym (empty-is-font normal-writer (a .a) (a .b) (glyphAt (words (a .gs .now)) (a .k))))
-          (at-if1 .if1 .left)) (then (at-put-semis .put-semis .ensures .0)
-          (put-as (ap (entryBy valueBytes (a .a) (a .b)) g) (at-put-entry .put-entry .ensures .0))),
+    let at-is-font = at-if1 .before in (
+      put-as (led-some _ _ (blank at-is-font) (at-if1 .if1 .left)) (then (at-put-semis .put-semis .ensures .0)
+          (put-as (ap (entryBy valueBytes _ _) (glyph (at-is-font .before))) (at-put-entry .put-entry .ensures .0))),
       omega (arith, at-put-semis .put-semis .ensures .1, at-put-entry .put-entry .ensures .1),
     )
 

@@ -1,8 +1,17 @@
 -- `writer::write_as` meets its contract. Assumes nothing.
-use Rattle.writer.proofs.Answers.{refuses-19, units-few, numbers-few, refuses-20, refuses-21, writes}
+use Rattle.writer.proofs.Answers.{few, refuses-19, refuses-20, refuses-21, writes}
+use Prim.Native.Nat.{_≤_}
+use lib.ListN.{length}
+use Rattle.label.specs.Fetched.{halves, words}
 use borrow.Author.Needs.{needs}
 use Rattle.writer.proofs.write_as.Statement.{statement}
 use Rattle.writer.proofs.write_as.Tie as tie
+
+-- a sound run is small
+small : (c : tie.Else1)
+    → (let a = c .before .before .before .before .before .before .before .args in
+    (length (halves (a .units .now)) ≤ 1000000000000) × (length (words (a .glyphs .now)) ≤ 1000000000000))
+small c = few _ _ _ (c .before .is-sound .ensures) (c .if1 .left)
 
 is-sound-requires : tie.Need-is-sound-requires
 is-sound-requires c κs = search needs
@@ -20,11 +29,7 @@ returns c =
     (c .refused .ensures) (at-if1 .if1 .taken)
 
 text-length-requires : tie.Need-text-length-requires
-text-length-requires c κs =
-    let at-is-sound = c .before in
-    let at-start = at-is-sound .before .before .before .before .before .before in
-    let a = at-start .args in
-    units-few (a .escape) (a .units .now) (a .clusters .now) (a .glyphs .now) (a .text .now) (a .indices .now) (at-is-sound .is-sound .ensures) (c .if1 .left)
+text-length-requires c κs = small c .0
 
 refused-requires-2 : tie.Need-refused-requires-2
 refused-requires-2 c κs = search needs
@@ -41,13 +46,7 @@ returns-2 c =
     (at-if1 .if1 .left) (at-text-length .text-length .ensures) (c .refused2 .ensures) (at-if2 .if2 .taken)
 
 indices-length-requires : tie.Need-indices-length-requires
-indices-length-requires c κs =
-    let at-if1 = c .before .before in
-    let at-is-sound = at-if1 .before in
-    let at-start = at-is-sound .before .before .before .before .before .before in
-    let a = at-start .args in
-    numbers-few (a .escape) (a .units .now) (a .clusters .now) (a .glyphs .now) (a .text .now) (a .indices .now) (at-is-sound .is-sound .ensures)
-    (at-if1 .if1 .left)
+indices-length-requires c κs = small (c .before .before) .1
 
 refused-requires-3 : tie.Need-refused-requires-3
 refused-requires-3 c κs = search needs
@@ -67,22 +66,10 @@ returns-3 c =
     (at-if3 .if3 .taken)
 
 put-text-requires : tie.Need-put-text-requires
-put-text-requires c κs =
-    let at-if1 = c .before .before .before .before .before in
-    let at-is-sound = at-if1 .before in
-    let at-start = at-is-sound .before .before .before .before .before .before in
-    let a = at-start .args in
-    units-few (a .escape) (a .units .now) (a .clusters .now) (a .glyphs .now) (a .text .now) (a .indices .now) (at-is-sound .is-sound .ensures)
-    (at-if1 .if1 .left)
+put-text-requires c κs = small (c .before .before .before .before .before) .0
 
 put-indices-requires : tie.Need-put-indices-requires
-put-indices-requires c κs =
-    let at-if1 = c .before .before .before .before .before .before .before .before .before in
-    let at-is-sound = at-if1 .before in
-    let at-start = at-is-sound .before .before .before .before .before .before in
-    let a = at-start .args in
-    numbers-few (a .escape) (a .units .now) (a .clusters .now) (a .glyphs .now) (a .text .now) (a .indices .now) (at-is-sound .is-sound .ensures)
-    (at-if1 .if1 .left)
+put-indices-requires c κs = small (c .before .before .before .before .before .before .before .before .before) .1
 
 same-length : tie.Need-same-length
 same-length c = search needs
