@@ -1,4 +1,4 @@
--- `glyph_label::filled_answer` meets its contract. Assumes nothing.
+-- `glyph_label::filled_answer`: each case of the enum gives its own answer, as `filledAnswer` does; that the number fits 32 bits is required. Assumes nothing.
 use native.Mathlib.Omega.{arith}
 use mathlib.Core.Path.{sym, ap, subst}
 use Rattle.label.specs.Calls.{fillingOutcome}
