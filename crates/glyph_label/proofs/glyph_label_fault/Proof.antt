@@ -1,4 +1,4 @@
--- `glyph_label::glyph_label_fault` meets its contract. Assumes nothing.
+-- `glyph_label::glyph_label_fault`: the part that was found, as an answer: two equations, joined. Assumes nothing.
 use Rattle.glyph_label.specs.Answers.{partAnswer}
 use mathlib.Core.Path.{ap, _∙_}
 use borrow.Author.Needs.{needs}

@@ -1,4 +1,4 @@
--- `glyph_label::glyph_label_glyphs_of` meets its contract. Assumes nothing.
+-- `glyph_label::glyph_label_glyphs_of`: the pick's outcome as an answer: two equations, joined; that it fits 32 bits is a law of Bounds. Assumes nothing.
 use mathlib.Core.Path.{sym, ap, subst, _∙_}
 use mathlib.Core.Bool.{true}
 use Rattle.glyph_label.specs.Answers.{stretchAnswer}

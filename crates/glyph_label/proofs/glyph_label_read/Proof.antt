@@ -1,4 +1,5 @@
--- `glyph_label::glyph_label_read` meets its contract. Assumes nothing.
+-- `glyph_label::glyph_label_read`: what `reader::read` promises, as an answer and the three buffers; that all fits 32 bits are laws of Bounds. Assumes
+-- nothing.
 use mathlib.Core.Path.{sym, subst, _∙_}
 use Rattle.glyph_label.specs.Fits.{Small32, ReadingFits}
 use Rattle.label.specs.Calls.{roomOf, readInto}

@@ -1,4 +1,5 @@
--- `glyph_label::glyph_label_resolve` meets its contract. Assumes nothing.
+-- `glyph_label::glyph_label_resolve`: what `attribute::resolve` promises, as an answer and the buffer; that the number fits is a law of Bounds. Assumes
+-- nothing.
 use Rattle.glyph_label.proofs.Bounds.{filled-fits}
 use Rattle.glyph_label.specs.Fits.{FilledFits}
 use Rattle.glyph_label.specs.Answers.{filledAnswer}

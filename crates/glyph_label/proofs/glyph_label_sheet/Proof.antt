@@ -1,4 +1,4 @@
--- `glyph_label::glyph_label_sheet` meets its contract. Assumes nothing.
+-- `glyph_label::glyph_label_sheet`: what `sheet::read_sheet` promises, as an answer and the list; that the number fits is a law of Bounds. Assumes nothing.
 use Rattle.glyph_label.proofs.Bounds.{sheet-fits}
 use Rattle.glyph_label.specs.Fits.{FilledFits}
 use Rattle.glyph_label.specs.Answers.{filledAnswer}

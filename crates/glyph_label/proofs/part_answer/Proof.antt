@@ -1,4 +1,4 @@
--- `glyph_label::part_answer` meets its contract. Assumes nothing.
+-- `glyph_label::part_answer`: one rewriting by the flag. Assumes nothing.
 use Rattle.glyph_label.proofs.part_answer.Statement.{statement}
 use Rattle.glyph_label.proofs.part_answer.Tie as tie
 

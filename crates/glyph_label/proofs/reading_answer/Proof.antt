@@ -1,4 +1,5 @@
--- `glyph_label::reading_answer` meets its contract. Assumes nothing.
+-- `glyph_label::reading_answer`: each case of the enum gives its own answer, as `readingAnswer` does; that every field fits 32 bits is required, and read off
+-- the case. Assumes nothing.
 use Rattle.glyph_label.specs.Fits.{Small32, ReadingFits}
 use Rattle.glyph_label.specs.Answers.{readingAnswer}
 use Rattle.label.specs.declared.Reading.{Reading}

@@ -1,4 +1,5 @@
--- `glyph_label::stretch_answer` meets its contract. Assumes nothing.
+-- `glyph_label::stretch_answer`: each case of the enum gives its own answer, as `stretchAnswer` does; that every field fits 32 bits is required, and read off
+-- the case. Assumes nothing.
 use Rattle.glyph_label.specs.Fits.{StretchFits}
 use Rattle.glyph_label.specs.Answers.{stretchAnswer}
 use Rattle.label.specs.declared.Pick.{Pick}

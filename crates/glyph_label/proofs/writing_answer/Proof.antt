@@ -1,4 +1,5 @@
--- `glyph_label::writing_answer` meets its contract. Assumes nothing.
+-- `glyph_label::writing_answer`: each case of the enum gives its own answer, as `writingAnswer` does; that every field fits 32 bits is required, and read off
+-- the case. Assumes nothing.
 use Rattle.glyph_label.specs.Fits.{WritingFits}
 use Rattle.glyph_label.specs.Answers.{writingAnswer}
 use Rattle.label.specs.declared.Writing.{Writing}
