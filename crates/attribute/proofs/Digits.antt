@@ -1,6 +1,6 @@
 -- Laws of a reference's digits: the loop over them, and what a reference is by the digits in front and the byte behind them.
 -- Assumes nothing.
-use Prim.Native.Nat.{ℕ, zero, suc, _+_, _*_, _≤_, _<_, min}
+use Prim.Native.Nat.{ℕ, zero, suc, _+_, _-_, _*_, _≤_, _<_, min}
 use native.Mathlib.Omega.{arith}
 use native.Mathlib.Nat.{mul-suc}
 use native.Mathlib.Numerals.{add-one}
@@ -16,11 +16,32 @@ use Rattle.label.specs.Bytes.{empty}
 use Rattle.label.specs.Text.{xmlChar}
 use Rattle.label.specs.Requests.Attribute.{digitValue, allOf, valueBehind, numbered, body, isClosed}
 use Rattle.label.proofs.Requests.Attribute.{closed-none, closed-here, body-here, closed-further, body-further}
-use Rattle.label.proofs.Basics.{clash, cases}
+use Rattle.label.proofs.Basics.{clash, cases, within-is, above-range}
 use Rattle.label.proofs.Text.{xml-range}
+use Rattle.octets.proofs.Bytes.{outside}
 use Rattle.attribute.specs.declared.Number.{Number}
 use Rattle.attribute.specs.declared.Reference.the-variants.{To, Bad}
 use Rattle.attribute.specs.References.{beyond, front, numberAt, referenceBy}
+
+-- ── a digit ──
+
+-- the byte b, which the code widened to w
+module _ (b : ℕ) {w : ℕ} (e : w ≡ b) where
+  pub digit-ten : 48 ≤ b → b ≤ 57 → w - 48 ≡ digitValue b
+  unfolding digitValue
+  digit-ten l h = rw (e, within-is 48 57 b l h)
+
+  pub digit-capital : 65 ≤ b → b ≤ 70 → w - 55 ≡ digitValue b
+  unfolding digitValue
+  digit-capital l h = rw (e, above-range 48 57 b (omega arith), outside 97 102 b (λ k. omega arith), within-is 65 70 b l h)
+
+  pub digit-small : 97 ≤ b → b ≤ 102 → w - 87 ≡ digitValue b
+  unfolding digitValue
+  digit-small l h = rw (e, above-range 48 57 b (omega arith), within-is 97 102 b l h)
+
+pub digit-none : (b : ℕ) → (48 ≤ b → 57 < b) → (65 ≤ b → 70 < b) → (97 ≤ b → 102 < b) → 16 ≡ digitValue b
+unfolding digitValue
+digit-none b t c s = rw (outside 48 57 b t, outside 97 102 b s, outside 65 70 b c)
 
 -- ── a number that is cut ──
 

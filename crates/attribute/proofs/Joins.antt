@@ -1,6 +1,6 @@
 -- A reference by its first bytes: a name, decimal digits behind `#`, hexadecimal ones behind `#x`.
 -- Assumes nothing.
-use Prim.Native.Nat.{ℕ, zero, suc, _+_, _≤_, _<_}
+use Prim.Native.Nat.{ℕ, suc, _+_, _≤_, _<_}
 use native.Mathlib.Omega.{arith}
 use native.Mathlib.Nat.{add-zero}
 use native.Mathlib.Numerals.{add-one}
@@ -15,14 +15,8 @@ use Rattle.label.specs.Bytes.{cut}
 use Rattle.label.specs.Requests.Attribute.{predefined, numbered, referred, body, isClosed}
 use Rattle.label.proofs.Requests.Attribute.{body-here, closed-further, body-further}
 use Rattle.label.proofs.Basics.{cases}
+use Rattle.octets.proofs.Bytes.{byte-in}
 use Rattle.attribute.specs.References.{referenceBy}
-
--- a byte that is not 0 stands before the end
-pub byte-in : (s : List ℕ) (i : ℕ) {b : ℕ} → b ≡ getD s i 0 → 0 < b → i < length s
-byte-in [] zero e h = absurd (omega arith)
-byte-in [] (suc i) e h = absurd (omega arith)
-byte-in (x ∷ s) zero e h = omega arith
-byte-in (x ∷ s) (suc i) e h = omega (arith, byte-in s i e h)
 
 -- the first byte up to `;` is the first byte, or there is none
 first : (t : List ℕ) (c : ℕ) → 0 < c → (getD t 0 0 ≡ c → ⊥) → eqb (getD (body t) 0 0) c ≡ false
@@ -33,7 +27,7 @@ first (b ∷ t) c h e =
 -- the byte c, which is not `;`, stands at place i
 module _ (s : List ℕ) (i : ℕ) {b : ℕ} (e : b ≡ getD s i 0) (c : ℕ) (h : b ≡ c) (o : 0 < c) (k : eqb c 59 ≡ false) where
   pub behind-in : i + 1 ≤ length s
-  behind-in = omega (arith, byte-in s i e (omega arith))
+  behind-in = omega (arith, byte-in s i (sym e ∙ h) o)
 
   opened : drop i s ≡ c ∷ drop (i + 1) s
   opened = drop-cons s i 0 (omega (arith, behind-in)) ∙ rw (sym e ∙ h, add-one i)

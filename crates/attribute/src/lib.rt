@@ -21,16 +21,12 @@ fn digit_value(b: u8) -> u32
     ensures { λ r. ⌜ r ≡ digitValue b ⌝ }
     ensures bounds { λ r. ⌜ r ≤ 16 ⌝ }
 {
-    if octets::is_within(b'0', b'9', b) {
-        return octets::wide(b) - 48;
+    match b {
+        b'0'..=b'9' => octets::wide(b) - 48,
+        b'a'..=b'f' => octets::wide(b) - 87,
+        b'A'..=b'F' => octets::wide(b) - 55,
+        _ => 16,
     }
-    if octets::is_within(b'a', b'f', b) {
-        return octets::wide(b) - 87;
-    }
-    if octets::is_within(b'A', b'F', b) {
-        return octets::wide(b) - 55;
-    }
-    16
 }
 
 // The first number behind every character, where numbers are cut: it is no character, and no digit more makes it one.

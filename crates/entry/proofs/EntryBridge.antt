@@ -23,7 +23,7 @@ use Rattle.label.proofs.Cursors.{split-rest, split-all}
 use Rattle.number.specs.Digits.{ends, isBreak}
 use Rattle.number.specs.Numbers.{numberWithin}
 use Rattle.number.proofs.Scan.{Cutting, whole, parted, cutting, none-or, none-left, none-right}
-use Rattle.entry.specs.Items.{isSemi, here, entryRead, entryHere}
+use Rattle.entry.specs.Items.{isSemi, entryRead, entryHere}
 use Rattle.entry.specs.Parts.{Parts, partsOf, mapOf, indexAt, frontOk, fieldOf, wellParted, indexChoice, advanceChoice, offsetBy, roundedBy, roundedParts, scanned}
 use Rattle.entry.proofs.FieldBridge.{fieldSize, Fielded, field-is, field-stuck, advance-field, or-right}
 use Rattle.entry.proofs.FrontBridge.{Headed, head-is}

@@ -14,12 +14,12 @@ ghost use Rattle.entry_bytes.specs.Fields.{partsV, partsUV, partsAUV, fi
 
 // Each `put_..` stores its bytes from `at` on and returns the place behind them; where `out` ends, it only counts.
 
-// The byte of a digit.
-fn digit(n: u32) -> u8
-    requires { ⌜ n < 10 ⌝ }
-    ensures { λ r. ⌜ r ≡ 48 + n ⌝ }
+fn put_digit(out: &mut [u8], at: usize, n: u32) -> usize
+    requires { ⌜ (at < 18446744073709551615) × (n < 10) ⌝ }
+    ensures { λ r. ⌜ Put (now (out .entry)) at ((48 + n) ∷ []) r (now (out .exit)) ⌝ }
+    ensures bounds { λ r. ⌜ r ≡ at + 1 ⌝ }
 {
-    48 + n as u8
+    octets::put_byte(out, at, 48 + n as u8)
 }
 
 // A number, without leading zeros: all digits but the last, then the last.
@@ -29,10 +29,10 @@ fn put_decimal(out: &mut [u8], at: usize, n: u32) -> usize
     ensures bounds { λ r. ⌜ r ≤ at + 10 ⌝ }
 {
     if n < 10 {
-        return octets::put_byte(out, at, digit(n));
+        return put_digit(out, at, n);
     }
     let p = put_decimal(out, at, n / 10);
-    octets::put_byte(out, p, digit(n % 10))
+    put_digit(out, p, n % 10)
 }
 
 // The digits behind the point, without trailing zeros.
@@ -41,15 +41,15 @@ fn put_fraction(out: &mut [u8], at: usize, f: u32) -> usize
     ensures { λ r. ⌜ Put (now (out .entry)) at (fraction f) r (now (out .exit)) ⌝ }
     ensures bounds { λ r. ⌜ r ≤ at + 3 ⌝ }
 {
-    let p = octets::put_byte(out, at, digit(f / 100));
+    let p = put_digit(out, at, f / 100);
     if f % 100 == 0 {
         return p;
     }
-    let q = octets::put_byte(out, p, digit(f / 10 % 10));
+    let q = put_digit(out, p, f / 10 % 10);
     if f % 10 == 0 {
         return q;
     }
-    octets::put_byte(out, q, digit(f % 10))
+    put_digit(out, q, f % 10)
 }
 
 // The whole part of a value that has a fraction: no lone zero.

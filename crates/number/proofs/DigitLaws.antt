@@ -2,7 +2,7 @@
 use mathlib.Core.Path.{_≡_, refl, ap, sym, _∙_}
 use mathlib.Core.Bool.{Bool, true, false}
 use mathlib.Core.List.{List, [], _∷_}
-use Prim.Native.Nat.{ℕ, suc, zero, _+_, _-_, _*_, _≤_, _<_, min}
+use Prim.Native.Nat.{ℕ, suc, _+_, _-_, _*_, _≤_, _<_, min}
 use native.Mathlib.Omega.{arith}
 use native.Mathlib.Nat.{add-zero}
 use native.Mathlib.Numerals.{add-one}
@@ -12,6 +12,7 @@ use lib.Dec.{leb}
 use borrow.Author.Tests.{leb-true}
 use Rattle.label.specs.Bytes.{isDigit, valueFrom}
 use Rattle.label.proofs.Basics.{and-l, and-r}
+use Rattle.octets.proofs.Bytes.{byte-in}
 use Rattle.number.specs.declared.Digits.{Digits}
 use Rattle.number.specs.Digits.{cap, headOf, ends, lead, pushed, digitsFrom}
 
@@ -27,14 +28,9 @@ ends-at t s i h = rw (drop-cons s i 0 h)
 pub ends-end : (t : ℕ → Bool) (s : List ℕ) (i : ℕ) → length s ≤ i → ends t (drop i s) ≡ true
 ends-end t s i h = rw (drop-of-length-le s h)
 
--- a byte that is not 0 stands before the end
-pub head-in : (s : List ℕ) (i b : ℕ) → getD s i 0 ≡ b → 0 < b → i < length s
-head-in [] i b e h = omega arith
-head-in (x ∷ s) zero b e h = omega arith
-head-in (x ∷ s) (suc i) b e h = omega (arith, head-in s i b e h)
-
+-- the place behind a byte that is not 0
 pub next-in : (s : List ℕ) (at n b : ℕ) → getD s (at + n) 0 ≡ b → 0 < b → at + (n + 1) ≤ length s
-next-in s at n b e h = omega (arith, head-in s (at + n) b e h)
+next-in s at n b e h = omega (arith, byte-in s (at + n) e h)
 
 -- ── digits ──
 

@@ -40,9 +40,6 @@ then {l} {m} {n} {x} {y} {at} {p} {q} f g =
 pub put-as : {l n x y : List ℕ} {at q : ℕ} → x ≡ y → Put l at x q n → Put l at y q n
 put-as {l} {n} {x} {y} {at} {q} e f = subst (λ (w : List ℕ). Put l at w q n) e f
 
-pub put-digit : {l n : List ℕ} {at q d e : ℕ} → d ≡ e → Put l at (d ∷ []) q n → Put l at (e ∷ []) q n
-put-digit e f = put-as (ap (λ (x : ℕ). x ∷ []) e) f
-
 pub put-one : (l : List ℕ) (at b : ℕ) → Put l at (b ∷ []) (at + 1) (set l at b)
 unfolding puts
 put-one l at b = record { behind = refl; is = refl }

@@ -16,6 +16,8 @@ use Rattle.label.specs.Write.{utf8, paired, unitBytes, unitsBytes, textOf}
 use Rattle.label.specs.Requests.Attribute.{escapeByte, escape, asAsked}
 use Rattle.label.proofs.Basics.{and-l, and-r, cases}
 use Rattle.label.proofs.Requests.Escaping.{asked-append, asked-nil, asked-stays, unit-none, unit-ascii}
+use Rattle.octets.specs.Puts.{Put}
+use Rattle.octets.proofs.Puts.{put-as}
 use Rattle.text_bytes.specs.Lengths.{unitLength, askedLength, markLength}
 
 -- ── a unit ──
@@ -39,10 +41,19 @@ high-range u f h = (leb-true 55296 u (and-l _ _ (sym f ∙ h)), leb-true u 56319
 
 -- ── as it is asked for ──
 
+-- the bytes stored for one of the six
+pub put-escape : {l n : List ℕ} {at q b k : ℕ} → b ≡ k → Put l at (escapeByte k) q n → Put l at (escapeByte b) q n
+put-escape e f = put-as (ap escapeByte (sym e)) f
+
+-- none of these
+abbrev NoneOf : List ℕ → ℕ → Type 0
+NoneOf [] b = Unit {0}
+NoneOf (k ∷ ks) b = NoneOf ks b × (b ≡ k → ⊥)
+
 -- a byte that is none of the six
-pub escape-other : (b : ℕ) → (b ≡ 38 → ⊥) → (b ≡ 60 → ⊥) → (b ≡ 34 → ⊥) → (b ≡ 9 → ⊥) → (b ≡ 10 → ⊥) → (b ≡ 13 → ⊥) → b ∷ [] ≡ escapeByte b
+pub escape-other : (b : ℕ) → NoneOf (13 ∷ 10 ∷ 9 ∷ 34 ∷ 60 ∷ 38 ∷ []) b → b ∷ [] ≡ escapeByte b
 unfolding escapeByte
-escape-other b n o p q r s = rw (ne-eqb b 38 n, ne-eqb b 60 o, ne-eqb b 34 p, ne-eqb b 9 q, ne-eqb b 10 r, ne-eqb b 13 s)
+escape-other b ((((((u, n), o), p), q), r), s) = rw (ne-eqb b 38 n, ne-eqb b 60 o, ne-eqb b 34 p, ne-eqb b 9 q, ne-eqb b 10 r, ne-eqb b 13 s)
 
 pub asked-ascii : (e : Bool) (u v : ℕ) → (e && leb u 127) ≡ true → escapeByte u ≡ asAsked e (unitBytes u v)
 asked-ascii true u v h = sym (unit-ascii u v (leb-true u 127 h))

@@ -1,6 +1,7 @@
 // The text of a run's units: its bytes in UTF-8, escaped where that is asked for.
 ghost use Rattle.label.specs.Text.{braced};
 ghost use mathlib.Core.Path.{_≡_};
+ghost use mathlib.Core.List.{[], _∷_};
 ghost use Prim.Native.Nat.{_+_, _-_, _%_, _≤_, _<_};
 ghost use lib.ListN.{length};
 ghost use Rattle.label.specs.Fetched.{halves};
@@ -12,10 +13,13 @@ ghost use Rattle.text_bytes.specs.Lengths.{unitLength, askedLength, mark
 // ── a run's units in UTF-8 ──
 // Each `put_..` stores its bytes from `at` on and returns the place behind them.
 
-fn tail_byte(c: u32) -> u8
-    ensures { λ r. ⌜ r ≡ 128 + c % 64 ⌝ }
+// A byte behind the first, with the six lowest bits of c.
+fn put_tail(out: &mut [u8], at: usize, c: u32) -> usize
+    requires { ⌜ at < 18446744073709551615 ⌝ }
+    ensures { λ r. ⌜ Put (now (out .entry)) at ((128 + c % 64) ∷ []) r (now (out .exit)) ⌝ }
+    ensures bounds { λ r. ⌜ r ≡ at + 1 ⌝ }
 {
-    (128 + c % 64) as u8
+    octets::put_byte(out, at, (128 + c % 64) as u8)
 }
 
 pub fn put_utf8(out: &mut [u8], at: usize, c: u32) -> usize
@@ -28,17 +32,17 @@ pub fn put_utf8(out: &mut [u8], at: usize, c: u32) -> usize
     }
     if c <= 0x7ff {
         let p = octets::put_byte(out, at, (192 + c / 64) as u8);
-        return octets::put_byte(out, p, tail_byte(c));
+        return put_tail(out, p, c);
     }
     if c <= 0xffff {
         let p = octets::put_byte(out, at, (224 + c / 4096) as u8);
-        let q = octets::put_byte(out, p, tail_byte(c / 64));
-        return octets::put_byte(out, q, tail_byte(c));
+        let q = put_tail(out, p, c / 64);
+        return put_tail(out, q, c);
     }
     let p = octets::put_byte(out, at, (240 + c / 262144) as u8);
-    let q = octets::put_byte(out, p, tail_byte(c / 4096));
-    let t = octets::put_byte(out, q, tail_byte(c / 64));
-    octets::put_byte(out, t, tail_byte(c))
+    let q = put_tail(out, p, c / 4096);
+    let t = put_tail(out, q, c / 64);
+    put_tail(out, t, c)
 }
 
 // What a low half adds to a pair's number; 0 for a unit below the low halves.
@@ -78,25 +82,15 @@ fn put_escaped(out: &mut [u8], at: usize, b: u8) -> usize
     ensures { λ r. ⌜ Put (now (out .entry)) at (escapeByte b) r (now (out .exit)) ⌝ }
     ensures bounds { λ r. ⌜ r ≤ at + 6 ⌝ }
 {
-    if b == b'&' {
-        return octets::put_bytes(out, at, b"&amp;");
+    match b {
+        b'&' => octets::put_bytes(out, at, b"&amp;"),
+        b'<' => octets::put_bytes(out, at, b"&lt;"),
+        b'"' => octets::put_bytes(out, at, b"&quot;"),
+        b'\t' => octets::put_bytes(out, at, b"&#9;"),
+        b'\n' => octets::put_bytes(out, at, b"&#10;"),
+        b'\r' => octets::put_bytes(out, at, b"&#13;"),
+        _ => octets::put_byte(out, at, b),
     }
-    if b == b'<' {
-        return octets::put_bytes(out, at, b"&lt;");
-    }
-    if b == b'"' {
-        return octets::put_bytes(out, at, b"&quot;");
-    }
-    if b == b'\t' {
-        return octets::put_bytes(out, at, b"&#9;");
-    }
-    if b == b'\n' {
-        return octets::put_bytes(out, at, b"&#10;");
-    }
-    if b == b'\r' {
-        return octets::put_bytes(out, at, b"&#13;");
-    }
-    octets::put_byte(out, at, b)
 }
 
 // The same as it is asked for. Only a character of one byte can be one of the six.

@@ -113,16 +113,17 @@ module _ (s : List ℕ) (i m : ℕ) {b : ℕ} (f : b ≡ getD s i 0) where
 
 -- ── the character at a place ──
 
-pub char-one : (s : List ℕ) (i : ℕ) {x : Char} → x ≡ cond (xmlChar (getD s i 0)) (Good (getD s i 0) (i + 1)) Outside → getD s i 0 < 128 → x ≡ charAt s i
+-- one of one byte, b
+pub char-one : (s : List ℕ) (i : ℕ) {b : ℕ} {x : Char} → b ≡ getD s i 0 → x ≡ cond (xmlChar b) (Good b (i + 1)) Outside → getD s i 0 < 128 → x ≡ charAt s i
 unfolding charAt scalar
-char-one s i e h = let (t, n) = starts-one (getD s i 0) (drop (i + 1) s) (omega arith) in rw (t, n, add-zero (i + 1)) e
+char-one s i f e h = let (t, n) = starts-one (getD s i 0) (drop (i + 1) s) (omega arith) in rw (t, n, add-zero (i + 1), ← f) e
 
 -- a byte from space to 127 is a character
 pub char-plain : (s : List ℕ) (i : ℕ) → within 32 127 (getD s i 0) ≡ true → charAt s i ≡ Good (getD s i 0) (i + 1)
 char-plain s i h =
     let l : 32 ≤ getD s i 0 = within-lo 32 127 (getD s i 0) h in
     let k : getD s i 0 ≤ 127 = within-hi 32 127 (getD s i 0) h in
-    sym (char-one s i (rw (xml-mid (getD s i 0) l (omega arith))) (omega arith))
+    sym (char-one s i refl (rw (xml-mid (getD s i 0) l (omega arith))) (omega arith))
 
 pub char-plain-as : (s : List ℕ) (i c : ℕ) → c ≡ getD s i 0 → within 32 127 (getD s i 0) ≡ true → charAt s i ≡ Good c (i + 1)
 char-plain-as s i c e h = rw e (char-plain s i h)
@@ -139,21 +140,16 @@ module _ (s : List ℕ) (i : ℕ) (r : Trailing) (e : r ≡ lead (getD s i 0)) w
   unfolding charAt
   char-cut h = rw (by-lead {t = false} (rw (h, and-false (r .fits))))
 
-  module _ (c : ℕ) (f : r .fits ≡ true) (t : trail (r .more) (r .lo) (r .hi) (drop (i + 1) s) ≡ true) (q : c ≡ scalar (r .more) (getD s i 0) (drop (i + 1) s))
-    where
-      start : startsChar (getD s i 0) (drop (i + 1) s) ≡ true
-      start = by-lead (rw (f, t))
-
-      more-is : following (getD s i 0) (drop (i + 1) s) ≡ r .more
-      more-is = following-is (getD s i 0) (drop (i + 1) s) start ∙ rw (← e)
-
-      pub char-good : xmlChar c ≡ true → Good c (i + 1 + r .more) ≡ charAt s i
-      unfolding charAt
-      char-good x = rw (start, more-is, ← q, x)
-
-      pub char-outside : xmlChar c ≡ false → Outside ≡ charAt s i
-      unfolding charAt
-      char-outside x = rw (start, more-is, ← q, x)
+  -- c is its number
+  pub char-whole : (c : ℕ) {x : Char} → r .fits ≡ true → trail (r .more) (r .lo) (r .hi) (drop (i + 1) s) ≡ true
+      → c ≡ scalar (r .more) (getD s i 0) (drop (i + 1) s) → x ≡ cond (xmlChar c) (Good c (i + 1 + r .more)) Outside → x ≡ charAt s i
+  unfolding charAt
+  char-whole c f t q x =
+      let b = getD s i 0 in
+      let bs = drop (i + 1) s in
+      let start : startsChar b bs ≡ true = by-lead (rw (f, t)) in
+      let more-is : following b bs ≡ r .more = following-is b bs start ∙ rw (← e) in
+      rw (start, more-is, ← q) x
 
 -- ── what the character at a place tells ──
 

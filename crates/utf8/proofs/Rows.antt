@@ -4,9 +4,9 @@ use Prim.Native.Nat.{ℕ, zero, suc, _+_, _-_, _≤_, _<_}
 use native.Mathlib.Omega.{arith}
 use native.Mathlib.Numerals.{add-one}
 use mathlib.Core.Path.{_≡_, refl, sym, _∙_}
-use mathlib.Core.Bool.{Bool, true, false, cond, not, _&&_, false≢true, and-false}
+use mathlib.Core.Bool.{true, false, not, _&&_, false≢true, and-false}
 use mathlib.Core.List.{List, [], _∷_}
-use borrow.Author.Tests.{le-leb, lt-leb, leb-true}
+use borrow.Author.Tests.{le-leb, lt-leb}
 use lib.Dec.{leb}
 use lib.ListN.{length, getD, drop, length-drop, drop-of-length-le}
 use lib.Seq.{drop-cons}
@@ -15,6 +15,7 @@ use Rattle.label.specs.Text.{within, Range, _‥_, Row, table, rowFits, fitting
 use Rattle.label.specs.Statements.Encoding.{Each}
 use Rattle.label.proofs.Basics.{and-r, cases, within-is, within-lo, within-hi, above-range}
 use Rattle.label.proofs.Utf8.{_⨾_, Rising, rising, skips, unfit, fits-first, none-below, alone}
+use Rattle.octets.proofs.Bytes.{outside}
 use Rattle.utf8.specs.Rows.{trailingRow, no-row, inFirst, behind, chosen, lead, trail}
 use Rattle.utf8.specs.declared.Trailing.{Trailing}
 
@@ -59,18 +60,15 @@ unfolding lead chosen table
 by-none b h k =
     rw (
       above-range 0x00 0x7f b h,
-      out 0xc2 0xdf (omega arith, omega arith),
-      out 0xe0 0xe0 (omega arith, omega arith),
-      out 0xe1 0xec (omega arith, omega arith),
-      out 0xed 0xed (omega arith, omega arith),
-      out 0xee 0xef (omega arith, omega arith),
-      out 0xf0 0xf0 (omega arith, omega arith),
-      out 0xf1 0xf3 (omega arith, omega arith),
-      out 0xf4 0xf4 (omega arith, omega arith),
+      outside 0xc2 0xdf b (λ l. omega (arith, k l)),
+      outside 0xe0 0xe0 b (λ l. omega (arith, k (omega arith))),
+      outside 0xe1 0xec b (λ l. omega (arith, k (omega arith))),
+      outside 0xed 0xed b (λ l. omega (arith, k (omega arith))),
+      outside 0xee 0xef b (λ l. omega (arith, k (omega arith))),
+      outside 0xf0 0xf0 b (λ l. omega (arith, k (omega arith))),
+      outside 0xf1 0xf3 b (λ l. omega (arith, k (omega arith))),
+      outside 0xf4 0xf4 b (λ l. omega (arith, k (omega arith))),
     )
-  where
-    out : (lo hi : ℕ) → (0xc2 ≤ lo) × (hi ≤ 0xf4) → within lo hi b ≡ false
-    out lo hi (l, u) = cases (leb lo b) (λ t. above-range lo hi b (omega (arith, k (omega (arith, leb-true lo b t))))) (λ t. rw t)
 
 -- ── the bytes behind the first ──
 

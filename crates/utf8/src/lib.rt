@@ -149,11 +149,10 @@ fn scalar_at(s: &[u8], at: usize, more: usize) -> u32
     with_six(d, s[at + 3])
 }
 
-// A character of one byte, in front of place `next`.
-fn one_byte(b: u8, next: usize) -> Char
-    ensures { λ r. ⌜ r ≡ cond (xmlChar b) (Char.Good b next) Char.Outside ⌝ }
+// A well-formed character by its number, in front of place `next`.
+fn judged(code: u32, next: usize) -> Char
+    ensures { λ r. ⌜ r ≡ cond (xmlChar code) (Char.Good code next) Char.Outside ⌝ }
 {
-    let code = b as u32;
     if is_xml(code) {
         Char::Good { code, next }
     } else {
@@ -168,7 +167,7 @@ pub fn char_at(s: &[u8], at: usize) -> Char
 {
     // The first row, for speed: most characters are of one byte.
     if s[at] < 0x80 {
-        return one_byte(s[at], at + 1);
+        return judged(octets::wide(s[at]), at + 1);
     }
     let row = row_of(s[at]);
     let fits = row.fits;
@@ -179,13 +178,5 @@ pub fn char_at(s: &[u8], at: usize) -> Char
     if !follows(s, at + 1, more, row.lo, row.hi) {
         return Char::Ill;
     }
-    let code = scalar_at(s, at, more);
-    if is_xml(code) {
-        Char::Good {
-            code,
-            next: at + 1 + more,
-        }
-    } else {
-        Char::Outside
-    }
+    judged(scalar_at(s, at, more), at + 1 + more)
 }

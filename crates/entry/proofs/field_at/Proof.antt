@@ -5,7 +5,7 @@ use lib.Dec.{lit<}
 use borrow.Author.Needs.{needs}
 use Rattle.entry.proofs.EntryLaws.{code-absent, code-empty, code-given}
 use Rattle.number.proofs.NumberLaws.{signed-after}
-use Rattle.number.proofs.DigitLaws.{head-in}
+use Rattle.octets.proofs.Bytes.{byte-in}
 use Rattle.entry.proofs.field_at.Statement.{statement}
 use Rattle.entry.proofs.field_at.Tie as tie
 
@@ -44,7 +44,7 @@ returns-2 c =
           (sym (at-breaks-at .breaks-at .ensures) ∙ at-if2 .if2 .taken),
       rw (c .not-given2 .ensures) (omega (
         arith,
-        head-in (at-start .args .s .now) (at-start .args .at) 44 (sym (at-byte-or-zero .byte-or-zero .ensures) ∙ at-if1 .if1 .left) (lit< tt),
+        byte-in (at-start .args .s .now) (at-start .args .at) (sym (at-byte-or-zero .byte-or-zero .ensures) ∙ at-if1 .if1 .left) (lit< tt),
       )),
     )
 
@@ -70,7 +70,7 @@ number-at-requires c κs =
     let at-byte-or-zero = at-if1 .before in
     let at-start = at-byte-or-zero .before .before in
     signed-after (at-start .args .s .now) _ _ _ (at-byte-or-zero2 .byte-or-zero2 .ensures) (c .sign-length .ensures .0)
-    (head-in (at-start .args .s .now) _ _ (sym (at-byte-or-zero .byte-or-zero .ensures) ∙ at-if1 .if1 .left) (lit< tt))
+    (byte-in (at-start .args .s .now) _ (sym (at-byte-or-zero .byte-or-zero .ensures) ∙ at-if1 .if1 .left) (lit< tt))
 
 add-t10 : tie.Need-add-t10
 add-t10 c = search needs

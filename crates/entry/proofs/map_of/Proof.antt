@@ -6,7 +6,8 @@ use lib.Dec.{lit<}
 use borrow.Author.Needs.{needs}
 use Rattle.entry.specs.Parts.{cutMap}
 use Rattle.entry.proofs.EntryLaws.{map-none, code-one, code-two, code-odd, code-open}
-use Rattle.number.proofs.DigitLaws.{head-in, next-in}
+use Rattle.octets.proofs.Bytes.{byte-in}
+use Rattle.number.proofs.DigitLaws.{next-in}
 use Rattle.entry.proofs.map_of.Statement.{statement}
 use Rattle.entry.proofs.map_of.Tie as tie
 
@@ -19,16 +20,11 @@ no-map-requires c κs = search needs
 returns : tie.Need-returns
 returns c =
     let at-if1 = c .before in
-    let at-byte-or-zero = at-if1 .before in (
-      c .no-map .ensures ∙ ap cutMap (sym (map-none _ (λ h. at-if1 .if1 .taken (at-byte-or-zero .byte-or-zero .ensures ∙ h)))),
-      rw (c .no-map .ensures) (omega arith),
-    )
+    let at-byte-or-zero = at-if1 .before in
+    (c .no-map .ensures ∙ ap cutMap (sym (map-none _ (λ h. at-if1 .if1 .taken (at-byte-or-zero .byte-or-zero .ensures ∙ h)))), rw (c .no-map .ensures) (omega arith))
 
 digits-at-requires : tie.Need-digits-at-requires
-digits-at-requires c κs = (
-  head-in (c .before .before .before .args .s .now) 0 _ (sym (c .before .byte-or-zero .ensures) ∙ c .if1 .left) (lit< tt),
-  search needs,
-)
+digits-at-requires c κs = (byte-in (c .before .before .before .args .s .now) 0 (sym (c .before .byte-or-zero .ensures) ∙ c .if1 .left) (lit< tt), search needs)
 
 add-byte-or-zero : tie.Need-add-byte-or-zero
 add-byte-or-zero c = search needs
@@ -150,7 +146,7 @@ returns-5 c =
           (at-digits-at2 .digits-at2 .ensures .0) (sym (at-byte-or-zero3 .byte-or-zero3 .ensures) ∙ at-if4 .if4 .left) _ (c .both .ensures),
       omega (
         arith,
-        head-in (at-start .args .s .now) (1 + (at-digits-at .digits-at .result .count + 1) + at-digits-at2 .digits-at2 .result .count) 41
+        byte-in (at-start .args .s .now) (1 + (at-digits-at .digits-at .result .count + 1) + at-digits-at2 .digits-at2 .result .count)
             (sym (at-byte-or-zero3 .byte-or-zero3 .ensures) ∙ at-if4 .if4 .left) (lit< tt),
       ),
     )

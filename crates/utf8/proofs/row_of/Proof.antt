@@ -2,7 +2,6 @@
 use Rattle.utf8.proofs.Rows.{by-row, by-none}
 use Rattle.label.specs.Text.{table}
 use mathlib.Core.Path.{_∙_}
-use native.Mathlib.Omega.{arith}
 use borrow.Author.Needs.{needs}
 use Rattle.utf8.proofs.row_of.Statement.{statement}
 use Rattle.utf8.proofs.row_of.Tie as tie

@@ -1,8 +1,8 @@
--- `utf8::one_byte` meets its contract. Assumes nothing.
+-- `utf8::judged`: the test decides; each return is the definition's case. Assumes nothing.
 use mathlib.Core.Path.{sym, _∙_}
 use borrow.Author.Needs.{needs}
-use Rattle.utf8.proofs.one_byte.Statement.{statement}
-use Rattle.utf8.proofs.one_byte.Tie as tie
+use Rattle.utf8.proofs.judged.Statement.{statement}
+use Rattle.utf8.proofs.judged.Tie as tie
 
 is-xml-requires : tie.Need-is-xml-requires
 is-xml-requires c κs = search needs
@@ -13,5 +13,5 @@ returns c = rw (sym (c .before .is-xml .ensures) ∙ c .if1 .taken)
 returns-2 : tie.Need-returns-2
 returns-2 c = rw (sym (c .before .is-xml .ensures) ∙ c .if1 .left)
 
-pub one-byte-spec : {M : Type 1} → statement M
-one-byte-spec = tie.close (tie.spec is-xml-requires returns returns-2)
+pub judged-spec : {M : Type 1} → statement M
+judged-spec = tie.close (tie.spec is-xml-requires returns returns-2)
