@@ -20,8 +20,10 @@ no-map-requires c κs = search needs
 returns : tie.Need-returns
 returns c =
     let at-if1 = c .before in
-    let at-byte-or-zero = at-if1 .before in
-    (c .no-map .ensures ∙ ap cutMap (sym (map-none _ (λ h. at-if1 .if1 .taken (at-byte-or-zero .byte-or-zero .ensures ∙ h)))), rw (c .no-map .ensures) (omega arith))
+    let at-byte-or-zero = at-if1 .before in (
+      c .no-map .ensures ∙ ap cutMap (sym (map-none _ (λ h. at-if1 .if1 .taken (at-byte-or-zero .byte-or-zero .ensures ∙ h)))),
+      rw (c .no-map .ensures) (omega arith),
+    )
 
 digits-at-requires : tie.Need-digits-at-requires
 digits-at-requires c κs = (byte-in (c .before .before .before .args .s .now) 0 (sym (c .before .byte-or-zero .ensures) ∙ c .if1 .left) (lit< tt), search needs)

@@ -20,7 +20,8 @@ allowed : (c : tie.After-either)
 allowed c =
     let at-is-named = c .before .before in
     let at-start = at-is-named .before .before .before .before .before .before .before .before .before in
-    allowed-is _ _ _ _ _ (not (at-start .args .x .mapped)) _ (c .either .ensures) (at-is-named .before .before .before .opens-here .ensures) (c .before .both2 .ensures)
+    allowed-is _ _ _ _ _ (not (at-start .args .x .mapped)) _ (c .either .ensures) (at-is-named .before .before .before .opens-here .ensures)
+    (c .before .both2 .ensures)
     (at-is-named .is-named .ensures)
 
 both-requires : tie.Need-both-requires
