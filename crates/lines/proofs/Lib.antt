@@ -1,1 +1,2 @@
 pub mod Relabels
+pub mod Standing
