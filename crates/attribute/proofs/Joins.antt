@@ -26,7 +26,7 @@ first (b ∷ t) c h e =
 
 -- the byte c, which is not `;`, stands at place i
 module _ (s : List ℕ) (i : ℕ) {b : ℕ} (e : b ≡ getD s i 0) (c : ℕ) (h : b ≡ c) (o : 0 < c) (k : eqb c 59 ≡ false) where
-  pub behind-in : i + 1 ≤ length s
+  behind-in : i + 1 ≤ length s
   behind-in = omega (arith, byte-in s i (sym e ∙ h) o)
 
   opened : drop i s ≡ c ∷ drop (i + 1) s

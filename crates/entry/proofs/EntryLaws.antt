@@ -35,7 +35,7 @@ use Rattle.entry.proofs.EntryBridge.{bridge}
 
 -- ── the map ──
 
-pub map-none : (s : List ℕ) → (headOf s ≡ 40 → ⊥) → mapOf s ≡ noMap
+map-none : (s : List ℕ) → (headOf s ≡ 40 → ⊥) → mapOf s ≡ noMap
 unfolding mapOf
 map-none s h = rw (ne-eqb _ _ h)
 
@@ -43,23 +43,40 @@ map-some : (s : List ℕ) → headOf s ≡ 40 → mapOf s ≡ mapWith s (leadAt 
 unfolding mapOf
 map-some s h = rw (eq-eqb _ _ h)
 
-module _ (s : List ℕ) (p : headOf s ≡ 40) (r : Digits) (e : r ≡ digitsFrom 0 (drop 1 s)) where
-  pub code-one : getD s (1 + r .count) 0 ≡ 41
-      → _≡_ {A = MapPart} (record { ok = ltb 0 (r .count); used = 1 + r .count + 1; mapped = true; units = r .value; glyphs = 1 }) (cutMap (mapOf s))
-  code-one h = rw (map-some s p, eq-eqb _ _ (rw e at h), e)
+-- a is the first byte, h the one behind the digits of the first count, g the one behind those of the second
+module _ (s : List ℕ) {a : ℕ} (ea : a ≡ getD s 0 0) where
+  pub code-none : (a ≡ 40 → ⊥) → cutMap noMap ≡ cutMap (mapOf s)
+  code-none n = ap cutMap (sym (map-none s (λ k. n (ea ∙ k))))
 
-  pub code-odd : (getD s (1 + r .count) 0 ≡ 41 → ⊥) → (getD s (1 + r .count) 0 ≡ 58 → ⊥) → cutMap badMap ≡ cutMap (mapOf s)
-  code-odd h k = rw (map-some s p, ne-eqb _ _ (rw e at h), ne-eqb _ _ (rw e at k))
+  module _ (p : a ≡ 40) (r : Digits) (e : r ≡ digitsFrom 0 (drop 1 s)) {h : ℕ} (eh : h ≡ getD s (1 + r .count) 0) where
+    -- the lengths of both, and h by the first
+    abbrev n : ℕ
+    n = length (leadAt 1 s)
 
-  module _ (h : getD s (1 + r .count) 0 ≡ 41 → ⊥) (k : getD s (1 + r .count) 0 ≡ 58) (q : Digits)
-      (f : q ≡ digitsFrom 0 (drop (1 + (r .count + 1)) s)) where
-    pub code-two : getD s (1 + (r .count + 1) + q .count) 0 ≡ 41 → (ok : Bool) → ok ≡ (ltb 0 (r .count) && ltb 0 (q .count))
-        → _≡_ {A = MapPart} (record { ok = ok; used = 1 + (r .count + 1) + q .count + 1; mapped = true; units = r .value; glyphs = q .value })
-        (cutMap (mapOf s))
-    code-two l ok eo = rw (map-some s p, ne-eqb _ _ (rw e at h), eq-eqb _ _ (rw e at k), eq-eqb _ _ (rw (f, e) at l), eo, f, e)
+    abbrev k : ℕ
+    k = length (leadAt (1 + (n + 1)) s)
 
-    pub code-open : (getD s (1 + (r .count + 1) + q .count) 0 ≡ 41 → ⊥) → cutMap badMap ≡ cutMap (mapOf s)
-    code-open l = rw (map-some s p, ne-eqb _ _ (rw e at h), eq-eqb _ _ (rw e at k), ne-eqb _ _ (rw (f, e) at l))
+    h-is : h ≡ getD s (1 + n) 0
+    h-is = rw e at eh
+
+    pub code-one : h ≡ 41
+        → _≡_ {A = MapPart} (record { ok = ltb 0 (r .count); used = 1 + r .count + 1; mapped = true; units = r .value; glyphs = 1 }) (cutMap (mapOf s))
+    code-one t = rw (map-some s (sym ea ∙ p), ← h-is, t, e)
+
+    pub code-odd : (h ≡ 41 → ⊥) → (h ≡ 58 → ⊥) → cutMap badMap ≡ cutMap (mapOf s)
+    code-odd o q = rw (map-some s (sym ea ∙ p), ← h-is, ne-eqb h 41 o, ne-eqb h 58 q)
+
+    module _ (t : h ≡ 58) (q : Digits) (f : q ≡ digitsFrom 0 (drop (1 + (r .count + 1)) s)) {g : ℕ} (eg : g ≡ getD s (1 + (r .count + 1) + q .count) 0) where
+      g-is : g ≡ getD s (1 + (n + 1) + k) 0
+      g-is = rw (f, e) at eg
+
+      pub code-two : g ≡ 41 → (ok : Bool) → ok ≡ (ltb 0 (r .count) && ltb 0 (q .count))
+          → _≡_ {A = MapPart} (record { ok = ok; used = 1 + (r .count + 1) + q .count + 1; mapped = true; units = r .value; glyphs = q .value })
+          (cutMap (mapOf s))
+      code-two l ok eo = rw (map-some s (sym ea ∙ p), ← h-is, ← g-is, t, l, eo, f, e)
+
+      pub code-open : (g ≡ 41 → ⊥) → cutMap badMap ≡ cutMap (mapOf s)
+      code-open l = rw (map-some s (sym ea ∙ p), ← h-is, ← g-is, t, ne-eqb g 41 l)
 
 -- where there is no map, no byte is a map's
 by-mapped : (h k : ℕ) (ds es : List ℕ) → mapBy h k ds es .mapped ≡ true
@@ -104,17 +121,22 @@ field-some : (t : List ℕ) → headOf t ≡ 44 → fieldOf t ≡ fieldWith (get
 unfolding fieldOf
 field-some t h = rw (eq-eqb _ _ h)
 
-pub code-absent : (s : List ℕ) (at : ℕ) → (getD s at 0 ≡ 44 → ⊥) → notGiven 0 ≡ fieldOf (drop at s)
-code-absent s at h = sym (field-none (drop at s) (rw head-drop h))
+-- a is the byte at the place, b the one behind it
+module _ (s : List ℕ) (at : ℕ) {a : ℕ} (ea : a ≡ getD s at 0) where
+  a-is : a ≡ headOf (drop at s)
+  a-is = rw head-drop ea
 
-module _ (s : List ℕ) (at : ℕ) (p : getD s at 0 ≡ 44) where
-  pub code-empty : ends isBreak (drop (at + 1) s) ≡ true → notGiven 1 ≡ fieldOf (drop at s)
-  code-empty h = rw (field-some (drop at s) (rw head-drop p), drop-drop 1 at s, h)
+  pub code-absent : (a ≡ 44 → ⊥) → notGiven 0 ≡ fieldOf (drop at s)
+  code-absent h = sym (field-none (drop at s) (λ k. h (a-is ∙ k)))
 
-  pub code-given : (b : ℕ) → b ≡ getD s (at + 1) 0 → ends isBreak (drop (at + 1) s) ≡ false → (k : ℕ) → k ≡ signLength b → (n : Number)
-      → n ≡ numberOf (drop (at + (1 + k)) s)
-      → givenBy b (1 + k) n ≡ fieldOf (drop at s)
-  code-given b eb h k ek n en = rw (field-some (drop at s) (rw head-drop p), drop-drop 1 at s, h, getD-drop, ← eb, ← ek, drop-drop, ← en)
+  module _ (p : a ≡ 44) where
+    pub code-empty : ends isBreak (drop (at + 1) s) ≡ true → notGiven 1 ≡ fieldOf (drop at s)
+    code-empty h = rw (field-some (drop at s) (sym a-is ∙ p), drop-drop 1 at s, h)
+
+    pub code-given : (b : ℕ) → b ≡ getD s (at + 1) 0 → ends isBreak (drop (at + 1) s) ≡ false → (k : ℕ) → k ≡ signLength b → (n : Number)
+        → n ≡ numberOf (drop (at + (1 + k)) s)
+        → givenBy b (1 + k) n ≡ fieldOf (drop at s)
+    code-given b eb h k ek n en = rw (field-some (drop at s) (sym a-is ∙ p), drop-drop 1 at s, h, getD-drop, ← eb, ← ek, drop-drop, ← en)
 
 -- a size is within its limit
 pub field-small : (t : List ℕ) → Small (fieldOf t .size)
@@ -234,7 +256,7 @@ module _ (k : ℕ) (s : List ℕ) (f : Front) (x : Field) (ef : f ≡ frontOf s)
 
   one-parted : Parted s f x (notGiven 0) (notGiven 0)
   one-parted =
-      let none : notGiven 0 ≡ fieldOf (drop (f .used + x .used) s) = code-absent s (f .used + x .used) h in
+      let none : notGiven 0 ≡ fieldOf (drop (f .used + x .used) s) = code-absent s (f .used + x .used) refl h in
       record { front = ef; first = ex; second = none; third = rw (add-zero (f .used + x .used)) none; inside = rw one-sum bound }
 
   one-well : Well s f x (notGiven 0) (notGiven 0) ≡ OneWell s f x
@@ -291,7 +313,7 @@ index-alone t d ed bound some l w =
     let ef : f ≡ frontOf t = rw (zero-add n) at (code-front t (cutMap noMap) (ap cutMap (sym plain)) d ed true true (sym (or-true (ltb 0 n))) refl) in
     let i : Named (d .value) ≡ indexChoice (ltb 0 n) (d .value) = ap (λ (b : Bool). indexChoice b (d .value)) (sym (lt-ltb 0 n some)) in (
       l,
-      λ k. sym (rw z at (one-read k t f (notGiven 0) ef (code-absent t n (no-comma t n w)) (rw z (no-comma t n w)) (rw z bound) (rw z w) l refl
+      λ k. sym (rw z at (one-read k t f (notGiven 0) ef (code-absent t n refl (no-comma t n w)) (rw z (no-comma t n w)) (rw z bound) (rw z w) l refl
           (Named (d .value)) i Own refl 0 refl)),
     )
 

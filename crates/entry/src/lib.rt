@@ -107,30 +107,32 @@ fn map_of(s: &[u8]) -> MapPart
     }
     let x = number::digits_at(s, 1, 0);
     let n = x.count;
-    let h = octets::byte_or_zero(s, 1 + n);
-    if h == 41 {
-        return MapPart {
+    let end = 1 + n;
+    match octets::byte_or_zero(s, end) {
+        41 => MapPart {
             ok: 0 < n,
-            used: 1 + n + 1,
+            used: end + 1,
             mapped: true,
             units: x.value as usize,
             glyphs: 1,
-        };
-    }
-    if h != 58 {
-        return bad_map();
-    }
-    let y = number::digits_at(s, 1 + (n + 1), 0);
-    let k = y.count;
-    if octets::byte_or_zero(s, 1 + (n + 1) + k) != 41 {
-        return bad_map();
-    }
-    MapPart {
-        ok: plain::both(0 < n, 0 < k),
-        used: 1 + (n + 1) + k + 1,
-        mapped: true,
-        units: x.value as usize,
-        glyphs: y.value as usize,
+        },
+        58 => {
+            let from = 1 + (n + 1);
+            let y = number::digits_at(s, from, 0);
+            let k = y.count;
+            let close = from + k;
+            if octets::byte_or_zero(s, close) != 41 {
+                return bad_map();
+            }
+            MapPart {
+                ok: plain::both(0 < n, 0 < k),
+                used: close + 1,
+                mapped: true,
+                units: x.value as usize,
+                glyphs: y.value as usize,
+            }
+        }
+        _ => bad_map(),
     }
 }
 

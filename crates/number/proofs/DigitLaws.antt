@@ -12,7 +12,6 @@ use lib.Dec.{leb}
 use borrow.Author.Tests.{leb-true}
 use Rattle.label.specs.Bytes.{isDigit, valueFrom}
 use Rattle.label.proofs.Basics.{and-l, and-r}
-use Rattle.octets.proofs.Bytes.{byte-in}
 use Rattle.number.specs.declared.Digits.{Digits}
 use Rattle.number.specs.Digits.{cap, headOf, ends, lead, pushed, digitsFrom}
 
@@ -27,10 +26,6 @@ ends-at t s i h = rw (drop-cons s i 0 h)
 
 pub ends-end : (t : ℕ → Bool) (s : List ℕ) (i : ℕ) → length s ≤ i → ends t (drop i s) ≡ true
 ends-end t s i h = rw (drop-of-length-le s h)
-
--- the place behind a byte that is not 0
-pub next-in : (s : List ℕ) (at n b : ℕ) → getD s (at + n) 0 ≡ b → 0 < b → at + (n + 1) ≤ length s
-next-in s at n b e h = omega (arith, byte-in s (at + n) e h)
 
 -- ── digits ──
 

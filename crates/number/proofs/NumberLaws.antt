@@ -1,6 +1,6 @@
 -- Laws of a number's parts. Assumes nothing.
-use mathlib.Core.Path.{_≡_, refl, ap, sym}
-use mathlib.Core.Bool.{Bool, true, false, cond, _&&_, _||_}
+use mathlib.Core.Path.{_≡_, refl, ap, sym, _∙_}
+use mathlib.Core.Bool.{Bool, true, false, cond, _&&_, _||_, false≢true}
 use mathlib.Core.List.{List, [], _∷_, _++_}
 use Prim.Native.Nat.{ℕ, suc, zero, _+_, _-_, _*_, _^_, _≤_, _<_, min}
 use native.Mathlib.Omega.{arith}
@@ -103,61 +103,48 @@ cut-append a b = rw (value-append 0 a b) (cut-from b (min (value a) cap) (value 
 
 -- what the code makes of two runs of digits
 module _ (s : List ℕ) (at : ℕ) (r : Digits) (e : r ≡ digitsFrom 0 (drop at s)) where
-  pub code-pointed : (q : Digits) → q ≡ digitsFrom (r .value) (drop (at + (r .count + 1)) s) → getD s (at + r .count) 0 ≡ 46
-      → _≡_ {A = Mantissa} (record { ok = ltb 0 (q .count); used = r .count + 1 + q .count; count = r .count + q .count; value = q .value; behind = q .count })
-      (cutMantissa (mantissaOf (drop at s)))
-  code-pointed q f h =
-      let g : getD (drop at s) (length (lead (drop at s))) 0 ≡ 46 = rw getD-drop (rw e at h) in
-      rw (mant-pointed (drop at s) g, f, e, drop-drop, length-append, ← cut-append)
+  -- b is the byte behind the first digits
+  module _ {b : ℕ} (eb : b ≡ getD s (at + r .count) 0) where
+    behind-is : b ≡ getD (drop at s) (length (lead (drop at s))) 0
+    behind-is = rw getD-drop (rw e at eb)
 
-  pub code-plain : (getD s (at + r .count) 0 ≡ 46 → ⊥)
-      → _≡_ {A = Mantissa} (record { ok = ltb 0 (r .count); used = r .count; count = r .count; value = r .value; behind = 0 })
-      (cutMantissa (mantissaOf (drop at s)))
-  code-plain h =
-      let g : getD (drop at s) (length (lead (drop at s))) 0 ≡ 46 → ⊥ = rw getD-drop (rw e at h) in
-      rw (mant-plain (drop at s) g, e)
+    pub code-pointed : (q : Digits) → q ≡ digitsFrom (r .value) (drop (at + (r .count + 1)) s) → b ≡ 46
+        → _≡_ {A = Mantissa} (record { ok = ltb 0 (q .count); used = r .count + 1 + q .count; count = r .count + q .count; value = q .value; behind = q .count })
+        (cutMantissa (mantissaOf (drop at s)))
+    code-pointed q f h = rw (mant-pointed (drop at s) (sym behind-is ∙ h), f, e, drop-drop, length-append, ← cut-append)
 
-sign-le : (b : ℕ) → signLength b ≤ 1
-sign-le b = go (eqb b 43 || eqb b 45)
-  where
-    go : (p : Bool) → cond p 1 0 ≤ 1
-    go true = omega arith
-    go false = omega arith
+    pub code-plain : (b ≡ 46 → ⊥)
+        → _≡_ {A = Mantissa} (record { ok = ltb 0 (r .count); used = r .count; count = r .count; value = r .value; behind = 0 })
+        (cutMantissa (mantissaOf (drop at s)))
+    code-plain h = rw (mant-plain (drop at s) (λ k. h (behind-is ∙ k)), e)
 
-sign-in : (s : List ℕ) (i : ℕ) → i ≤ length s → i + signLength (getD s i 0) ≤ length s
-sign-in [] i h = omega arith
-sign-in (x ∷ s) zero h = omega (arith, sign-le x)
-sign-in (x ∷ s) (suc i) h = omega (arith, sign-in s i (omega arith))
+-- a sign, and the letter of an exponent, are bytes that are not 0
+pub sign-some : (b : ℕ) → (eqb b 43 || eqb b 45) ≡ true → 0 < b
+sign-some zero e = absurd (false≢true e)
+sign-some (suc b) e = omega arith
 
-exponent-in : (s : List ℕ) (i : ℕ) → isE (getD s i 0) ≡ true → i < length s
-exponent-in [] i e = let z : _≡_ {A = ℕ} 0 1 = cc in omega arith
-exponent-in (x ∷ s) zero e = omega arith
-exponent-in (x ∷ s) (suc i) e = omega (arith, exponent-in s i e)
-
-pub signed-after : (s : List ℕ) (at b k : ℕ) → b ≡ getD s (at + 1) 0 → k ≡ signLength b → at < length s → at + (1 + k) ≤ length s
-signed-after s at b k eb ek p = rw (ek, eb) (omega (arith, sign-in s (at + 1) (omega arith)))
-
-pub signed-in : (s : List ℕ) (at b k : ℕ) → b ≡ getD s (at + 1) 0 → k ≡ signLength b → isE (getD s at 0) ≡ true → at + (1 + k) ≤ length s
-signed-in s at b k eb ek h = signed-after s at b k eb ek (exponent-in s at h)
+pub letter-some : (b : ℕ) → isE b ≡ true → 0 < b
+letter-some zero e = absurd (false≢true e)
+letter-some (suc b) e = omega arith
 
 pub expo-none : (t : List ℕ) → isE (headOf t) ≡ false → exponentOf t ≡ unraised
 unfolding exponentOf
 expo-none t h = rw h
 
-pub code-unraised : (s : List ℕ) (at : ℕ) → isE (getD s at 0) ≡ false
+pub code-unraised : (s : List ℕ) (at : ℕ) {a : ℕ} → a ≡ getD s at 0 → isE a ≡ false
     → _≡_ {A = Exponent} (record { ok = true; used = 0; negative = false; count = 0; value = 0 }) (cutExponent (exponentOf (drop at s)))
 unfolding valueFrom
-code-unraised s at h = rw (expo-none (drop at s) (rw head-drop h))
+code-unraised s at ea h = rw (expo-none (drop at s) (rw (head-drop, ← ea) h))
 
 pub expo-some : (t : List ℕ) → isE (headOf t) ≡ true → exponentOf t ≡ raisedBy (getD t 1 0) t
 unfolding exponentOf
 expo-some t h = rw h
 
-pub code-raised : (s : List ℕ) (at b k : ℕ) (r : Digits) → b ≡ getD s (at + 1) 0 → k ≡ signLength b → r ≡ digitsFrom 0 (drop (at + (1 + k)) s)
-    → isE (getD s at 0) ≡ true
+pub code-raised : (s : List ℕ) (at b k : ℕ) (r : Digits) {a : ℕ} → a ≡ getD s at 0 → isE a ≡ true → b ≡ getD s (at + 1) 0 → k ≡ signLength b
+    → r ≡ digitsFrom 0 (drop (at + (1 + k)) s)
     → _≡_ {A = Exponent} (record { ok = ltb 0 (r .count); used = 1 + k + r .count; negative = eqb b 45; count = r .count; value = r .value })
     (cutExponent (exponentOf (drop at s)))
-code-raised s at b k r eb ek er h = rw (expo-some (drop at s) (rw head-drop h), getD-drop, ← eb, ← ek, drop-drop, er)
+code-raised s at b k r ea h eb ek er = rw (expo-some (drop at s) (rw (head-drop, ← ea) h), getD-drop, ← eb, ← ek, drop-drop, er)
 
 -- a value within the digits' limits is exact, and within what the code asks of it
 module _ (t : List ℕ) (m : Mantissa) (e : m ≡ cutMantissa (mantissaOf t)) (h : m .count ≤ 18) where

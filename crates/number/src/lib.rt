@@ -246,10 +246,10 @@ fn is_exponent(b: u8) -> bool
     plain::either(b == 101, b == 69)
 }
 
-// The bytes of a sign, where b is one.
+// The bytes of a sign, where b is one: 0 is none.
 pub fn sign_length(b: u8) -> usize
     ensures { λ r. ⌜ r ≡ signLength b ⌝ }
-    ensures bounds { λ r. ⌜ r ≤ 1 ⌝ }
+    ensures bounds { λ r. ⌜ (r ≤ 1) × (r ≤ b) ⌝ }
 {
     if plain::either(b == 43, b == 45) {
         1

@@ -1,7 +1,7 @@
 // Bytes in memory: numbers low byte first, bytes looked at, and bytes stored as far as there is room.
 ghost use mathlib.Core.Path.{_≡_};
 ghost use mathlib.Core.List.{[], _∷_};
-ghost use Prim.Native.Nat.{_+_, _-_, _/_, _%_, _<_, _≤_};
+ghost use Prim.Native.Nat.{_+_, _-_, _*_, _/_, _%_, _<_, _≤_};
 ghost use lib.Dec.{eqb};
 ghost use lib.ListN.{length, getD, drop};
 ghost use Rattle.label.specs.Bytes.{begins, cut};
@@ -65,9 +65,10 @@ pub fn get_u16(buf: &[u8], at: usize) -> u16
 
 // ── bytes, looked at ──
 
-// A byte, or 0 past the end.
+// A byte, or 0 past the end: one that is not 0 stands before it.
 pub fn byte_or_zero(s: &[u8], i: usize) -> u8
     ensures { λ r. ⌜ r ≡ getD (now (s .entry)) i 0 ⌝ }
+    ensures bounds { λ r. ⌜ r ≤ 255 * (length (now (s .entry)) - i) ⌝ }
 {
     if i < s.len() { s[i] } else { 0 }
 }

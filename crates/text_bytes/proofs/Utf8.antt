@@ -14,9 +14,10 @@ use lib.Seq.{drop-cons, getD-drop}
 use Rattle.label.specs.Text.{isHigh, isLow, braced}
 use Rattle.label.specs.Write.{utf8, paired, unitBytes, unitsBytes, textOf}
 use Rattle.label.specs.Requests.Attribute.{escapeByte, escape, asAsked}
-use Rattle.label.proofs.Basics.{and-l, and-r, cases}
+use Rattle.label.proofs.Basics.{and-l, and-r, cases, within-is, above-range}
 use Rattle.label.proofs.Requests.Escaping.{asked-append, asked-nil, asked-stays, unit-none, unit-ascii}
 use Rattle.octets.specs.Puts.{Put}
+use Rattle.octets.proofs.Bytes.{outside}
 use Rattle.octets.proofs.Puts.{put-as}
 use Rattle.text_bytes.specs.Lengths.{unitLength, askedLength, markLength}
 
@@ -111,6 +112,29 @@ module _ (us : List ℕ) {b : Bool} (e : b ≡ braced us) where
   mark-none h = rw (sym e ∙ h)
 
 -- ── lengths ──
+
+-- how many bytes, by the range of the unit
+module _ (u : ℕ) where
+  pub one-byte : u < 128 → 1 ≡ unitLength u
+  unfolding unitLength
+  one-byte h = rw (le-leb u 127 (omega arith))
+
+  pub two-bytes : 128 ≤ u → u < 2048 → 2 ≡ unitLength u
+  unfolding unitLength
+  two-bytes l h = rw (lt-leb u 127 l, le-leb u 2047 (omega arith))
+
+  pub pair-bytes : 55296 ≤ u → u < 56320 → 4 ≡ unitLength u
+  unfolding unitLength
+  pair-bytes l h = rw (lt-leb u 127 (omega arith), lt-leb u 2047 (omega arith), within-is 55296 56319 u l (omega arith))
+
+  pub no-bytes : 56320 ≤ u → u < 57344 → 0 ≡ unitLength u
+  unfolding unitLength
+  no-bytes l h = rw (lt-leb u 127 (omega arith), lt-leb u 2047 (omega arith), above-range 55296 56319 u l, within-is 56320 57343 u l (omega arith))
+
+  pub three-bytes : 2048 ≤ u → (55296 ≤ u → 57343 < u) → 3 ≡ unitLength u
+  unfolding unitLength
+  three-bytes l h =
+      rw (lt-leb u 127 (omega arith), lt-leb u 2047 l, outside 55296 56319 u (λ k. omega (arith, h k)), outside 56320 57343 u (λ k. h (omega arith)))
 
 utf-length : (c : ℕ) → length (utf8 c) ≡ cond (leb c 127) 1 (cond (leb c 2047) 2 (cond (leb c 65535) 3 4))
 unfolding utf8

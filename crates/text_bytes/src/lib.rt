@@ -145,19 +145,13 @@ fn unit_length(u: u16) -> usize
     ensures { λ r. ⌜ r ≡ unitLength u ⌝ }
     ensures bounds { λ r. ⌜ r ≤ 4 ⌝ }
 {
-    if u <= 0x7f {
-        return 1;
+    match u {
+        0x00..=0x7f => 1,
+        0x80..=0x7ff => 2,
+        0xd800..=0xdbff => 4,
+        0xdc00..=0xdfff => 0,
+        _ => 3,
     }
-    if u <= 0x7ff {
-        return 2;
-    }
-    if units::is_high(u) {
-        return 4;
-    }
-    if units::is_low(u) {
-        return 0;
-    }
-    3
 }
 
 // How many bytes a byte becomes, escaped: storing it counts them, though there is no room for them.

@@ -16,7 +16,7 @@ returns c =
     let at-byte-or-zero = c .before in
     let at-number-at = at-byte-or-zero .before in
     let at-start = at-number-at .before .before in
-    number-open _ (at-start .pre .2) _ _ (at-number-at .number-at .ensures .0) (at-byte-or-zero .byte-or-zero .ensures) (c .if1 .taken)
+    number-open _ (at-start .pre .2) _ _ (at-number-at .number-at .ensures .0) (at-byte-or-zero .byte-or-zero .ensures .0) (c .if1 .taken)
 
 is-xml-requires : tie.Need-is-xml-requires
 is-xml-requires c κs = search needs
@@ -28,7 +28,7 @@ returns-2 c =
     let at-byte-or-zero = at-if1 .before in
     let at-number-at = at-byte-or-zero .before in
     let at-start = at-number-at .before .before in
-    number-outside _ (at-start .pre .2) _ _ (at-number-at .number-at .ensures .0) (at-byte-or-zero .byte-or-zero .ensures) (at-if1 .if1 .left)
+    number-outside _ (at-start .pre .2) _ _ (at-number-at .number-at .ensures .0) (at-byte-or-zero .byte-or-zero .ensures .0) (at-if1 .if1 .left)
     (at-is-xml .is-xml .ensures) (not-true _ (c .if2 .taken))
 
 add-t9 : tie.Need-add-t9
@@ -41,7 +41,7 @@ returns-3 c =
     let at-byte-or-zero = at-if1 .before in
     let at-number-at = at-byte-or-zero .before in
     let at-start = at-number-at .before .before in
-    number-good _ (at-start .pre .2) _ _ (at-number-at .number-at .ensures .0) (at-byte-or-zero .byte-or-zero .ensures) (at-if1 .if1 .left)
+    number-good _ (at-start .pre .2) _ _ (at-number-at .number-at .ensures .0) (at-byte-or-zero .byte-or-zero .ensures .0) (at-if1 .if1 .left)
     (at-is-xml .is-xml .ensures) (not-false _ (c .if2 .left))
 
 pub numbered-at-spec : {M : Type 1} → statement M

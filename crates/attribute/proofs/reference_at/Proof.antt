@@ -1,7 +1,6 @@
 -- `attribute::reference_at` meets its contract. Assumes nothing.
-use Rattle.attribute.proofs.Joins.{behind-in, by-name, by-ten, by-sixteen}
-use mathlib.Core.Path.{refl, _∙_}
-use native.Mathlib.Omega.{arith}
+use Rattle.attribute.proofs.Joins.{by-name, by-ten, by-sixteen}
+use mathlib.Core.Path.{_∙_}
 use borrow.Author.Needs.{needs}
 use Rattle.attribute.proofs.reference_at.Statement.{statement}
 use Rattle.attribute.proofs.reference_at.Tie as tie
@@ -13,7 +12,7 @@ named-at-requires : tie.Need-named-at-requires
 named-at-requires c κs = search needs
 
 returns : tie.Need-returns
-returns c = c .named-at .ensures ∙ by-name _ _ (c .before .before .byte-or-zero .ensures) (c .before .if1 .taken)
+returns c = c .named-at .ensures ∙ by-name _ _ (c .before .before .byte-or-zero .ensures .0) (c .before .if1 .taken)
 
 add-byte-or-zero : tie.Need-add-byte-or-zero
 add-byte-or-zero c = search needs
@@ -25,11 +24,7 @@ add-numbered-at : tie.Need-add-numbered-at
 add-numbered-at c = search needs
 
 numbered-at-requires : tie.Need-numbered-at-requires
-numbered-at-requires c κs =
-    let at-if1 = c .before .before in
-    let at-byte-or-zero = at-if1 .before in
-    let at-start = at-byte-or-zero .before .before in
-    (behind-in (at-start .args .s .now) _ (at-byte-or-zero .byte-or-zero .ensures) 35 (at-if1 .if1 .left) (omega arith) refl, omega arith, omega arith)
+numbered-at-requires c κs = search needs
 
 returns-2 : tie.Need-returns-2
 returns-2 c =
@@ -37,20 +32,14 @@ returns-2 c =
     let at-byte-or-zero2 = at-if2 .before in
     let at-if1 = at-byte-or-zero2 .before in
     let at-byte-or-zero = at-if1 .before in
-    c .numbered-at .ensures ∙ by-ten _ _ (at-byte-or-zero .byte-or-zero .ensures) (at-if1 .if1 .left) (at-byte-or-zero2 .byte-or-zero2 .ensures)
+    c .numbered-at .ensures ∙ by-ten _ _ (at-byte-or-zero .byte-or-zero .ensures .0) (at-if1 .if1 .left) (at-byte-or-zero2 .byte-or-zero2 .ensures .0)
     (at-if2 .if2 .taken)
 
 add-numbered-at-2 : tie.Need-add-numbered-at-2
 add-numbered-at-2 c = search needs
 
 numbered-at-requires-2 : tie.Need-numbered-at-requires-2
-numbered-at-requires-2 c κs =
-    let at-if2 = c .before in
-    let at-shared-slice-known = at-if2 .before .before .before .before in (
-      omega (arith, behind-in (at-shared-slice-known .args .s .now) _ (at-if2 .byte-or-zero2 .ensures) 120 (c .if2 .left) (omega arith) refl),
-      omega arith,
-      omega arith,
-    )
+numbered-at-requires-2 c κs = search needs
 
 returns-3 : tie.Need-returns-3
 returns-3 c =
@@ -58,7 +47,7 @@ returns-3 c =
     let at-byte-or-zero2 = at-if2 .before in
     let at-if1 = at-byte-or-zero2 .before in
     let at-byte-or-zero = at-if1 .before in
-    c .numbered-at2 .ensures ∙ by-sixteen _ _ (at-byte-or-zero .byte-or-zero .ensures) (at-if1 .if1 .left) (at-byte-or-zero2 .byte-or-zero2 .ensures)
+    c .numbered-at2 .ensures ∙ by-sixteen _ _ (at-byte-or-zero .byte-or-zero .ensures .0) (at-if1 .if1 .left) (at-byte-or-zero2 .byte-or-zero2 .ensures .0)
     (at-if2 .if2 .left)
 
 pub reference-at-spec : {M : Type 1} → statement M

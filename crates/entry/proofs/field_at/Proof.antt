@@ -1,11 +1,8 @@
 -- `entry::field_at` meets its contract. Assumes nothing.
 use mathlib.Core.Path.{sym, _∙_}
 use native.Mathlib.Omega.{arith}
-use lib.Dec.{lit<}
 use borrow.Author.Needs.{needs}
 use Rattle.entry.proofs.EntryLaws.{code-absent, code-empty, code-given}
-use Rattle.number.proofs.NumberLaws.{signed-after}
-use Rattle.octets.proofs.Bytes.{byte-in}
 use Rattle.entry.proofs.field_at.Statement.{statement}
 use Rattle.entry.proofs.field_at.Tie as tie
 
@@ -19,8 +16,8 @@ returns : tie.Need-returns
 returns c =
     let at-if1 = c .before in
     let at-byte-or-zero = at-if1 .before in
-    let at-start = at-byte-or-zero .before .before in (
-      c .not-given .ensures ∙ code-absent (at-start .args .s .now) (at-start .args .at) (λ h. at-if1 .if1 .taken (at-byte-or-zero .byte-or-zero .ensures ∙ h)),
+    let a = at-byte-or-zero .before .before .args in (
+      c .not-given .ensures ∙ code-absent (a .s .now) (a .at) (at-byte-or-zero .byte-or-zero .ensures .0) (at-if1 .if1 .taken),
       rw (c .not-given .ensures) (omega arith),
     )
 
@@ -39,13 +36,10 @@ returns-2 c =
     let at-breaks-at = at-if2 .before in
     let at-if1 = at-breaks-at .before in
     let at-byte-or-zero = at-if1 .before in
-    let at-start = at-byte-or-zero .before .before in (
-      c .not-given2 .ensures ∙ code-empty (at-start .args .s .now) (at-start .args .at) (sym (at-byte-or-zero .byte-or-zero .ensures) ∙ at-if1 .if1 .left)
+    let a = at-byte-or-zero .before .before .args in (
+      c .not-given2 .ensures ∙ code-empty (a .s .now) (a .at) (at-byte-or-zero .byte-or-zero .ensures .0) (at-if1 .if1 .left)
           (sym (at-breaks-at .breaks-at .ensures) ∙ at-if2 .if2 .taken),
-      rw (c .not-given2 .ensures) (omega (
-        arith,
-        byte-in (at-start .args .s .now) (at-start .args .at) (sym (at-byte-or-zero .byte-or-zero .ensures) ∙ at-if1 .if1 .left) (lit< tt),
-      )),
+      rw (c .not-given2 .ensures) (omega arith),
     )
 
 add-byte-or-zero : tie.Need-add-byte-or-zero
@@ -64,13 +58,7 @@ add-number-at : tie.Need-add-number-at
 add-number-at c = search needs
 
 number-at-requires : tie.Need-number-at-requires
-number-at-requires c κs =
-    let at-byte-or-zero2 = c .before in
-    let at-if1 = at-byte-or-zero2 .before .before .before in
-    let at-byte-or-zero = at-if1 .before in
-    let at-start = at-byte-or-zero .before .before in
-    signed-after (at-start .args .s .now) _ _ _ (at-byte-or-zero2 .byte-or-zero2 .ensures) (c .sign-length .ensures .0)
-    (byte-in (at-start .args .s .now) _ (sym (at-byte-or-zero .byte-or-zero .ensures) ∙ at-if1 .if1 .left) (lit< tt))
+number-at-requires c κs = search needs
 
 add-t10 : tie.Need-add-t10
 add-t10 c = search needs
@@ -83,8 +71,9 @@ returns-3 c =
     let at-if2 = at-byte-or-zero2 .before in
     let at-breaks-at = at-if2 .before in
     let at-if1 = at-breaks-at .before in
-    let at-byte-or-zero = at-if1 .before in (
-      code-given _ _ (sym (at-byte-or-zero .byte-or-zero .ensures) ∙ at-if1 .if1 .left) _ (at-byte-or-zero2 .byte-or-zero2 .ensures)
+    let at-byte-or-zero = at-if1 .before in
+    let a = at-byte-or-zero .before .before .args in (
+      code-given (a .s .now) (a .at) (at-byte-or-zero .byte-or-zero .ensures .0) (at-if1 .if1 .left) _ (at-byte-or-zero2 .byte-or-zero2 .ensures .0)
           (sym (at-breaks-at .breaks-at .ensures) ∙ at-if2 .if2 .left) _ (at-sign-length .sign-length .ensures .0) _ (at-number-at .number-at .ensures .0),
       omega arith,
     )

@@ -1,9 +1,8 @@
 -- `number::exponent_at` meets its contract. Assumes nothing.
-use mathlib.Core.Path.{ap, sym, _∙_}
+use mathlib.Core.Path.{sym, _∙_}
 use native.Mathlib.Omega.{arith}
 use borrow.Author.Needs.{needs}
-use Rattle.label.specs.Entry.{isE}
-use Rattle.number.proofs.NumberLaws.{signed-in, code-raised, code-unraised}
+use Rattle.number.proofs.NumberLaws.{letter-some, code-raised, code-unraised}
 use Rattle.number.proofs.exponent_at.Statement.{statement}
 use Rattle.number.proofs.exponent_at.Tie as tie
 
@@ -30,14 +29,10 @@ add-digits-at c = search needs
 
 digits-at-requires : tie.Need-digits-at-requires
 digits-at-requires c κs =
-    let at-byte-or-zero2 = c .before in
-    let at-if1 = at-byte-or-zero2 .before in
+    let at-if1 = c .before .before in
     let at-is-exponent = at-if1 .before in
-    let at-byte-or-zero = at-is-exponent .before in (
-      signed-in (at-byte-or-zero .before .before .args .s .now) _ _ _ (at-byte-or-zero2 .byte-or-zero2 .ensures) (c .sign-length .ensures .0)
-          (ap isE (sym (at-byte-or-zero .byte-or-zero .ensures)) ∙ sym (at-is-exponent .is-exponent .ensures) ∙ at-if1 .if1 .taken),
-      search needs,
-    )
+    let b = at-is-exponent .before .byte-or-zero .result in
+    (omega (arith, letter-some b (sym (at-is-exponent .is-exponent .ensures) ∙ at-if1 .if1 .taken)), search needs)
 
 add-t10 : tie.Need-add-t10
 add-t10 c = search needs
@@ -49,8 +44,8 @@ returns c =
     let at-if1 = at-byte-or-zero2 .before in
     let at-is-exponent = at-if1 .before in
     let at-byte-or-zero = at-is-exponent .before in (
-      code-raised _ _ _ _ _ (at-byte-or-zero2 .byte-or-zero2 .ensures) (at-sign-length .sign-length .ensures .0) (c .digits-at .ensures .0)
-          (ap isE (sym (at-byte-or-zero .byte-or-zero .ensures)) ∙ sym (at-is-exponent .is-exponent .ensures) ∙ at-if1 .if1 .taken),
+      code-raised _ _ _ _ _ (at-byte-or-zero .byte-or-zero .ensures .0) (sym (at-is-exponent .is-exponent .ensures) ∙ at-if1 .if1 .taken)
+          (at-byte-or-zero2 .byte-or-zero2 .ensures .0) (at-sign-length .sign-length .ensures .0) (c .digits-at .ensures .0),
       omega arith,
     )
 
@@ -58,10 +53,8 @@ returns-2 : tie.Need-returns-2
 returns-2 c =
     let at-is-exponent = c .before in
     let at-byte-or-zero = at-is-exponent .before in
-    let at-start = at-byte-or-zero .before .before in (
-      code-unraised (at-start .args .s .now) (at-start .args .at) (ap isE (sym (at-byte-or-zero .byte-or-zero .ensures))
-          ∙ sym (at-is-exponent .is-exponent .ensures)
-          ∙ c .if1 .left),
+    let a = at-byte-or-zero .before .before .args in (
+      code-unraised (a .s .now) (a .at) (at-byte-or-zero .byte-or-zero .ensures .0) (sym (at-is-exponent .is-exponent .ensures) ∙ c .if1 .left),
       omega arith,
     )
 

@@ -1,10 +1,7 @@
 -- `number::mantissa_at` meets its contract. Assumes nothing.
-use mathlib.Core.Path.{sym, _∙_}
 use native.Mathlib.Omega.{arith}
-use lib.Dec.{lit<}
 use borrow.Author.Needs.{needs}
 use Rattle.number.proofs.NumberLaws.{code-pointed, code-plain}
-use Rattle.number.proofs.DigitLaws.{next-in}
 use Rattle.number.proofs.mantissa_at.Statement.{statement}
 use Rattle.number.proofs.mantissa_at.Tie as tie
 
@@ -24,10 +21,7 @@ add-digits-at-2 : tie.Need-add-digits-at-2
 add-digits-at-2 c = search needs
 
 digits-at-requires-2 : tie.Need-digits-at-requires-2
-digits-at-requires-2 c κs =
-    let at-byte-or-zero = c .before in
-    let at-start = at-byte-or-zero .before .before .before in
-    (next-in (at-start .args .s .now) _ _ _ (sym (at-byte-or-zero .byte-or-zero .ensures) ∙ c .if1 .taken) (lit< tt), search needs)
+digits-at-requires-2 c κs = search needs
 
 add-t12 : tie.Need-add-t12
 add-t12 c = search needs
@@ -43,17 +37,15 @@ returns c =
     let at-if1 = c .before in
     let at-byte-or-zero = at-if1 .before in
     let at-digits-at = at-byte-or-zero .before in (
-      code-pointed _ _ _ (at-digits-at .digits-at .ensures .0) _ (c .digits-at2 .ensures .0)
-          (sym (at-byte-or-zero .byte-or-zero .ensures) ∙ at-if1 .if1 .taken),
+      code-pointed _ _ _ (at-digits-at .digits-at .ensures .0) (at-byte-or-zero .byte-or-zero .ensures .0) _ (c .digits-at2 .ensures .0) (at-if1 .if1 .taken),
       omega arith,
     )
 
 returns-2 : tie.Need-returns-2
 returns-2 c =
-    let at-byte-or-zero = c .before in
-    let at-digits-at = at-byte-or-zero .before in
+    let at-digits-at = c .before .before in
     let a = at-digits-at .before .before .args in
-    (code-plain (a .s .now) (a .at) _ (at-digits-at .digits-at .ensures .0) (λ h. c .if1 .left (at-byte-or-zero .byte-or-zero .ensures ∙ h)), omega arith)
+    (code-plain (a .s .now) (a .at) _ (at-digits-at .digits-at .ensures .0) (c .before .byte-or-zero .ensures .0) (c .if1 .left), omega arith)
 
 pub mantissa-at-spec : {M : Type 1} → statement M
 mantissa-at-spec =

@@ -26,7 +26,7 @@ returns c =
     let at-count-units = at-n .before .before in
     let at-start = at-count-units .before .before in
     c .limited .ensures ∙ survey-plain (at-start .args .text .now) _ (sym (at-count-units .count-units .ensures) ∙ at-n .n .given .1)
-    (at-byte-or-zero .byte-or-zero .ensures) (at-if1 .if1 .taken)
+    (at-byte-or-zero .byte-or-zero .ensures .0) (at-if1 .if1 .taken)
 
 byte-or-zero-requires-2 : tie.Need-byte-or-zero-requires-2
 byte-or-zero-requires-2 c κs = search needs
@@ -39,15 +39,15 @@ returns-2 c =
     let at-n = at-byte-or-zero .before .before in
     let at-count-units = at-n .before .before in
     let at-start = at-count-units .before .before in
-    survey-braced (at-start .args .text .now) _ (sym (at-count-units .count-units .ensures) ∙ at-n .n .given .1) (at-byte-or-zero .byte-or-zero .ensures)
-    (at-if1 .if1 .left) (at-byte-or-zero2 .byte-or-zero2 .ensures) (c .if2 .taken)
+    survey-braced (at-start .args .text .now) _ (sym (at-count-units .count-units .ensures) ∙ at-n .n .given .1) (at-byte-or-zero .byte-or-zero .ensures .0)
+    (at-if1 .if1 .left) (at-byte-or-zero2 .byte-or-zero2 .ensures .0) (c .if2 .taken)
 
 sub-limited : tie.Need-sub-limited
 sub-limited c = omega (
   arith,
   marked-two (c .before .before .before .before .before .before .before .before .before .args .text .now) _
       (sym (c .before .before .before .before .before .before .before .count-units .ensures) ∙ c .before .before .before .before .before .n .given .1)
-      (c .before .before .before .byte-or-zero .ensures) (c .before .before .if1 .left) (c .before .byte-or-zero2 .ensures) (c .if2 .left),
+      (c .before .before .before .byte-or-zero .ensures .0) (c .before .before .if1 .left) (c .before .byte-or-zero2 .ensures .0) (c .if2 .left),
 )
 
 limited-requires-2 : tie.Need-limited-requires-2
@@ -66,7 +66,7 @@ returns-3 c =
     let at-count-units = at-n .before .before in
     let at-start = at-count-units .before .before in
     c .limited2 .ensures ∙ survey-marked (at-start .args .text .now) _ (sym (at-count-units .count-units .ensures) ∙ at-n .n .given .1)
-    (at-byte-or-zero .byte-or-zero .ensures) (at-if1 .if1 .left) (at-byte-or-zero2 .byte-or-zero2 .ensures) (at-if2 .if2 .left)
+    (at-byte-or-zero .byte-or-zero .ensures .0) (at-if1 .if1 .left) (at-byte-or-zero2 .byte-or-zero2 .ensures .0) (at-if2 .if2 .left)
 
 returns-4 : tie.Need-returns-4
 returns-4 c =
