@@ -109,7 +109,13 @@ module _ (s : List ℕ) (at : ℕ) (r : Digits) (e : r ≡ digitsFrom 0 (drop at
     behind-is = rw getD-drop (rw e at eb)
 
     pub code-pointed : (q : Digits) → q ≡ digitsFrom (r .value) (drop (at + (r .count + 1)) s) → b ≡ 46
-        → _≡_ {A = Mantissa} (record { ok = ltb 0 (q .count); used = r .count + 1 + q .count; count = r .count + q .count; value = q .value; behind = q .count })
+        → _≡_ {A = Mantissa} (record {
+          ok = ltb 0 (q .count);
+          used = r .count + 1 + q .count;
+          count = r .count + q .count;
+          value = q .value;
+          behind = q .count;
+        })
         (cutMantissa (mantissaOf (drop at s)))
     code-pointed q f h = rw (mant-pointed (drop at s) (sym behind-is ∙ h), f, e, drop-drop, length-append, ← cut-append)
 
