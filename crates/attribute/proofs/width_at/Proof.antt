@@ -29,7 +29,10 @@ returns-2 c =
 
 returns-3 : tie.Need-returns-3
 unfolding widthAt
-returns-3 c = (rw (eq-eqb _ 13 (c .before .before .if1 .left), eq-eqb _ 10 (sym (c .before .byte-or-zero .ensures .0) ∙ c .if2 .left)), (omega arith, omega arith))
+returns-3 c =
+    let at-byte-or-zero = c .before in
+    let at-if1 = at-byte-or-zero .before in
+    (rw (eq-eqb _ 13 (at-if1 .if1 .left), eq-eqb _ 10 (sym (at-byte-or-zero .byte-or-zero .ensures .0) ∙ c .if2 .left)), (omega arith, omega arith))
 
 pub width-at-spec : {M : Type 1} → statement M
 width-at-spec =

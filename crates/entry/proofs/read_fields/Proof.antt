@@ -143,13 +143,15 @@ advance-of-requires c κs = search needs
 
 offset-of-requires : tie.Need-offset-of-requires
 offset-of-requires c κs =
-    let at-field-at2 = c .before .before .before .before .before .before .before .before .before .before .before .before .before .before .before .before .before .before .before .before .before in
+    let at-if2 = c .before .before .before .before .before .before .before .before .before .before in
+    let at-field-at2 = at-if2 .before .before .before .before .before .before .before .before .before .before .before in
     rw (at-field-at2 .field-at2 .ensures .0) (field-small _)
 
 offset-of-requires-2 : tie.Need-offset-of-requires-2
 offset-of-requires-2 c κs =
-    let at-struct-known3 = c .before .before .before .before .before .before .before .before .before .before .before .before .before .before .before .before .before .before .before .before in
-    rw (at-struct-known3 .field-at3 .ensures .0) (field-small _)
+    let at-if2 = c .before .before .before .before .before .before .before .before .before .before .before in
+    let at-field-at3 = at-if2 .before .before .before .before .before .before .before .before .before in
+    rw (at-field-at3 .field-at3 .ensures .0) (field-small _)
 
 rounded-of-requires : tie.Need-rounded-of-requires
 rounded-of-requires c κs = search needs
