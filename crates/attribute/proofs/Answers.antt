@@ -1,4 +1,5 @@
--- The call that resolves a raw value: one law for each return.
+-- Laws of the call that resolves a raw value, one for each return: refusals 23 and 24, and the value stored; each rewrites `resolve-into-steps` by what the
+-- first pass answered.
 -- Assumes nothing.
 use Rattle.label.proofs.Steps.{resolve-into-steps}
 use Prim.Native.Nat.{ℕ, _<_, _≤_}

@@ -1,4 +1,5 @@
--- Laws of a reference's digits: the loop over them, and what a reference is by the digits in front and the byte behind them.
+-- Laws of a reference's digits: one digit, the loop over them, and the reference by the byte behind; carried by `pushed`, that numbers may be cut before a
+-- further digit or after it.
 -- Assumes nothing.
 use Prim.Native.Nat.{ℕ, zero, suc, _+_, _-_, _*_, _≤_, _<_, min}
 use native.Mathlib.Omega.{arith}

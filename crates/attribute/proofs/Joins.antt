@@ -1,4 +1,5 @@
--- A reference by its first bytes: a name, decimal digits behind `#`, hexadecimal ones behind `#x`.
+-- Laws of a reference by its first bytes: a name, decimal digits behind `#`, hexadecimal ones behind `#x`; carried by `body-is` and `closed-is`, which take one
+-- byte off before the `;`.
 -- Assumes nothing.
 use Prim.Native.Nat.{ℕ, suc, _+_, _≤_, _<_}
 use native.Mathlib.Omega.{arith}

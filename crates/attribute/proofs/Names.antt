@@ -1,4 +1,5 @@
--- What a reference is by the name that stands there with its `;`.
+-- Laws of a reference by its name: `hit` where one stands there, `missed` where none does; carried by `begins-is`, that a name with its `;` in front is what
+-- stands up to the first `;`.
 -- Assumes nothing.
 use Prim.Native.Nat.{ℕ, _+_}
 use native.Mathlib.Omega.{arith}

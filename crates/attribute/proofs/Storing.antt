@@ -1,4 +1,5 @@
--- The laws of storing what a raw value resolves to: a turn of the loop for a byte, for a reference, for what is bad, and the end; then the call's returns.
+-- Laws of the loop that stores what a raw value resolves to, with its invariant `Reached`: start, a plain byte, a reference, what is bad, the end; `good` and
+-- `bad` carry every turn.
 -- Assumes nothing.
 use Prim.Native.Nat.{ℕ, suc, _+_, _≤_, _<_}
 use native.Mathlib.Omega.{arith}

@@ -1,4 +1,5 @@
--- An entry scanned in one pass is the entry of the definitions: the same refusal, or the same values.
+-- Law `bridge`: the entry scanned in one pass is the definitions'; it cuts at semicolon and commas, takes each part from FrontBridge and FieldBridge, and a
+-- scan stuck within a part fails.
 -- Assumes nothing.
 use Rattle.label.proofs.Steps.{entry-steps}
 use mathlib.Core.Path.{_≡_, refl, ap, sym, _∙_, subst}

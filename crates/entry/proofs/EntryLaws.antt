@@ -1,4 +1,6 @@
--- What the code makes of an entry's parts is what the definitions say of the entry. Assumes nothing.
+-- Laws that the code's map, front, fields and entry are the definitions'; the parts are rewritten by the bytes met, the entry's answers by `bridge` of
+-- EntryBridge.
+-- Assumes nothing.
 use mathlib.Core.Path.{_≡_, refl, ap, sym, _∙_}
 use mathlib.Core.Bool.{Bool, true, false, not, _&&_, _||_, and-true, or-true}
 use mathlib.Core.List.{List, [], _∷_}

@@ -1,4 +1,5 @@
--- A field scanned behind its comma is the part of the definitions.
+-- Law `field-is`: a field scanned behind its comma is the definitions' part; an empty one by rewriting, else `signed` skips the sign and `number-is` of
+-- number's NumberBridge gives the rest.
 -- Assumes nothing.
 use mathlib.Core.Path.{_≡_, refl, ap, sym, _∙_}
 use mathlib.Core.Bool.{Bool, true, false, not, cond, _&&_, _||_, and-false, and-true}

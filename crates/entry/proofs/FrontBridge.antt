@@ -1,4 +1,5 @@
--- The map and the index scanned at the front of an entry are the index part of the definitions.
+-- Law `head-is`: map and index scanned at an entry's front are the definitions' index part; cases by the parenthesis and the colon, with each run of digits met
+-- by `front` of Scan.
 -- Assumes nothing.
 use mathlib.Core.Path.{_≡_, refl, ap, sym, _∙_, subst}
 use mathlib.Core.Bool.{Bool, true, false, not, _&&_, _||_, and-false, and-true}

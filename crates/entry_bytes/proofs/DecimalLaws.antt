@@ -1,4 +1,6 @@
--- The digits of a number, the last behind the others. Assumes nothing.
+-- Laws of a number's decimal digits: one digit, the last digit behind those of the tenth, at most ten in 32 bits; `enough`, that more fuel gives the same
+-- digits, carries the step.
+-- Assumes nothing.
 use mathlib.Core.Path.{_≡_, sym, ap, _∙_}
 use mathlib.Core.List.{List, [], _∷_, _++_}
 use Prim.Native.Nat.{ℕ, zero, suc, _+_, _/_, _%_, _<_, _≤_}

@@ -1,4 +1,6 @@
--- The bytes of the writing as the code makes them, piece by piece: one law for each return. Assumes nothing.
+-- One law for each return of the code that writes an entry; most unfold the writing and rewrite by the code's test, the blank fields go by `trim-empty` and the
+-- offset's and advance's emptiness.
+-- Assumes nothing.
 use mathlib.Core.Path.{_≡_, refl, sym, ap, _∙_}
 use mathlib.Core.Bool.{Bool, true, false, cond, not, _&&_, and-true}
 use mathlib.Core.List.{List, [], _∷_, _++_, append-nil}

@@ -1,4 +1,6 @@
--- Laws of bytes and digits at the front of a list. Assumes nothing.
+-- Laws of the byte and the digits at a place, and of `Scanned`, the digit loop's invariant; carried by `drop-cons` and by `cut-from`: cutting may come before
+-- or after a digit.
+-- Assumes nothing.
 use mathlib.Core.Path.{_≡_, refl, ap, sym, _∙_}
 use mathlib.Core.Bool.{Bool, true, false}
 use mathlib.Core.List.{List, [], _∷_}

@@ -1,4 +1,5 @@
--- A number scanned from a list is the number of the definitions: both say the same of the part before a comma, a semicolon or the end.
+-- Law `number-is`: the number scanned from a list is the definitions'; it cuts the part at the exponent's letter, then at the point, and meets each run of
+-- digits by `front` of Scan.
 -- Assumes nothing.
 use mathlib.Core.Path.{_≡_, refl, ap, sym, _∙_, subst}
 use mathlib.Core.Bool.{Bool, true, false, not, cond, _&&_, _||_, and-false}

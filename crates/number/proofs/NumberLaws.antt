@@ -1,4 +1,6 @@
--- Laws of a number's parts. Assumes nothing.
+-- Laws that mantissa, exponent and number as the code builds them are the definitions'; carried by `value-small`, n digits stay below 10^n, so within the
+-- limits no cut happens.
+-- Assumes nothing.
 use mathlib.Core.Path.{_≡_, refl, ap, sym, _∙_}
 use mathlib.Core.Bool.{Bool, true, false, cond, _&&_, _||_, false≢true}
 use mathlib.Core.List.{List, [], _∷_, _++_}

@@ -1,4 +1,4 @@
--- What the scan meets in a list: digits to the end of a part, or a byte that is none; a part cut at a byte, or whole.
+-- What a scan meets: `front` splits a part by whether all of it is digits, `cutting` by whether it has a byte of a kind; both are inductions on the list.
 -- Assumes nothing.
 use mathlib.Core.Path.{_≡_, refl, ap, sym, _∙_, subst}
 use mathlib.Core.Bool.{Bool, true, false, not, _||_}

@@ -1,4 +1,6 @@
--- Laws of rounding, of exactness, of powers of ten and of the limit. Assumes nothing.
+-- Laws of rounding, exactness, powers of ten and the limit; carried by `ten-split` and `nearest-cancel`, a common factor cancels, and by three cases: the
+-- doubled remainder against the divisor.
+-- Assumes nothing.
 use mathlib.Core.Path.{_≡_, refl, sym, ap, _∙_}
 use mathlib.Core.Bool.{Bool, true, false, cond, not}
 use Prim.Native.Nat.{ℕ, suc, zero, _+_, _-_, _*_, _/_, _%_, _^_, _≤_, _<_}

@@ -1,4 +1,4 @@
--- Laws of the loop that compares bytes at a place with others.
+-- Laws of comparing bytes at a place with others, one for each way a turn ends; the list from a place on is opened by `drop-cons` and the test rewritten.
 -- Assumes nothing.
 use Prim.Native.Nat.{ℕ, _+_, _≤_, _<_}
 use native.Mathlib.Nat.{add-suc}

@@ -1,4 +1,5 @@
--- Laws of one byte: where it stands, and that it is outside a range. Assumes nothing.
+-- A byte that is not 0 stands before the end, by induction on the list; a byte below or above a range is outside it, by cases on the first test.
+-- Assumes nothing.
 use Prim.Native.Nat.{ℕ, zero, suc, _≤_, _<_}
 use native.Mathlib.Omega.{arith}
 use mathlib.Core.Path.{_≡_}

@@ -1,4 +1,4 @@
--- Where the first byte b from a place on stands, at a cursor.
+-- Where the first byte b from a cursor on stands: here, further on, or the end; each opens the list by `drop-cons` and rewrites by the byte's test.
 -- Assumes nothing.
 use Prim.Native.Nat.{ℕ, suc, _+_, _≤_, _<_}
 use native.Mathlib.Omega.{arith}

@@ -1,4 +1,4 @@
--- A turn of a loop that tests: the whole w is what is here, which is a test t and what follows; x is the code's flag of the test.
+-- A turn of a loop that tests: a false test ends it with the whole answer, `stops`, and a true one goes on with what follows, `goes`; both chain equations.
 -- Assumes nothing.
 use mathlib.Core.Path.{_≡_, sym, ap, _∙_}
 use mathlib.Core.Bool.{Bool, true, false, not, _&&_}

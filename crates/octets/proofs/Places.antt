@@ -1,4 +1,5 @@
--- A list from a place on: its next two elements, its next four, or nothing. Assumes nothing.
+-- A list from a place on begins with its next two or its next four elements, by `drop-cons` repeated; a list of length 0 is empty.
+-- Assumes nothing.
 use mathlib.Core.Path.{_≡_, refl, ap, _∙_}
 use mathlib.Core.List.{List, [], _∷_}
 use Prim.Native.Nat.{ℕ, suc, _+_, _-_, _≤_}

@@ -1,4 +1,5 @@
--- Bytes stored from a place on: one store, one behind another, none; and the laws of a loop that stores. Assumes nothing.
+-- Bytes stored from a place on: one store, one behind another, none, and the laws `left-` of a loop that stores; `sets-append`, by induction, carries them.
+-- Assumes nothing.
 use mathlib.Core.Path.{_≡_, refl, sym, ap, _∙_, subst}
 use mathlib.Core.List.{List, [], _∷_, _++_}
 use Prim.Native.Nat.{ℕ, suc, _+_, _<_, _≤_}

@@ -1,4 +1,5 @@
--- Laws of the walk over a text's characters, and of how many units they are.
+-- Laws of the walk over a text's characters: `Reached` at the start, past a character, at a fault and at the end, by `char-reads`; and a character's one or two
+-- units.
 -- Assumes nothing.
 use Prim.Native.Nat.{ℕ, _+_, _-_, _/_, _%_, _≤_, _<_}
 use native.Mathlib.Omega.{arith}

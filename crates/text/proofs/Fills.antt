@@ -1,4 +1,4 @@
--- Laws of storing a text's units: what is left to store gives the whole.
+-- Laws of storing a text's units: `Fill` says that storing what is left gives the whole, and `sets-append` with `here-good` keeps it past a character.
 -- Assumes nothing.
 use Prim.Native.Nat.{ℕ, suc, _+_, _*_, _/_, _%_, _≤_, _<_}
 use native.Mathlib.Omega.{arith}

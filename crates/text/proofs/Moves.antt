@@ -1,4 +1,5 @@
--- A move over the characters of a text is one over its units.
+-- A move over a text's characters is one over its units: `Left` splits the units into passed and left, `here-good` takes a character, and a fault contradicts
+-- the reading.
 -- Assumes nothing.
 use Prim.Native.Nat.{ℕ, _+_, _-_, _/_, _%_, _≤_, _<_}
 use native.Mathlib.Omega.{arith}

@@ -1,4 +1,5 @@
--- Laws of a run's text: the bytes of a unit, of a unit as it is asked for, and of the units from a place on.
+-- Laws of a run's text: a unit's bytes by its range, the bytes as asked for, and the units from a place on, which `drop-cons` splits into one unit and the
+-- rest.
 -- Assumes nothing.
 use Prim.Native.Nat.{ℕ, _+_, _<_, _≤_}
 use native.Mathlib.Nat.{add-zero}

@@ -1,4 +1,4 @@
--- Laws of the tests of a run's units: what they say at a place.
+-- Laws of the tests of a run's units at a place: one turn and the end of the well-formedness test, by `drop-cons`, and of the pair test, by `getD-drop`.
 -- Assumes nothing.
 use Prim.Native.Nat.{ℕ, suc, _+_, _<_, _≤_}
 use native.Mathlib.Nat.{add-zero}

@@ -1,4 +1,4 @@
--- Laws of the character at a place.
+-- Laws of the character at a place: XML's ranges, its number six bits at a time, each way to find it, and what reading makes of it; by rewriting and by Rows.
 -- Assumes nothing.
 use Rattle.label.proofs.Steps.{decode-char}
 use Prim.Native.Nat.{ℕ, zero, suc, _+_, _*_, _-_, _%_, _^_, _≤_, _<_}

@@ -1,4 +1,4 @@
--- Laws of the rows as the code takes them: they decide what the table decides.
+-- Laws of the rows as the code takes them: they decide what the table decides, by `same`, an induction over rows whose first ranges rise.
 -- Assumes nothing.
 use Prim.Native.Nat.{ℕ, zero, suc, _+_, _-_, _≤_, _<_}
 use native.Mathlib.Omega.{arith}

@@ -1,4 +1,5 @@
--- The numbers that bytes hold: how many, and each by the bytes at its place. Assumes nothing.
+-- How many numbers bytes hold, and each by the bytes at its place: inductions that take two or four bytes at a time, with arithmetic for the places.
+-- Assumes nothing.
 use mathlib.Core.Path.{_≡_, refl}
 use mathlib.Core.List.{List, [], _∷_}
 use Prim.Native.Nat.{ℕ, zero, suc, _+_, _*_, _/_, _<_}

@@ -1,4 +1,6 @@
--- Signed numbers of 32 bits, by their bits: `ofZ w32 v` is a plain number, which `omega` reads. Assumes nothing.
+-- Laws of signed numbers of 32 bits by their bits: mask, sign, bound, the definitions' bits and the round trip; mostly cases on the sign, `ofZ w32 v` being
+-- plain for `omega`.
+-- Assumes nothing.
 use mathlib.Core.Path.{_≡_, refl, sym, ap, _∙_}
 use mathlib.Core.Bool.{true, false}
 use Prim.Native.Nat.{ℕ, suc, _-_, _%_, _<_, _≤_}

@@ -1,4 +1,5 @@
--- The tests of a signed number by its bits: plain arithmetic. Assumes nothing.
+-- The tests of a signed number by its bits: `low` and `high` say the number below 2^31 and from there on, and every other law of bits rewrites by them.
+-- Assumes nothing.
 use mathlib.Core.Path.{_≡_, refl, sym, _∙_}
 use mathlib.Core.Bool.{Bool, not, _&&_, _||_}
 use Prim.Native.Nat.{ℕ, _+_, _-_, _<_, _≤_}

@@ -1,4 +1,5 @@
--- `attribute::named_at` meets its contract. Assumes nothing.
+-- `attribute::named_at`: each name found is `hit` of Names with that name's character from `names`; where all five tests fail, `missed` puts their five results
+-- together. Assumes nothing.
 use Rattle.attribute.proofs.Names.{hit, missed, names}
 use Rattle.label.specs.Bytes.{ascii}
 use Rattle.label.specs.Text.{xmlChar}

@@ -1,4 +1,5 @@
--- `attribute::number_at` meets its contract. Assumes nothing.
+-- `attribute::number_at`: the loop keeps that the digits left, read behind n, give what all digits from `at` give, when cut (`Scanned`); start, turn and both
+-- returns are laws of Digits. Assumes nothing.
 use Rattle.attribute.proofs.Digits.{Scanned, scan-start, scan-step, scan-other, scan-end}
 use lib.ListN.{length}
 use Prim.Native.Nat.{_-_}

@@ -1,4 +1,5 @@
--- `attribute::numbered_at` meets its contract. Assumes nothing.
+-- `attribute::numbered_at`: each return is one law of Digits: no `;` behind the digits (`number-open`), a value that is no character (`number-outside`), a
+-- character (`number-good`). Assumes nothing.
 use Rattle.attribute.proofs.Digits.{number-open, number-outside, number-good}
 use borrow.Author.Tests.{not-true, not-false}
 use borrow.Author.Needs.{needs}

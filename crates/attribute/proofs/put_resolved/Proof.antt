@@ -1,4 +1,5 @@
--- `attribute::put_resolved` meets its contract. Assumes nothing.
+-- `attribute::put_resolved`: the loop keeps that what came out, before what the rest resolves to, is what the raw value resolves to (`Reached`); every turn and
+-- return is one law of Storing. Assumes nothing.
 use Rattle.attribute.proofs.Storing.{Reached, reached-start, reached-end, raw-bad, plain, bad-reference, small, ahead, reference}
 use lib.ListN.{length}
 use Prim.Native.Nat.{_-_}

@@ -1,4 +1,5 @@
--- `attribute::reference_at` meets its contract. Assumes nothing.
+-- `attribute::reference_at`: each return joins the callee's answer with one law of Joins, by the first bytes: `by-name` without `#`, `by-ten` behind `#`,
+-- `by-sixteen` behind `#x`. Assumes nothing.
 use Rattle.attribute.proofs.Joins.{by-name, by-ten, by-sixteen}
 use mathlib.Core.Path.{_∙_}
 use borrow.Author.Needs.{needs}

@@ -1,4 +1,5 @@
--- `attribute::resolve` meets its contract. Assumes nothing.
+-- `attribute::resolve`: each return is one law of Answers about what the first pass answered: `refuses-23`, `refuses-24`, and `resolves`, which also takes what
+-- the second pass stored. Assumes nothing.
 use Rattle.attribute.proofs.Answers.{refuses-23, refuses-24, resolves}
 use borrow.Author.Needs.{needs}
 use Rattle.attribute.proofs.resolve.Statement.{statement}

@@ -1,4 +1,5 @@
--- `attribute::spaced_byte` meets its contract. Assumes nothing.
+-- `attribute::spaced_byte`: the three tests joined by `plain::either` are the test of `spaced`; both returns are one rewriting by that joint result. Assumes
+-- nothing.
 use Rattle.label.specs.Requests.Attribute.{spaced}
 use lib.Dec.{eqb}
 use mathlib.Core.Bool.{Bool, _||_}

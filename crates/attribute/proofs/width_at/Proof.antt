@@ -1,4 +1,5 @@
--- `attribute::width_at` meets its contract. Assumes nothing.
+-- `attribute::width_at`: unfolds `widthAt` and rewrites each return by the tests that led to it: no carriage return, one without a line feed, one with it.
+-- Assumes nothing.
 use Rattle.attribute.specs.Stores.{widthAt}
 use mathlib.Core.Path.{sym, _∙_}
 use borrow.Author.Tests.{eq-eqb, ne-eqb}

@@ -1,4 +1,5 @@
--- `attribute::with_digit` meets its contract. Assumes nothing.
+-- `attribute::with_digit`: the product fits since the base times a cut number is bounded (`mul-le-mul-right`); both returns, the sum and the cut, are closed by
+-- search. Assumes nothing.
 use native.Mathlib.Nat.{mul-le-mul-right}
 use native.Mathlib.Omega.{arith}
 use borrow.Author.Needs.{needs}

@@ -1,4 +1,5 @@
--- `entry::advance_of` meets its contract. Assumes nothing.
+-- `entry::advance_of`: three cases: a given value is rewritten by its variant and the test, a value over the limit is closed by search, and without one the
+-- lemma `own` splits on the variant. Assumes nothing.
 use mathlib.Core.Bool.{false}
 use mathlib.Core.Path.{_≡_, refl}
 use borrow.Author.Needs.{needs}

@@ -1,4 +1,5 @@
--- `entry::breaks_at` meets its contract. Assumes nothing.
+-- `entry::breaks_at`: two cases by the place: within the list `ends-at` turns the test of the byte there into `ends`, at its end `ends-end` gives true, both of
+-- number's DigitLaws. Assumes nothing.
 use mathlib.Core.Path.{sym, _∙_}
 use borrow.Author.Needs.{needs}
 use Rattle.number.specs.Digits.{isBreak}

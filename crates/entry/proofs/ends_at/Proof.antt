@@ -1,4 +1,5 @@
--- `entry::ends_at` meets its contract. Assumes nothing.
+-- `entry::ends_at`: two cases by the place: within the list the test of the byte there is `ends-at`, at its end the answer true is `ends-end`, both of number's
+-- DigitLaws. Assumes nothing.
 use mathlib.Core.Path.{sym}
 use borrow.Author.Needs.{needs}
 use Rattle.entry.specs.Items.{isSemi}

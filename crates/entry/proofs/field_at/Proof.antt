@@ -1,4 +1,5 @@
--- `entry::field_at` meets its contract. Assumes nothing.
+-- `entry::field_at`: each return is one law of EntryLaws over what the calls ensure: no comma is `code-absent`, a comma with nothing behind it `code-empty`, a
+-- number `code-given`; bounds are arithmetic. Assumes nothing.
 use mathlib.Core.Path.{sym, _∙_}
 use native.Mathlib.Omega.{arith}
 use borrow.Author.Needs.{needs}

@@ -1,4 +1,5 @@
--- `entry::front_of` meets its contract. Assumes nothing.
+-- `entry::front_of`: one law: `code-front` of EntryLaws puts together what map, digits and the two flags ensure; the bound is arithmetic, every other need is
+-- closed by search. Assumes nothing.
 use native.Mathlib.Omega.{arith}
 use borrow.Author.Needs.{needs}
 use Rattle.entry.proofs.EntryLaws.{code-front}

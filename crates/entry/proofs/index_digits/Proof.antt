@@ -1,4 +1,5 @@
--- `entry::index_digits` meets its contract. Assumes nothing.
+-- `entry::index_digits`: behind a map search closes the return; without one `map-unused` of EntryLaws says that the map has no bytes, and rewriting by it makes
+-- `first` the digits asked for. Assumes nothing.
 use native.Mathlib.Omega.{arith}
 use borrow.Author.Needs.{needs}
 use Rattle.entry.proofs.EntryLaws.{map-unused}

@@ -1,4 +1,5 @@
--- `entry::is_index` meets its contract. Assumes nothing.
+-- `entry::is_index`: `both-told` of EntryLaws puts the flags of the calls together as the result; `index-told` then says that, where it is true, the entry is
+-- an index alone. Assumes nothing.
 use borrow.Author.Needs.{needs}
 use Rattle.entry.proofs.EntryLaws.{both-told, index-told}
 use Rattle.entry.proofs.is_index.Statement.{statement}

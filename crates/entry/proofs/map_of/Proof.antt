@@ -1,4 +1,5 @@
--- `entry::map_of` meets its contract. Assumes nothing.
+-- `entry::map_of`: each of five returns is one law of EntryLaws: `code-none`, `code-one`, `code-two`, `code-odd` or `code-open`, chosen by the bytes met;
+-- bounds are arithmetic. Assumes nothing.
 use mathlib.Core.Path.{_∙_}
 use native.Mathlib.Omega.{arith}
 use borrow.Author.Needs.{needs}

@@ -1,4 +1,5 @@
--- `entry::not_given` meets its contract. Assumes nothing.
+-- `entry::not_given`: one rewriting by what `zero` ensures makes the record built the one of the definition; the other need is closed by search. Assumes
+-- nothing.
 use borrow.Author.Needs.{needs}
 use Rattle.entry.proofs.not_given.Statement.{statement}
 use Rattle.entry.proofs.not_given.Tie as tie

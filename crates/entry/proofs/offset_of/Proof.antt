@@ -1,4 +1,5 @@
--- `entry::offset_of` meets its contract. Assumes nothing.
+-- `entry::offset_of`: two cases by the variant, each rewritten by it; the small size gives `signed_of` what it requires, and `toZ-ofZ` carries its result from
+-- the machine's integer back. Assumes nothing.
 use mathlib.Core.Path.{_∙_}
 use mir.Facts.{toZ-ofZ}
 use borrow.Author.Needs.{needs}

@@ -1,4 +1,5 @@
--- `entry::read_advance` meets its contract. Assumes nothing.
+-- `entry::read_advance`: `one-chain` puts the flags together as the test for 7; each return is then one law of EntryLaws: `one-wrong`, `one-index`, `one-limit`
+-- or `one-read`. Assumes nothing.
 use mathlib.Core.Path.{_≡_, sym, _∙_}
 use borrow.Author.Tests.{not-true, not-false}
 use borrow.Author.Needs.{needs}

@@ -1,4 +1,5 @@
--- `entry::read_entry` meets its contract. Assumes nothing.
+-- `entry::read_entry`: two calls in a row, `front_of` and then `read_fields`, whose contracts fit each other and the one asked for: every need is closed by
+-- search. Assumes nothing.
 use borrow.Author.Needs.{needs}
 use Rattle.entry.proofs.read_entry.Statement.{statement}
 use Rattle.entry.proofs.read_entry.Tie as tie

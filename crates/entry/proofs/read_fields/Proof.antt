@@ -1,4 +1,5 @@
--- `entry::read_fields` meets its contract. Assumes nothing.
+-- `entry::read_fields`: `Parted` collects the parts found, `well-chain` and `within-chain` the tests; the returns are `code-wrong`, `code-index`, `code-limits`
+-- and `code-read` of EntryLaws, with one field `read_advance`'s contract by search. Assumes nothing.
 use mathlib.Core.Path.{_≡_, sym, _∙_}
 use mir.Syntax.{w32}
 use mir.Facts.{toZ-ofZ}

@@ -1,4 +1,5 @@
--- `entry::rounded_of` meets its contract. Assumes nothing.
+-- `entry::rounded_of`: two cases by the variant: a value within the limit is rewritten by its variant to what `unless` ensures, one over it is closed by
+-- search. Assumes nothing.
 use borrow.Author.Needs.{needs}
 use Rattle.entry.proofs.rounded_of.Statement.{statement}
 use Rattle.entry.proofs.rounded_of.Tie as tie

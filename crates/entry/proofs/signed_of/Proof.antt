@@ -1,4 +1,5 @@
--- `entry::signed_of` meets its contract. Assumes nothing.
+-- `entry::signed_of`: two cases by the sign: `toZ-pos` reads the cast value, and a minus fits its 32 bits by the lemma `neg-fits`, so `toZ-ofZ` gives it back.
+-- Assumes nothing.
 use Prim.Native.Nat.{ℕ, suc, zero, _≤_}
 use native.Mathlib.Omega.{arith}
 use lib.IntN.{pos, negℤ, +ℤ-idl}

@@ -1,4 +1,4 @@
--- `entry_bytes::blank_auv` meets its contract. Assumes nothing.
+-- `entry_bytes::blank_auv`: one law of WriteLaws, `blank-auv-is`, fed with what `wire::is_natural`, `blank_uv` and `plain::both` return. Assumes nothing.
 use Rattle.entry_bytes.proofs.WriteLaws.{blank-auv-is}
 use Rattle.label.specs.Fetched.{signed}
 use borrow.Author.Needs.{needs}

@@ -1,4 +1,4 @@
--- `entry_bytes::blank_uv` meets its contract. Assumes nothing.
+-- `entry_bytes::blank_uv`: one law of WriteLaws, `blank-uv-is`, fed with what `wire::size`, `blank_v` and `plain::both` return. Assumes nothing.
 use Rattle.entry_bytes.proofs.WriteLaws.{blank-uv-is}
 use Rattle.label.specs.Fetched.{signed}
 use borrow.Author.Needs.{needs}

@@ -1,4 +1,4 @@
--- `entry_bytes::blank_v` meets its contract. Assumes nothing.
+-- `entry_bytes::blank_v`: one law of WriteLaws, `blank-v-is`: the last field is empty exactly where the size that `wire::size` returns is 0. Assumes nothing.
 use Rattle.entry_bytes.proofs.WriteLaws.{blank-v-is}
 use Rattle.label.specs.Fetched.{signed}
 use borrow.Author.Needs.{needs}

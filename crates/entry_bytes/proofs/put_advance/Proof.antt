@@ -1,4 +1,5 @@
--- `entry_bytes::put_advance` meets its contract. Assumes nothing.
+-- `entry_bytes::put_advance`: a case split on the sign: `chosen-some` and `chosen-none` of WriteLaws, both at `advance-is`, say what an advance from 0 on and
+-- one below it write. Assumes nothing.
 use Rattle.entry_bytes.proofs.WriteLaws.{chosen-some, chosen-none, advance-is}
 use Rattle.octets.proofs.Puts.{none, put-as}
 use Rattle.label.specs.Fetched.{signed}

@@ -1,4 +1,5 @@
--- `entry_bytes::put_auv` meets its contract. Assumes nothing.
+-- `entry_bytes::put_auv`: blank stores nothing, by `fields-blank` of WriteLaws; otherwise comma, advance and what `put_uv` stores, joined by `then`, are the
+-- fields by `fields-auv`. Assumes nothing.
 use Rattle.entry_bytes.proofs.WriteLaws.{fields-blank, fields-auv}
 use Rattle.octets.proofs.Puts.{then, none, put-as}
 use Rattle.label.specs.Fetched.{signed}

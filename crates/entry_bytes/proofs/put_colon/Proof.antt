@@ -1,4 +1,5 @@
--- `entry_bytes::put_colon` meets its contract. Assumes nothing.
+-- `entry_bytes::put_colon`: the test for 1 picks the branch of the `cond` (`choose-true`, `choose-false` of WriteLaws); otherwise the colon and the digits are
+-- joined by `then`. Assumes nothing.
 use native.Mathlib.Omega.{arith}
 use borrow.Author.Tests.{eq-eqb, ne-eqb}
 use borrow.Author.Needs.{needs}

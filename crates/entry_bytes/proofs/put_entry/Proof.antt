@@ -1,4 +1,5 @@
--- `entry_bytes::put_entry` meets its contract. Assumes nothing.
+-- `entry_bytes::put_entry`: the index and the fields behind it are two stores joined by `then`; `entry-is` of WriteLaws says that these bytes are the entry.
+-- Assumes nothing.
 use Rattle.entry_bytes.proofs.WriteLaws.{entry-is}
 use Rattle.octets.proofs.Puts.{then, put-as}
 use Rattle.label.specs.Fetched.{signed}

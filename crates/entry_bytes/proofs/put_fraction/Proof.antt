@@ -1,4 +1,5 @@
--- `entry_bytes::put_fraction` meets its contract. Assumes nothing.
+-- `entry_bytes::put_fraction`: each return is one law of WriteLaws, by how many digits are left: `frac-one`, `frac-two`, `frac-three`; the stores are joined by
+-- `then` of the octets' Puts. Assumes nothing.
 use native.Mathlib.Omega.{arith}
 use Rattle.octets.proofs.Puts.{then, put-as}
 use Rattle.entry_bytes.proofs.WriteLaws.{frac-one, frac-two, frac-three}

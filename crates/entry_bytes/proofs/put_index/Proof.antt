@@ -1,4 +1,5 @@
--- `entry_bytes::put_index` meets its contract. Assumes nothing.
+-- `entry_bytes::put_index`: a case split on the sign: `chosen-some` and `chosen-none` of WriteLaws at `index-is`; map and digits, two stores, are joined by
+-- `then` of the octets' Puts. Assumes nothing.
 use Rattle.entry_bytes.proofs.WriteLaws.{chosen-some, chosen-none, index-is}
 use Rattle.octets.proofs.Puts.{none, then, put-as}
 use Rattle.label.specs.Fetched.{signed}

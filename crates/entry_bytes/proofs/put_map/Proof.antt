@@ -1,4 +1,5 @@
--- `entry_bytes::put_map` meets its contract. Assumes nothing.
+-- `entry_bytes::put_map`: the two tests decide by `map-none` or `map-some` of WriteLaws; in the latter the four stores, bracket to bracket, are joined by
+-- `then` of the octets' Puts. Assumes nothing.
 use native.Mathlib.Omega.{arith}
 use borrow.Author.Needs.{needs}
 use Rattle.octets.proofs.Puts.{then, none, put-as}

@@ -1,4 +1,5 @@
--- `entry_bytes::put_offset` meets its contract. Assumes nothing.
+-- `entry_bytes::put_offset`: three cases, one law of WriteLaws each: size zero stores nothing (`offset-none`), a natural number its value (`offset-plus`), any
+-- other a minus before it (`offset-minus`). Assumes nothing.
 use Rattle.entry_bytes.proofs.WriteLaws.{offset-none, offset-plus, offset-minus}
 use Rattle.octets.proofs.Puts.{then, none, put-as}
 use Rattle.label.specs.Fetched.{signed}

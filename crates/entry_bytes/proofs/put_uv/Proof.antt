@@ -1,4 +1,5 @@
--- `entry_bytes::put_uv` meets its contract. Assumes nothing.
+-- `entry_bytes::put_uv`: blank stores nothing, by `fields-blank` of WriteLaws; otherwise comma, offset and what `put_v` stores, joined by `then`, are the
+-- fields by `fields-uv`. Assumes nothing.
 use Rattle.entry_bytes.proofs.WriteLaws.{fields-blank, fields-uv}
 use Rattle.octets.proofs.Puts.{then, none, put-as}
 use Rattle.label.specs.Fetched.{signed}

@@ -1,4 +1,5 @@
--- `entry_bytes::put_v` meets its contract. Assumes nothing.
+-- `entry_bytes::put_v`: blank stores nothing, by `fields-blank` of WriteLaws; otherwise comma and offset, joined by `then` of the octets' Puts, are the field
+-- by `fields-v`. Assumes nothing.
 use Rattle.entry_bytes.proofs.WriteLaws.{fields-blank, fields-v}
 use Rattle.octets.proofs.Puts.{then, none, put-as}
 use Rattle.label.specs.Fetched.{signed}

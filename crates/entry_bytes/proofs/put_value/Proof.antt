@@ -1,4 +1,5 @@
--- `entry_bytes::put_value` meets its contract. Assumes nothing.
+-- `entry_bytes::put_value`: whole thousands are one decimal (`value-whole`); otherwise whole part, point and fraction, joined by `then`, are the value's bytes
+-- by `value-point` of WriteLaws. Assumes nothing.
 use native.Mathlib.Omega.{arith}
 use borrow.Author.Needs.{needs}
 use Rattle.octets.proofs.Puts.{then, put-as}

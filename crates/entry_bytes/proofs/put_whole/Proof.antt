@@ -1,4 +1,5 @@
--- `entry_bytes::put_whole` meets its contract. Assumes nothing.
+-- `entry_bytes::put_whole`: a zero stores nothing and any other number its digits; the test picks the branch of the `cond`, by `choose-true` and `choose-false`
+-- of WriteLaws. Assumes nothing.
 use native.Mathlib.Omega.{arith}
 use borrow.Author.Tests.{eq-eqb, ne-eqb}
 use borrow.Author.Needs.{needs}

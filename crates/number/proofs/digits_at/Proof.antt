@@ -1,4 +1,5 @@
--- `number::digits_at` meets its contract. Assumes nothing.
+-- `number::digits_at`: the loop keeps `Scanned`: the digits left, read behind v, give the count and value of all behind `start`; `scan-step` steps it,
+-- `scan-stop` closes both returns, all of DigitLaws. Assumes nothing.
 use mathlib.Core.Path.{sym, _∙_}
 use Prim.Native.Nat.{_-_}
 use native.Mathlib.Omega.{arith}

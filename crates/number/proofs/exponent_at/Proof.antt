@@ -1,4 +1,5 @@
--- `number::exponent_at` meets its contract. Assumes nothing.
+-- `number::exponent_at`: two cases by the letter: `code-raised` or `code-unraised` of NumberLaws over what the calls ensure; `letter-some` shows that a letter
+-- found is within the list. Assumes nothing.
 use mathlib.Core.Path.{sym, _∙_}
 use native.Mathlib.Omega.{arith}
 use borrow.Author.Needs.{needs}

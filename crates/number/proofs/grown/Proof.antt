@@ -1,4 +1,5 @@
--- `number::grown` meets its contract. Assumes nothing.
+-- `number::grown`: four returns: 0 by `zero-mul`, two over the limit by `grow-over` and `grow-large` of ValueLaws, the last by what `power` and `limited`
+-- ensure; `grow-fits` gives the product room. Assumes nothing.
 use mathlib.Core.Path.{sym}
 use native.Mathlib.Nat.{zero-mul}
 use native.Mathlib.Omega.{arith}

@@ -1,4 +1,4 @@
--- `number::limited` meets its contract. Assumes nothing.
+-- `number::limited`: two cases by the limit: within it the value is `sized-of`, above it `sized-over`, both laws of ValueLaws read backwards. Assumes nothing.
 use mathlib.Core.Path.{sym}
 use borrow.Author.Needs.{needs}
 use Rattle.number.proofs.ValueLaws.{sized-of, sized-over}

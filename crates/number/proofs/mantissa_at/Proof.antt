@@ -1,4 +1,5 @@
--- `number::mantissa_at` meets its contract. Assumes nothing.
+-- `number::mantissa_at`: two cases by the byte behind the first digits: a point gives `code-pointed`, any other byte `code-plain`, both of NumberLaws; every
+-- other need is closed by search. Assumes nothing.
 use native.Mathlib.Omega.{arith}
 use borrow.Author.Needs.{needs}
 use Rattle.number.proofs.NumberLaws.{code-pointed, code-plain}

@@ -1,4 +1,5 @@
--- `number::number_at` meets its contract. Assumes nothing.
+-- `number::number_at`: each return is one law of NumberLaws: `code-long`, `code-far`, `code-sized`; `mant-asked` and `expo-asked` give what `to_thousandths`
+-- requires from the two counts of digits. Assumes nothing.
 use native.Mathlib.Omega.{arith}
 use borrow.Author.Needs.{needs}
 use Rattle.number.proofs.NumberLaws.{code-long, code-far, code-sized, mant-asked, expo-asked}

@@ -1,4 +1,5 @@
--- `number::power` meets its contract. Assumes nothing.
+-- `number::power`: one arm for each exponent, each closed by rewriting with its key; in the last arm `last-key` of ValueLaws finds that k is 18. Assumes
+-- nothing.
 use borrow.Author.Needs.{needs}
 use Rattle.number.proofs.ValueLaws.{last-key}
 use Rattle.number.proofs.power.Statement.{statement}

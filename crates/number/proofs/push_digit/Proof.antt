@@ -1,4 +1,5 @@
--- `number::push_digit` meets its contract. Assumes nothing.
+-- `number::push_digit`: `digit-low` of DigitLaws shows that 48 can be taken from the byte; every other need, also both returns of the cut, is closed by search.
+-- Assumes nothing.
 use native.Mathlib.Omega.{arith}
 use borrow.Author.Needs.{needs}
 use Rattle.number.proofs.DigitLaws.{digit-low}

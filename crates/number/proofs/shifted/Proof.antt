@@ -1,4 +1,5 @@
--- `number::shifted` meets its contract. Assumes nothing.
+-- `number::shifted`: two cases by the larger shift: the contract is rewritten to one shift by `scale-grow` and `grow-whole`, or `scale-shrink` and
+-- `shrink-whole`, of ValueLaws, and is then the call's. Assumes nothing.
 use native.Mathlib.Nat.{le-of-lt}
 use borrow.Author.Needs.{needs}
 use Rattle.number.proofs.ValueLaws.{scale-grow, scale-shrink, grow-whole, shrink-whole}

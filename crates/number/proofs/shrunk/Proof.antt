@@ -1,4 +1,5 @@
--- `number::shrunk` meets its contract. Assumes nothing.
+-- `number::shrunk`: past 18 places `shrink-none` and `none-whole` give 0; else the test on quotient and remainder decides `round-up` or `round-down`, and
+-- `twice-small` gives it room, all of ValueLaws. Assumes nothing.
 use native.Mathlib.Nat.{div-le-self}
 use native.Mathlib.Omega.{arith}
 use borrow.Author.Needs.{needs}

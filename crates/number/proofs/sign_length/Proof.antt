@@ -1,4 +1,5 @@
--- `number::sign_length` meets its contract. Assumes nothing.
+-- `number::sign_length`: two cases by the test for a sign: the result is one rewriting by that test; that a sign is not byte 0 is `sign-some` of NumberLaws.
+-- Assumes nothing.
 use mathlib.Core.Path.{sym, _∙_}
 use native.Mathlib.Omega.{arith}
 use borrow.Author.Needs.{needs}

@@ -1,4 +1,5 @@
--- `number::to_thousandths` meets its contract. Assumes nothing.
+-- `number::to_thousandths`: the ensures of `shifted`, rewritten by both results of `unless`, is the contract by `scaled-is` and `whole-is` of ValueLaws: the
+-- exponent's two signs as one shift. Assumes nothing.
 use mathlib.Core.Path.{_∙_}
 use borrow.Author.Needs.{needs}
 use Rattle.number.proofs.ValueLaws.{scaled-is, whole-is}

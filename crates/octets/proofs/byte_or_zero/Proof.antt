@@ -1,4 +1,5 @@
--- `octets::byte_or_zero` meets its contract. Assumes nothing.
+-- `octets::byte_or_zero`: inside, search finds the byte, and the slice's known bound on it gives the second claim; past the end the value is the default, by
+-- `List·getD-eq-default`. Assumes nothing.
 use mathlib.Core.Path.{sym}
 use native.Mathlib.Omega.{arith}
 use denote.Ref.{now}

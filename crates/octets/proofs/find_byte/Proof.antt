@@ -1,4 +1,5 @@
--- `octets::find_byte` meets its contract. Assumes nothing.
+-- `octets::find_byte`: the loop keeps that the first such byte from i on is the first from `from` on; both returns and the next turn are one law of Finds each.
+-- Assumes nothing.
 use Prim.Native.Nat.{_-_, _≤_}
 use native.Mathlib.Omega.{arith}
 use mathlib.Core.Path.{_≡_, refl, _∙_}

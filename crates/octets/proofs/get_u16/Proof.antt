@@ -1,4 +1,5 @@
--- `octets::get_u16` meets its contract. Assumes nothing.
+-- `octets::get_u16`: search closes every read and sum; the return unfolds `halfAt` and is one rewriting by the values of the two widened bytes. Assumes
+-- nothing.
 use Rattle.octets.specs.Words.{halfAt}
 use borrow.Author.Needs.{needs}
 use Rattle.octets.proofs.get_u16.Statement.{statement}

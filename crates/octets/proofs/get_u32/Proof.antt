@@ -1,4 +1,5 @@
--- `octets::get_u32` meets its contract. Assumes nothing.
+-- `octets::get_u32`: search closes every read, product and sum; the return unfolds `wordAt` and is one rewriting by the values of the four widened bytes.
+-- Assumes nothing.
 use Rattle.octets.specs.Words.{wordAt}
 use borrow.Author.Needs.{needs}
 use Rattle.octets.proofs.get_u32.Statement.{statement}

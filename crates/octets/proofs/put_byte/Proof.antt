@@ -1,4 +1,5 @@
--- `octets::put_byte` meets its contract. Assumes nothing.
+-- `octets::put_byte`: stores at most once: a store inside is `put-one`, and past the end nothing changes, by `put-past`, both of Puts; the place is arithmetic.
+-- Assumes nothing.
 use Rattle.octets.proofs.Puts.{put-one, put-past}
 use native.Mathlib.Omega.{arith}
 use borrow.Author.Needs.{needs}

@@ -1,4 +1,5 @@
--- `octets::put_bytes` meets its contract. Assumes nothing.
+-- `octets::put_bytes`: the loop keeps that storing the bytes left, at p = at + i, gives the whole; `byte-next` splits off one byte, and `left-next` and
+-- `left-end` of Puts carry it. Assumes nothing.
 use Rattle.octets.proofs.Puts.{Left, left-start, left-next, left-as, left-end, byte-next}
 use lib.ListN.{length, drop, drop-of-length-le}
 use borrow.Author.Needs.{needs}

@@ -1,4 +1,5 @@
--- `octets::put_u16` meets its contract. Assumes nothing.
+-- `octets::put_u16`: the mask is a remainder, by `and-mask`, and fits a byte, by `and-le-r`; with `at + 1` as a successor the two stores are `puts` unfolded.
+-- Assumes nothing.
 use Rattle.octets.specs.Puts.{puts}
 use lib.Bits.{and-le-r, and-mask}
 use native.Mathlib.Numerals.{add-one}

@@ -1,4 +1,5 @@
--- `octets::put_u32` meets its contract. Assumes nothing.
+-- `octets::put_u32`: the three masks are remainders, by `and-mask`, and fit, by `and-le-r`; with the sums as successors the four stores are `puts` unfolded.
+-- Assumes nothing.
 use Prim.Native.Nat.{_/_}
 use native.Mathlib.Numerals.{add-one, add-two, add-three}
 use native.Mathlib.Omega.{arith}

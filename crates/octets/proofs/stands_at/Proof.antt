@@ -1,4 +1,5 @@
--- `octets::stands_at` meets its contract. Assumes nothing.
+-- `octets::stands_at`: the loop keeps that comparing what is left of both, from i on, gives the whole answer; each return and the next turn are one law of
+-- Begins. Assumes nothing.
 use Rattle.octets.proofs.Begins.{left-end, left-short, left-other, left-next}
 use Rattle.label.specs.Bytes.{begins}
 use lib.ListN.{length, drop}

@@ -1,4 +1,5 @@
--- `text::count_units` meets its contract. Assumes nothing.
+-- `text::count_units`: the loop keeps `Reached`: n units were found before i, and with the reading from i on they give the whole; each turn and return is one
+-- law of Counts. Assumes nothing.
 use Prim.Native.Nat.{_≤_, _-_, _*_}
 use native.Mathlib.Omega.{arith}
 use mathlib.Core.Path.{sym, _∙_}

@@ -1,4 +1,5 @@
--- `text::fill_units` meets its contract. Assumes nothing.
+-- `text::fill_units`: the loop keeps `Fill`: storing the units left behind the n stored gives the whole; `fill-room`, `fill-next`, `fill-end` of Fills carry
+-- it, and a fault contradicts the reading. Assumes nothing.
 use Prim.Native.Nat.{_-_}
 use native.Mathlib.Omega.{arith}
 use mathlib.Core.Path.{sym, _∙_}

@@ -1,4 +1,4 @@
--- `text::high_half` meets its contract. Assumes nothing.
+-- `text::high_half`: the shifted part is below 2^10 by arithmetic, so `or` with 54 * 1024 is a sum, by `or-shifted-r` of lib.Bits. Assumes nothing.
 use lib.Bits.{or-shifted-r}
 use native.Mathlib.Omega.{arith}
 use borrow.Author.Needs.{needs}

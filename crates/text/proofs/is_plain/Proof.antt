@@ -1,4 +1,5 @@
--- `text::is_plain` meets its contract. Assumes nothing.
+-- `text::is_plain`: past the end the test is false, by `le-ltb`, and promises nothing; inside, `lt-ltb` leaves the range's test, and the move is `left-plain`
+-- of Moves. Assumes nothing.
 use mathlib.Core.Path.{refl, sym, _∙_}
 use mathlib.Core.Bool.{false}
 use borrow.Author.Needs.{needs}

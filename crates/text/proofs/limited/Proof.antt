@@ -1,4 +1,4 @@
--- `text::limited` meets its contract. Assumes nothing.
+-- `text::limited`: two cases by the test: each unfolds `unitsWithin` and rewrites by the comparison with 4096, which is `le-leb` or `lt-leb`. Assumes nothing.
 use native.Mathlib.Omega.{arith}
 use borrow.Author.Tests.{le-leb, lt-leb}
 use Rattle.text.specs.Texts.{unitsWithin}

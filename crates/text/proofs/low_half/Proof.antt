@@ -1,4 +1,5 @@
--- `text::low_half` meets its contract. Assumes nothing.
+-- `text::low_half`: the mask is below 2^10, by `mask-lt`, so `or` with 55 * 1024 is a sum, by `or-shifted-r`; `and-mask` makes the mask a remainder. Assumes
+-- nothing.
 use Prim.Native.Nat.{ℕ, _+_, _-_}
 use lib.Bits.{or-shifted-r, and-mask, mask-lt}
 use native.Mathlib.Omega.{arith}

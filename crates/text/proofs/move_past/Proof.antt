@@ -1,4 +1,5 @@
--- `text::move_past` meets its contract. Assumes nothing.
+-- `text::move_past`: the loop keeps `Left`: units passed and units left are all, and a are still to pass; each turn and return is one `left` law of Moves.
+-- Assumes nothing.
 use Prim.Native.Nat.{_-_}
 use native.Mathlib.Omega.{arith}
 use mathlib.Core.Path.{sym, _∙_}

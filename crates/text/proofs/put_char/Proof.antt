@@ -1,4 +1,5 @@
--- `text::put_char` meets its contract. Assumes nothing.
+-- `text::put_char`: two cases: `one-is` or `two-are` of Counts gives the units and the room, and `one-char` or `two-chars` of Fills turns the stores into the
+-- units' bytes. Assumes nothing.
 use Rattle.text.proofs.Fills.{one-char, two-chars}
 use Rattle.text.proofs.Counts.{one-is, two-are}
 use lib.ListN.{length}

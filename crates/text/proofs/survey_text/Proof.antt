@@ -1,4 +1,5 @@
--- `text::survey_text` meets its contract. Assumes nothing.
+-- `text::survey_text`: four returns, each one law of Texts: refused while counting, no brace, a brace alone, marked; `marked-two` shows that two units can be
+-- taken off. Assumes nothing.
 use native.Mathlib.Omega.{arith}
 use Rattle.text.proofs.Texts.{survey-refused, survey-plain, survey-braced, survey-marked, marked-two}
 use mathlib.Core.Path.{sym, _∙_}

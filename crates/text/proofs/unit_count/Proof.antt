@@ -1,4 +1,4 @@
--- `text::unit_count` meets its contract. Assumes nothing.
+-- `text::unit_count`: two cases by the test: the length of the units that `one-is` or `two-are` of Counts gives; the bounds are arithmetic. Assumes nothing.
 use native.Mathlib.Omega.{arith}
 use mathlib.Core.Path.{sym, ap}
 use lib.ListN.{length}

@@ -1,4 +1,5 @@
--- `text_bytes::asked_length` meets its contract. Assumes nothing.
+-- `text_bytes::asked_length`: two cases by the flag that the code tests, each one rewriting of `askedLength` by that flag to the call's ensures; `ascii-most`
+-- of Utf8 gives the cast room. Assumes nothing.
 use native.Mathlib.Omega.{arith}
 use mathlib.Core.Path.{sym, _∙_}
 use Rattle.text_bytes.specs.Lengths.{askedLength}

@@ -1,4 +1,5 @@
--- `text_bytes::is_braced` meets its contract. Assumes nothing.
+-- `text_bytes::is_braced`: the first unit's equation, put under the comparison with 123, is the definition of `braced`; the other need is closed by search.
+-- Assumes nothing.
 use Prim.Native.Nat.{ℕ}
 use mathlib.Core.Path.{ap}
 use lib.Dec.{eqb}

@@ -1,4 +1,5 @@
--- `text_bytes::mark_length` meets its contract. Assumes nothing.
+-- `text_bytes::mark_length`: two cases by the answer of `is_braced`: `mark-two` where it is true, `mark-none` where it is false, both laws of Utf8. Assumes
+-- nothing.
 use Rattle.label.specs.Fetched.{halves}
 use native.Mathlib.Omega.{arith}
 use Rattle.text_bytes.proofs.Utf8.{mark-two, mark-none}

@@ -1,4 +1,5 @@
--- `text_bytes::put_asked` meets its contract. Assumes nothing.
+-- `text_bytes::put_asked`: two cases by the flag: the bytes stored are the ones asked for by `asked-ascii` or `asked-plain` of Utf8, carried over by `put-as`
+-- of octets' Puts. Assumes nothing.
 use Rattle.text_bytes.proofs.Utf8.{asked-ascii, asked-plain, ascii-most}
 use Rattle.octets.proofs.Puts.{put-as}
 use mathlib.Core.Path.{sym, _∙_}

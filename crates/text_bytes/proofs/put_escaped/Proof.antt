@@ -1,4 +1,5 @@
--- `text_bytes::put_escaped` meets its contract. Assumes nothing.
+-- `text_bytes::put_escaped`: one arm for each of the six bytes, its stored text carried over by `put-escape` at the arm's key; any other byte is unchanged by
+-- `escape-other`, both of Utf8. Assumes nothing.
 use native.Mathlib.Omega.{arith}
 use Rattle.label.specs.Bytes.{ascii}
 use Rattle.label.specs.Requests.Attribute.{escapeByte}

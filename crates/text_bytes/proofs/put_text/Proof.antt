@@ -1,4 +1,5 @@
--- `text_bytes::put_text` meets its contract. Assumes nothing.
+-- `text_bytes::put_text`: two cases by the brace: `then` of octets' Puts joins the mark and the units, and `put-as` renames the bytes by `text-braced` or
+-- `text-plain` of Utf8. Assumes nothing.
 use Rattle.label.specs.Fetched.{halves}
 use Rattle.octets.proofs.Puts.{then, put-as}
 use Rattle.text_bytes.proofs.Utf8.{text-braced, text-plain}

@@ -1,4 +1,5 @@
--- `text_bytes::put_unit` meets its contract. Assumes nothing.
+-- `text_bytes::put_unit`: three cases, low half, high half or neither: `unit-low`, `unit-high` and `unit-plain` of Utf8 name the bytes stored; `high-range`
+-- gives `pair_of` what it requires. Assumes nothing.
 use native.Mathlib.Omega.{arith}
 use Rattle.octets.proofs.Puts.{none, put-as}
 use Rattle.text_bytes.proofs.Utf8.{unit-low, unit-high, unit-plain, high-range}

@@ -1,4 +1,5 @@
--- `text_bytes::put_units` meets its contract. Assumes nothing.
+-- `text_bytes::put_units`: the loop keeps `Left` of octets' Puts: what is still to store are the bytes of the units from i on; `asked-here` steps it,
+-- `asked-end` ends it. Assumes nothing.
 use Rattle.text_bytes.proofs.Utf8.{asked-here, asked-end}
 use Rattle.octets.proofs.Puts.{Left, left-start, left-next, left-as, left-end}
 use Rattle.label.specs.Fetched.{halves}

@@ -1,4 +1,5 @@
--- `text_bytes::put_utf8` meets its contract. Assumes nothing.
+-- `text_bytes::put_utf8`: four cases by the size of c: `then` of octets' Puts chains the bytes stored, and `utf8-one` to `utf8-four` of label's Utf8 say they
+-- are the character's. Assumes nothing.
 use Rattle.label.proofs.Utf8.{utf8-one, utf8-two, utf8-three, utf8-four}
 use Rattle.octets.proofs.Puts.{then, put-as}
 use mathlib.Core.Path.{sym}

@@ -1,4 +1,5 @@
--- `text_bytes::text_length` meets its contract. Assumes nothing.
+-- `text_bytes::text_length`: the loop keeps that n and the bytes of the units from i on sum to the text's length; `length-start`, `length-next` and
+-- `length-end` of Utf8 carry it. Assumes nothing.
 use Rattle.text_bytes.proofs.Utf8.{length-start, length-next, length-end}
 use Rattle.label.specs.Fetched.{halves}
 use Rattle.label.specs.Write.{unitsBytes, textOf}

@@ -1,4 +1,5 @@
--- `text_bytes::unit_length` meets its contract. Assumes nothing.
+-- `text_bytes::unit_length`: one arm for each range of the unit, each closed by the law of Utf8 for that range, with the arm's bounds found by search. Assumes
+-- nothing.
 use native.Mathlib.Omega.{arith}
 use Rattle.text_bytes.proofs.Utf8.{one-byte, two-bytes, three-bytes, pair-bytes, no-bytes}
 use borrow.Author.Needs.{needs}

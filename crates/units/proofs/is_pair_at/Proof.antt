@@ -1,4 +1,5 @@
--- `units::is_pair_at` meets its contract. Assumes nothing.
+-- `units::is_pair_at`: search closes the calls; without a high half the return is `pair-none`, and with one `pair-here`, both of Units, over what the two units
+-- and their tests ensure. Assumes nothing.
 use Rattle.units.proofs.Units.{pair-none, pair-here}
 use Rattle.label.specs.Fetched.{halves}
 use borrow.Author.Needs.{needs}

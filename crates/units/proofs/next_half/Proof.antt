@@ -1,4 +1,5 @@
--- `units::next_half` meets its contract. Assumes nothing.
+-- `units::next_half`: two cases by `half`: each unfolds `nextHalf` and rewrites by the test; without a half before, the answer is what `is_high` ensures.
+-- Assumes nothing.
 use Rattle.units.specs.Units.{nextHalf}
 use borrow.Author.Needs.{needs}
 use Rattle.units.proofs.next_half.Statement.{statement}

@@ -1,4 +1,5 @@
--- `units::proper_units` meets its contract. Assumes nothing.
+-- `units::proper_units`: the loop keeps that judging the units left from j on, by `half`, gives the whole answer; `proper-here` with `stops` or `goes` of Loops
+-- takes a turn, `proper-end` ends. Assumes nothing.
 use Rattle.octets.proofs.Loops.{stops, goes}
 use Rattle.units.proofs.Units.{proper-here, proper-end}
 use Rattle.label.specs.Fetched.{halves}

@@ -1,4 +1,5 @@
--- `units::unit_ok` meets its contract. Assumes nothing.
+-- `units::unit_ok`: two cases by `half`: each unfolds `unitOk` and rewrites by the test; what the called tests ensure gives the answer, in the second case by
+-- congruence. Assumes nothing.
 use Rattle.units.specs.Units.{unitOk}
 use borrow.Author.Needs.{needs}
 use Rattle.units.proofs.unit_ok.Statement.{statement}

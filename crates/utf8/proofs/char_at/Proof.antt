@@ -1,4 +1,5 @@
--- `utf8::char_at` meets its contract. Assumes nothing.
+-- `utf8::char_at`: four returns, each one law of Chars: one byte, no row, bytes missing behind the first, whole; `trail-fits` of Rows shows that the bytes
+-- behind it are there. Assumes nothing.
 use Prim.Native.Nat.{_+_, _≤_}
 use lib.ListN.{length}
 use Rattle.utf8.proofs.Rows.{trail-fits}

@@ -1,4 +1,5 @@
--- `utf8::follows` meets its contract. Assumes nothing.
+-- `utf8::follows`: the loop keeps that judging the k bytes left from i on, by l and h, gives the whole answer; each return and the next turn are one `trail`
+-- law of Rows. Assumes nothing.
 use Prim.Native.Nat.{_≤_}
 use mathlib.Core.Path.{_≡_, _∙_, sym}
 use borrow.Author.Needs.{needs}

@@ -1,4 +1,4 @@
--- `utf8::is_xml` meets its contract. Assumes nothing.
+-- `utf8::is_xml`: the tests in order cut the numbers into six ranges, and each return is one `xml` law of Chars, read backwards. Assumes nothing.
 use Rattle.utf8.proofs.Chars.{xml-low, xml-mid, xml-gap, xml-plane, xml-non, xml-high}
 use mathlib.Core.Path.{sym}
 use borrow.Author.Needs.{needs}

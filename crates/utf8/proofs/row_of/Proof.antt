@@ -1,4 +1,5 @@
--- `utf8::row_of` meets its contract. Assumes nothing.
+-- `utf8::row_of`: each of the nine arms is `by-row` of Rows with that row's number, its range found by search; the two ways to the last arm are `by-none`.
+-- Assumes nothing.
 use Rattle.utf8.proofs.Rows.{by-row, by-none}
 use Rattle.label.specs.Text.{table}
 use mathlib.Core.Path.{_∙_}

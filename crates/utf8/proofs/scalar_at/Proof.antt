@@ -1,4 +1,5 @@
--- `utf8::scalar_at` meets its contract. Assumes nothing.
+-- `utf8::scalar_at`: four cases by the number of bytes, each one law `scalar-one` to `scalar-four` of Chars over what `with_six` ensures; `mask-lt` bounds each
+-- masked first byte. Assumes nothing.
 use Rattle.utf8.proofs.Chars.{scalar-one, scalar-two, scalar-three, scalar-four}
 use lib.Bits.{mask-lt}
 use native.Mathlib.Omega.{arith}

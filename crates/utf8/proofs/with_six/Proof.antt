@@ -1,4 +1,5 @@
--- `utf8::with_six` meets its contract. Assumes nothing.
+-- `utf8::with_six`: the only need, the return, is one law, `shifted-or` of Chars: fifteen bits shifted by six in 32, with the byte's low six bits below.
+-- Assumes nothing.
 use Rattle.utf8.proofs.Chars.{shifted-or}
 use lib.Dec.{lit≤}
 use Rattle.utf8.proofs.with_six.Statement.{statement}

@@ -1,4 +1,5 @@
--- `wire::bits` meets its contract. Assumes nothing.
+-- `wire::bits`: the mask is the remainder by 2^31, by `low-is`; the sign's test bounds the bits, by `neg-bits` or `nonneg-bits`, and `bits-are` of Signed with
+-- arithmetic ends both cases. Assumes nothing.
 use native.Mathlib.Omega.{arith}
 use Rattle.wire.proofs.Signed.{low-is, neg-bits, nonneg-bits, bits-below, bits-are}
 use Rattle.wire.proofs.bits.Statement.{statement}

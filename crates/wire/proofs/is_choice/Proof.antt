@@ -1,4 +1,5 @@
--- `wire::is_choice` meets its contract. Assumes nothing.
+-- `wire::is_choice`: the answer of `either` followed by one law, `choice-bits` of Tests, whose bound on the bits is arithmetic; search closes the call. Assumes
+-- nothing.
 use Rattle.wire.proofs.Tests.{choice-bits}
 use native.Mathlib.Omega.{arith}
 use mathlib.Core.Path.{_∙_}

@@ -1,4 +1,5 @@
--- `wire::is_font` meets its contract. Assumes nothing.
+-- `wire::is_font`: search closes every call; the return is one law, `font-is` of Tests, given what the two sign tests, the two sizes and the three conjunctions
+-- ensure. Assumes nothing.
 use Rattle.wire.proofs.Tests.{font-is}
 use Rattle.label.specs.Fetched.{signed}
 use borrow.Author.Needs.{needs}

@@ -1,4 +1,5 @@
--- `wire::is_natural` meets its contract. Assumes nothing.
+-- `wire::is_natural`: the only need, the return, is one law: `natural-bits` of Tests says that bits below 2^31 are a number without a minus sign. Assumes
+-- nothing.
 use Rattle.wire.proofs.Tests.{natural-bits}
 use Rattle.wire.proofs.is_natural.Statement.{statement}
 use Rattle.wire.proofs.is_natural.Tie as tie

@@ -1,4 +1,4 @@
--- `wire::nat` meets its contract. Assumes nothing.
+-- `wire::nat`: two cases by the test, each one law of Tests: `nat-low` below 2^31 and `nat-high` from there on; the bound is arithmetic. Assumes nothing.
 use Rattle.wire.proofs.Tests.{nat-low, nat-high}
 use native.Mathlib.Omega.{arith}
 use Rattle.wire.proofs.nat.Statement.{statement}

@@ -1,4 +1,5 @@
--- `wire::number_at` meets its contract. Assumes nothing.
+-- `wire::number_at`: `words-length` turns the count of numbers into bytes, which bounds the place; the word fetched is the number by `number-is`, both laws of
+-- Fetched. Assumes nothing.
 use Rattle.wire.proofs.Fetched.{number-is}
 use Rattle.label.specs.Fetched.{signed}
 use Rattle.wire.proofs.Fetched.{words-length}

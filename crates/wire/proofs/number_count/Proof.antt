@@ -1,4 +1,5 @@
--- `wire::number_count` meets its contract. Assumes nothing.
+-- `wire::number_count`: the return is `words-length` of Fetched, read backwards: bytes hold a fourth as many numbers; the second claim holds by definition.
+-- Assumes nothing.
 use Rattle.wire.proofs.Fetched.{words-length}
 use mathlib.Core.Path.{sym, refl}
 use Rattle.wire.proofs.number_count.Statement.{statement}

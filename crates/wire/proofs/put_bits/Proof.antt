@@ -1,4 +1,4 @@
--- `wire::put_bits` meets its contract. Assumes nothing.
+-- `wire::put_bits`: search bounds the product and the room; the return is what `put_u32` ensures at byte 4 * k, with nothing added. Assumes nothing.
 use borrow.Author.Needs.{needs}
 use Rattle.wire.proofs.put_bits.Statement.{statement}
 use Rattle.wire.proofs.put_bits.Tie as tie

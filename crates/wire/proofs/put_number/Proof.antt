@@ -1,4 +1,5 @@
--- `wire::put_number` meets its contract. Assumes nothing.
+-- `wire::put_number`: what `put_bits` ensures, with the bits replaced by what `bits` ensures; `toZ-ofZ` takes away the machine's round trip of the signed
+-- argument. Assumes nothing.
 use Rattle.octets.specs.Puts.{puts}
 use Rattle.label.specs.Wire.{bitsOf, fourBytes}
 use Prim.Native.Nat.{ℕ, _*_}

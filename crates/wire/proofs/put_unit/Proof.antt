@@ -1,4 +1,4 @@
--- `wire::put_unit` meets its contract. Assumes nothing.
+-- `wire::put_unit`: search bounds the product and the room; the return is what `put_u16` ensures at byte 2 * j, with nothing added. Assumes nothing.
 use borrow.Author.Needs.{needs}
 use Rattle.wire.proofs.put_unit.Statement.{statement}
 use Rattle.wire.proofs.put_unit.Tie as tie

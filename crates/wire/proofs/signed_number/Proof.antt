@@ -1,4 +1,5 @@
--- `wire::signed_number` meets its contract: the machine's number of these bits is the definitions'. Assumes nothing.
+-- `wire::signed_number`: `signed-is` of Signed makes the machine's number the definitions'; in the high half `or-shifted-r` first shows that the two parts
+-- joined by `or` are n again. Assumes nothing.
 use mathlib.Core.Path.{_≡_, ap, _∙_}
 use Prim.Native.Nat.{_-_}
 use borrow.Author.Needs.{needs}

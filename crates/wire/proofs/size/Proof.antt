@@ -1,4 +1,5 @@
--- `wire::size` meets its contract. Assumes nothing.
+-- `wire::size`: two cases by the test, each one law of Tests: `size-low` below 2^31 and `size-high` from there on; search closes the arithmetic. Assumes
+-- nothing.
 use Rattle.wire.proofs.Tests.{size-low, size-high}
 use borrow.Author.Needs.{needs}
 use Rattle.wire.proofs.size.Statement.{statement}

@@ -1,4 +1,5 @@
--- `wire::unit_at` meets its contract. Assumes nothing.
+-- `wire::unit_at`: inside, what `get_u16` ensures is the unit by `unit-is` of Fetched; past the end the value is the default, with `halves-length` bounding the
+-- place. Assumes nothing.
 use Rattle.wire.proofs.Fetched.{unit-is}
 use Rattle.label.specs.Fetched.{halves}
 use Rattle.wire.proofs.Fetched.{halves-length}

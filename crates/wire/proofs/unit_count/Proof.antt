@@ -1,4 +1,5 @@
--- `wire::unit_count` meets its contract. Assumes nothing.
+-- `wire::unit_count`: the return is `halves-length` of Fetched, read backwards: bytes hold half as many units; the second claim holds by definition. Assumes
+-- nothing.
 use Rattle.wire.proofs.Fetched.{halves-length}
 use mathlib.Core.Path.{sym, refl}
 use Rattle.wire.proofs.unit_count.Statement.{statement}
