@@ -1,4 +1,5 @@
--- `picks::count_at` meets its contract. Assumes nothing.
+-- `picks::count_at`: a case split on `glyphs`; both returns rewrite by it and join what `wire::count` and `wire::number_at` return; `words-length` keeps the
+-- place in range. Assumes nothing.
 use Rattle.wire.proofs.Fetched.{words-length}
 use native.Mathlib.Omega.{arith}
 use Rattle.label.specs.Sound.{nat}

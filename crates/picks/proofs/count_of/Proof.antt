@@ -1,4 +1,5 @@
--- `picks::count_of` meets its contract. Assumes nothing.
+-- `picks::count_of`: a case split on `turn`; the units are what `unit_count` returns, the glyphs a fourth of the numbers by `glyph-count` of the sound's Parts.
+-- Assumes nothing.
 use Rattle.sound.proofs.Parts.{glyph-count}
 use Rattle.label.specs.Fetched.{words}
 use Prim.Native.Nat.{ℕ, _/_}

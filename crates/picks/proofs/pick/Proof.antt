@@ -1,4 +1,5 @@
--- `picks::pick` meets its contract. Assumes nothing.
+-- `picks::pick`: each return is one law of Touches: `refuses-19`, `refuses-22`, `picks-stretch`; `asks` says what the tests tell of a sound run,
+-- `within-limits` admits the walk. Assumes nothing.
 use Rattle.picks.proofs.Touches.{Asked, asks, refuses-19, refuses-22, picks-stretch, within-limits}
 use Rattle.label.specs.Calls.{pickOutcome}
 use mathlib.Core.Path.{ap, _∙_}

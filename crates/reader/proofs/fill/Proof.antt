@@ -1,4 +1,5 @@
--- `reader::fill` meets its contract. Assumes nothing.
+-- `reader::fill`: the loop keeps the walk's place and that all parts before it are stored (`Filled` of Filling); a turn is `fills`, a refused entry impossible
+-- (`fill-never`), the end `clusters-end`, `glyphs-end`. Assumes nothing.
 use Prim.Native.Nat.{_+_, _-_}
 use native.Mathlib.Omega.{arith}
 use mathlib.Core.Path.{_≡_, sym, _∙_, ap}

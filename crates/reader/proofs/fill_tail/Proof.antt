@@ -1,4 +1,5 @@
--- `reader::fill_tail` meets its contract. Assumes nothing.
+-- `reader::fill_tail`: the loop keeps that storing the rest's tail here gives the whole tail stored at its start (`Storing` of Tails); `storing-room`,
+-- `storing-next` and `storing-end` carry turn and end. Assumes nothing.
 use Rattle.reader.proofs.Tails.{Storing, storing-start, Room, storing-room, storing-next, storing-end}
 use Rattle.reader.proofs.Stores.{opened-yes, room-pair}
 use lib.Seq.{sets}

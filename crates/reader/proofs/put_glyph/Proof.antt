@@ -1,4 +1,5 @@
--- `reader::put_glyph` meets its contract. Assumes nothing.
+-- `reader::put_glyph`: four stores one behind the other are the glyph's sixteen bytes, by `four-stored` of Stores; `back` of the wire's Signed turns both
+-- offsets' bits back. Assumes nothing.
 use Rattle.wire.proofs.Signed.{back}
 use Rattle.reader.proofs.Stores.{four-stored}
 use borrow.Author.Needs.{needs}

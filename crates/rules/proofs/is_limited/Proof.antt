@@ -1,4 +1,4 @@
--- `rules::is_limited` meets its contract. Assumes nothing.
+-- `rules::is_limited`: one rewriting by what the three calls of `plain::both` return. Assumes nothing.
 use borrow.Author.Needs.{needs}
 use Rattle.rules.proofs.is_limited.Statement.{statement}
 use Rattle.rules.proofs.is_limited.Tie as tie

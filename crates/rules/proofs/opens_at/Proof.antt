@@ -1,4 +1,5 @@
--- `rules::opens_at` meets its contract. Assumes nothing.
+-- `rules::opens_at`: unfolds `opensAt`; each of the three returns is one rewriting by what the callees return and by the branches taken, the second also by
+-- `and-true`. Assumes nothing.
 use Rattle.rules.specs.Rules.{opensAt}
 use mathlib.Core.Bool.{and-true}
 use borrow.Author.Needs.{needs}

@@ -1,4 +1,5 @@
--- `sheet::answer_to` meets its contract. Assumes nothing.
+-- `sheet::answer_to`: an accepted label is `accepted`, a refused one `told`, both of Answers; `number-small` and `place-small` let the refusal's two numbers
+-- fit. Assumes nothing.
 use Rattle.sheet.proofs.Answers.{accepted, number-small, place-small, told}
 use Rattle.sheet.specs.Records.{labelIn}
 use borrow.Author.Needs.{needs}

@@ -1,4 +1,5 @@
--- `sheet::judge` meets its contract. Assumes nothing.
+-- `sheet::judge`: the loop keeps that the header stands and n records stand before the place (`Counted` of Records); the returns are `judged-25`, `judged-26`,
+-- `judged-27` and `judged`. Assumes nothing.
 use Rattle.label.specs.Bytes.{ascii, begins}
 use Rattle.label.specs.Wire.{fromHalves}
 use Rattle.label.specs.Requests.Sheet.{header}

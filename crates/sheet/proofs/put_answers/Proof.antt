@@ -1,4 +1,5 @@
--- `sheet::put_answers` meets its contract. Assumes nothing.
+-- `sheet::put_answers`: the loop keeps that the answers before the place are stored and those left give the whole (`Stored` of Answers); a cut record is
+-- impossible, by `not-cut`. Assumes nothing.
 use native.Mathlib.Omega.{arith}
 use Prim.Native.Nat.{_+_, _-_, _/_, _<_}
 use mathlib.Core.Path.{sym, _∙_}

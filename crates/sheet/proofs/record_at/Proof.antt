@@ -1,4 +1,5 @@
--- `sheet::record_at` meets its contract. Assumes nothing.
+-- `sheet::record_at`: each return is one law of Records: `record-short` for fewer than six bytes, `record-cut` where the end lies past the file, `record-whole`
+-- otherwise. Assumes nothing.
 use mathlib.Core.Path.{_∙_}
 use borrow.Author.Needs.{needs}
 use Rattle.sheet.proofs.Records.{record-short, record-cut, record-whole}

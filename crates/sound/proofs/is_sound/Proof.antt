@@ -1,4 +1,5 @@
--- `sound::is_sound` meets its contract. Assumes nothing.
+-- `sound::is_sound`: the helper `tested` makes the code's counting tests the definition's; the returns are `not-limited`, `not-proper` and `well-left` of
+-- Sounds. Assumes nothing.
 use Rattle.sound.proofs.Sounds.{not-limited, not-proper, well-left}
 use Rattle.sound.proofs.Tests.{and-of}
 use Rattle.rules.specs.Rules.{wholeBytes, limited}

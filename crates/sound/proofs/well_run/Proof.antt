@@ -1,4 +1,5 @@
--- `sound::well_run` meets its contract. Assumes nothing.
+-- `sound::well_run`: the loop keeps that the test from this place on (`wellAt`) is the whole test; each turn and return goes by a `turn-..` law of Sounds, the
+-- last one with the code's final tests rewritten. Assumes nothing.
 use Rattle.sound.proofs.Sounds.{wellAt, empty-is, Turn, Numbers, Opened, turn-not-ok, turn-no-cluster, turn-not-named, turn-named, opens-here, turn-not-opened, turn-opened, turn-within, turn-end}
 use Rattle.sound.specs.Sounds.{wellRun}
 use Rattle.label.specs.Fetched.{halves, words}

@@ -1,4 +1,5 @@
--- `survey::count_tail` meets its contract. Assumes nothing.
+-- `survey::count_tail`: the loop keeps that n and the clusters of the rest's tail are all clusters (`Counting` of Endings); bad characters cannot occur, by
+-- `no-ill` and `no-outside` of the text's Moves. Assumes nothing.
 use Rattle.survey.proofs.Endings.{Counting, counting-start, counting-few, counting-next, counting-end}
 use Rattle.text.proofs.Moves.{no-ill, no-outside}
 use Rattle.utf8.proofs.Chars.{char-plain, char-inside}

@@ -1,4 +1,4 @@
--- `survey::first_place` meets its contract. Assumes nothing.
+-- `survey::first_place`: a case split on whether the indices are empty; both returns rewrite by `empty-yes` or `empty-no` of Entries. Assumes nothing.
 use Rattle.survey.proofs.Entries.{empty-yes, empty-no}
 use Rattle.survey.proofs.first_place.Statement.{statement}
 use Rattle.survey.proofs.first_place.Tie as tie

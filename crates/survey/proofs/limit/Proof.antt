@@ -1,4 +1,5 @@
--- `survey::limit` meets its contract. Assumes nothing.
+-- `survey::limit`: a case split at 4096 glyphs; both returns are a rewriting by that test, the refused one also by what `Reading::refused` returns. Assumes
+-- nothing.
 use mathlib.Core.Path.{refl}
 use borrow.Author.Needs.{needs}
 use borrow.Author.Tests.{le-leb, lt-leb}

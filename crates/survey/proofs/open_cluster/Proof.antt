@@ -1,4 +1,5 @@
--- `survey::open_cluster` meets its contract. Assumes nothing.
+-- `survey::open_cluster`: each outcome of `text::move_past` is one law of Placing: `opens-to`, `opens-past`, `opens-half`; `moves-fit` and `half-fit` keep the
+-- sums of units in range. Assumes nothing.
 use native.Mathlib.Omega.{arith}
 use mathlib.Core.Path.{refl}
 use borrow.Author.Needs.{needs}

@@ -1,4 +1,5 @@
--- `survey::survey` meets its contract. Assumes nothing.
+-- `survey::survey`: refusals go by `refuses` of Surveying with the cases of Judging (too long, refused text); an accepted text's units go by `text-units`,
+-- `read-units` and `judges`. Assumes nothing.
 use Rattle.survey.proofs.Surveying.{refuses, judges}
 use Rattle.survey.proofs.Judging.{text-long, indices-long, text-units, read-units, text-refused}
 use mathlib.Core.Path.{_∙_}

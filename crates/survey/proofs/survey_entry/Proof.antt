@@ -1,4 +1,5 @@
--- `survey::survey_entry` meets its contract. Assumes nothing.
+-- `survey::survey_entry`: an index alone goes by `turn-plain` of Placing, any other entry by what `take_entry` says; `steps-read` and `steps-refused` of
+-- Walking make each a step. Assumes nothing.
 use native.Mathlib.Omega.{arith}
 use mathlib.Core.Path.{_≡_, refl, sym, _∙_}
 use mathlib.Core.Bool.{true}

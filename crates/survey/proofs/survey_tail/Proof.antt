@@ -1,4 +1,5 @@
--- `survey::survey_tail` meets its contract. Assumes nothing.
+-- `survey::survey_tail`: `tail-counted` of Endings turns the counted tail into the run's counts; `tail-few` of the label's Tails keeps both sums in range.
+-- Assumes nothing.
 use native.Mathlib.Omega.{arith}
 use mathlib.Core.Path.{_∙_}
 use borrow.Author.Needs.{needs}

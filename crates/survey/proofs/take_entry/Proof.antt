@@ -1,4 +1,5 @@
--- `survey::take_entry` meets its contract. Assumes nothing.
+-- `survey::take_entry`: each return is one law of Placing: `turn-ten`, `turn-eleven`, `turn-opens`, `turn-further`; the helpers `enough` and `allowed` turn the
+-- code's flags into what checks 10 and 11 ask. Assumes nothing.
 use mathlib.Core.Bool.{true, not, _&&_, _||_}
 use mathlib.Core.Path.{_≡_, refl, sym, _∙_}
 use lib.Dec.{leb, eqb}

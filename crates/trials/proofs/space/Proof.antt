@@ -1,4 +1,4 @@
--- `trials::space` meets its contract. Assumes nothing.
+-- `trials::space`: the length of so many equal bytes, by `length-replicate` of ListN. Assumes nothing.
 use Prim.Native.Nat.{ℕ}
 use mathlib.Core.Path.{sym}
 use lib.ListN.{length-replicate}

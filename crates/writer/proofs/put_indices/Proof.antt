@@ -1,4 +1,5 @@
--- `writer::put_indices` meets its contract. Assumes nothing.
+-- `writer::put_indices`: the loop keeps that what is left to store, separators owed included, gives all indices (`Left`); a turn is `rest-further` or
+-- `rest-opens` with `entry-stored` of Stores. Assumes nothing.
 use native.Mathlib.Omega.{arith}
 use mathlib.Core.Path.{ap, _∙_}
 use Prim.Native.Nat.{ℕ, _+_, _-_, _*_, _≤_}

@@ -1,4 +1,5 @@
--- `writer::put_next` meets its contract. Assumes nothing.
+-- `writer::put_next`: a glyph wholly the font's has an entry without bytes (`empty-is-font`), so `led-none` of Stores; otherwise separators and entry, joined
+-- by `then`, are `led-some`. Assumes nothing.
 use native.Mathlib.Omega.{arith}
 use Rattle.octets.proofs.Puts.{none, then, put-as}
 use Rattle.writer.proofs.Stores.{glyph-is, led-none, led-some}
