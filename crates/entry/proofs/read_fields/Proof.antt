@@ -10,33 +10,37 @@ use Rattle.entry.proofs.read_fields.Statement.{statement}
 use Rattle.entry.proofs.read_fields.Tie as tie
 
 -- what the code found, behind the third field
-parted : (c : tie.After-field-at3)
-    → let a = c .before .before .before .before .before .before .before .before .before .args in Parted (a .s .now) (a .f)
-    (c .before .before .before .before .before .before .before .field-at .result) (c .before .before .field-at2 .result) (c .field-at3 .result)
+parted : (c : tie.After-field-at3) → let at-field-at2 = c .before .before in
+    let at-field-at = at-field-at2 .before .before .before .before .before in
+    let a = at-field-at .before .before .args in
+    Parted (a .s .now) (a .f) (at-field-at .field-at .result) (at-field-at2 .field-at2 .result) (c .field-at3 .result)
 parted c =
+    let at-field-at2 = c .before .before in
+    let at-field-at = at-field-at2 .before .before .before .before .before in
     record {
-      front = c .before .before .before .before .before .before .before .before .before .pre .0;
-      first = c .before .before .before .before .before .before .before .field-at .ensures .0;
-      second = c .before .before .field-at2 .ensures .0;
+      front = at-field-at .before .before .pre .0;
+      first = at-field-at .field-at .ensures .0;
+      second = at-field-at2 .field-at2 .ensures .0;
       third = c .field-at3 .ensures .0;
       inside = c .field-at3 .ensures .1;
     }
 
 -- the test for 7
-well : (c : tie.After-both5)
-    → let d = c .before .before .before .before .before .before .before .before in c .both5 .result ≡ Well
-    (d .before .before .before .before .before .before .before .before .before .args .s .now)
-    (d .before .before .before .before .before .before .before .before .before .args .f)
-    (d .before .before .before .before .before .before .before .field-at .result) (d .before .before .field-at2 .result) (d .field-at3 .result)
+well : (c : tie.After-both5) → let at-field-at3 = c .before .before .before .before .before .before .before .before in
+    let at-field-at2 = at-field-at3 .before .before in
+    let at-field-at = at-field-at2 .before .before .before .before .before in
+    let a = at-field-at .before .before .args in
+    c .both5 .result ≡ Well (a .s .now) (a .f) (at-field-at .field-at .result) (at-field-at2 .field-at2 .result) (at-field-at3 .field-at3 .result)
 well c =
     well-chain _ _ _ _ _ (c .before .before .before .before .before .both .ensures) (c .before .before .before .before .both2 .ensures)
     (c .before .before .before .both3 .ensures) (c .before .before .both4 .ensures) (c .before .ends-at .ensures) (c .both5 .ensures)
 
 -- and for 9
-fit : (c : tie.After-both7)
-    → let d = c .before .before .before .before .before .before .before .before .before .before .before .before .before .before .before .before in
-    c .both7 .result ≡ Fit (d .before .before .before .before .before .before .before .field-at .result .size) (d .before .before .field-at2 .result .size)
-    (d .field-at3 .result .size)
+fit : (c : tie.After-both7) → let at-both5 = c .before .before .before .before .before .before .before .before in
+    let at-field-at3 = at-both5 .before .before .before .before .before .before .before .before in
+    let at-field-at2 = at-field-at3 .before .before in
+    let at-field-at = at-field-at2 .before .before .before .before .before in
+    c .both7 .result ≡ Fit (at-field-at .field-at .result .size) (at-field-at2 .field-at2 .result .size) (at-field-at3 .field-at3 .result .size)
 fit c = within-chain _ _ _ (c .before .before .before .before .is-within .ensures) (c .before .before .before .is-within2 .ensures)
     (c .before .is-within3 .ensures) (c .before .before .both6 .ensures) (c .both7 .ensures)
 
