@@ -40,6 +40,7 @@ module _ (b : ℕ) {w : ℕ} (e : w ≡ b) where
   unfolding digitValue
   digit-small l h = rw (e, above-range 48 57 b (omega arith), within-is 97 102 b l h)
 
+-- a byte of none of the three ranges
 pub digit-none : (b : ℕ) → (48 ≤ b → 57 < b) → (65 ≤ b → 70 < b) → (97 ≤ b → 102 < b) → 16 ≡ digitValue b
 unfolding digitValue
 digit-none b t c s = rw (outside 48 57 b t, outside 97 102 b s, outside 65 70 b c)
@@ -180,6 +181,7 @@ module _ (base : ℕ) (o : base ≤ 16) where
     unfolding numberAt
     byte-is = eb ∙ ap (λ (m : Number). getD s (m .end) 0) e ∙ sym (getD-drop at s (length ds) 0)
 
+    -- no `;` stands behind the digits
     pub number-open : (b ≡ 59 → ⊥) → Bad ≡ referenceBy (numbered base) s at
     unfolding referenceBy
     number-open h = cases (isClosed (drop at s))
@@ -197,10 +199,12 @@ module _ (base : ℕ) (o : base ≤ 16) where
       unfolding numberAt
       value-is = ap (λ (m : Number). m .value) e
 
+      -- the number is no character
       pub number-outside : x ≡ false → Bad ≡ referenceBy (numbered base) s at
       unfolding referenceBy
       number-outside k = rw (here .0, whole, sym (cut-char (valueBehind base 0 ds)) ∙ ap xmlChar (sym value-is) ∙ sym ex ∙ k)
 
+      -- it is one
       pub number-good : x ≡ true → To (n .value) (n .end + 1) ≡ referenceBy (numbered base) s at
       unfolding referenceBy numberAt
       number-good k =

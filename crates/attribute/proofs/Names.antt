@@ -89,6 +89,7 @@ module _ (s : List ℕ) (at : ℕ) where
         )))
         (λ k. unfold referenceBy in rw k)
 
+-- the characters of the five names
 pub names : (predefined (ascii "amp") ≡ 38) × (predefined (ascii "lt") ≡ 60) × (predefined (ascii "gt") ≡ 62) × (predefined (ascii "quot") ≡ 34) × (predefined
     (ascii "apos") ≡ 39)
 unfolding predefined sameBytes ascii

@@ -242,9 +242,7 @@ module _ (t en r0 : List ℕ) (te : t ≡ en ++ r0) (k0 : ends isSemi r0 ≡ tru
         let s1 = stuck-one (ends isSemi) stuck-end in
         let s2 = stuck-one (one (ends isSemi)) s1 in
         scan-test t
-        ∙ head-test (first (one (one (ends isSemi)))) (stuck-first (one (one (ends isSemi)))
-        (stuck-one (one (ends isSemi)) (stuck-one (ends isSemi) stuck-end)))
-        (c .p) (c .r ++ r0) t headed
+        ∙ head-test (first (one (one (ends isSemi)))) (stuck-first (one (one (ends isSemi))) s2) (c .p) (c .r ++ r0) t headed
         ∙ rw (
           first-is (one (one (ends isSemi))) s2 (x .p) (x .r' ++ r0) (c .r ++ r0) (x .fld),
           one-is (one (ends isSemi)) s1 (y .p) (y .r' ++ r0) (x .r' ++ r0) (y .fld),

@@ -99,6 +99,7 @@ map-unused s m em h =
 
 -- ── map and index ──
 
+-- both put together
 pub code-front : (s : List ℕ) (m : MapPart) → m ≡ cutMap (mapOf s) → (d : Digits) → d ≡ digitsFrom 0 (drop (m .used) s) → (q o : Bool)
     → q ≡ (ltb 0 (d .count) || not (m .mapped)) → o ≡ (m .ok && q)
     → _≡_ {A = Front} (record {
@@ -195,6 +196,7 @@ module _ (k : ℕ) (s : List ℕ) (f : Front) (x y z : Field) (p : Parted s f x 
   said : entryRead (f .used + x .used + y .used + z .used) (roundedParts parts) (judged k parts s) ≡ entryHere k s
   said = rw (parts-are, scanned-is) at (bridge k s (rw parts-are (p .inside)))
 
+  -- 7, 8, 9, or what the entry says
   pub code-wrong : Well s f x y z ≡ false → Refused (refusal 7 k) ≡ entryHere k s
   code-wrong h = rw (well-is, h) at said
 
@@ -265,6 +267,7 @@ module _ (k : ℕ) (s : List ℕ) (f : Front) (x : Field) (ef : f ≡ frontOf s)
   unfolding Well OneWell
   one-well = rw (one-sum, and-true)
 
+  -- 7, 8, 9, or what the entry says
   pub one-wrong : OneWell s f x ≡ false → Refused (refusal 7 k) ≡ entryHere k s
   one-wrong w = code-wrong k s f x (notGiven 0) (notGiven 0) one-parted (one-well ∙ w)
 

@@ -38,6 +38,7 @@ pub data Fielded (x r t : List ℕ) : Type 0 where
       → fieldOf t .size ≡ fieldSize x → Fielded x r t
   wrong : isOffset x ≡ false → (fieldOf t .ok && ends isBreak (drop (fieldOf t .used) t)) ≡ false → Fielded x r t
 
+-- a field x behind its comma, and what follows it
 pub field-is : (x r : List ℕ) → none isBreak x ≡ true → ends isBreak r ≡ true → Fielded x r (44 ∷ (x ++ r))
 unfolding fieldOf isOffset unsigned
 field-is [] r n h = good refl (rw h) (rw h) (rw h) (rw h) (rw h)
@@ -69,6 +70,7 @@ field-stuck (b ∷ y) h = rw (or-left (eqb b 44) (eqb b 59) h)
 
 -- ── what the fields say ──
 
+-- an advance is an offset without `-`
 pub advance-field : (x : List ℕ) → isAdvance x ≡ (isOffset x && not (minus x))
 unfolding isAdvance isOffset
 advance-field [] = refl

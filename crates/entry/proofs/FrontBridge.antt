@@ -193,6 +193,7 @@ head-mapped y r n h = go (cutting isClose y)
         subst (λ (v : List ℕ). Headed (40 ∷ y) r (40 ∷ v)) (sym (ap (λ (v : List ℕ). v ++ r) q' ∙ append-assoc u (41 ∷ w) r))
         (inside u w p (none-right isBreak u (41 ∷ w) n') c (cutting isColon u))
 
+-- the part x in front, and what follows it
 pub head-is : (x r : List ℕ) → none isBreak x ≡ true → ends isBreak r ≡ true → Headed x r (x ++ r)
 unfolding mapOf
 head-is [] r n h = head-plain [] r r refl refl h refl (rw (at-break r h (λ b. eqb b 40 ≡ false) refl refl refl))

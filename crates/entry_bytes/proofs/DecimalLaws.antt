@@ -25,6 +25,7 @@ pub decimal-small : (n : ℕ) → n < 10 → (48 + n) ∷ [] ≡ decimal n
 unfolding decimal
 decimal-small n h = sym (dec-small n n h)
 
+-- all digits but the last, then the last
 pub decimal-step : (n : ℕ) → 10 ≤ n → decimal (n / 10) ++ ((48 + n % 10) ∷ []) ≡ decimal n
 unfolding decimal
 decimal-step n h = sym (dec-big n n h ∙ ap (λ (l : List ℕ). l ++ ((48 + n % 10) ∷ [])) (enough n (suc (n / 10)) (n / 10) (omega arith) (omega arith)))

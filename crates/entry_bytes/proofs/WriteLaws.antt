@@ -34,6 +34,7 @@ module _ (f : ℕ) where
   unfolding fraction
   frac-three n h = rw (ne-eqb (f % 100) 0 n, ne-eqb (f % 10) 0 h)
 
+-- what a test chooses
 pub choose-true : {A : Type 0} (t : Bool) (a b : A) → t ≡ true → a ≡ cond t a b
 choose-true t a b e = rw e
 
@@ -76,6 +77,7 @@ chosen w (pos n) = w n
 chosen w (negsuc n) = []
 
 module _ {w : ℕ → List ℕ} {g : ℤ → List ℕ} (is : (z : ℤ) → chosen w z ≡ g z) where
+  -- where g writes as `chosen` does, by the sign
   pub chosen-some : (z : ℤ) {b : Bool} {n : ℕ} → b ≡ natural z → n ≡ size z → b ≡ true → w n ≡ g z
   chosen-some (pos m) f d k = ap w d ∙ is (pos m)
   chosen-some (negsuc m) {b} f d k = clash b k f
@@ -119,6 +121,7 @@ blank-auv-is a u v e f g =
     let d = numberAdvance a in
     g ∙ rw (e, f) (sym (trim-empty (advanceBy valueBytes d) (partsUV u v) ∙ rw (advance-empty normal-writer d, given-is a)))
 
+-- nothing from a field on, or a comma, the field and what follows
 pub fields-blank : (l : List (List ℕ)) {b : Bool} → b ≡ empty (trim l) → b ≡ true → [] ≡ fields l
 unfolding fields joinRest
 fields-blank l e k = rw (empty-nil (trim l) (sym e ∙ k))
@@ -147,6 +150,7 @@ join-cond c [] [] = refl
 join-cond c [] (y ∷ l) = refl
 join-cond c (x ∷ xs) l = refl
 
+-- the index, then the fields
 pub entry-is : (a b : ℕ) (i d u v : ℤ) → indexBytes a b (numberIndex i) ++ fields (partsAUV d u v) ≡ entryBy valueBytes a b (glyphOf i d u v)
 unfolding entryBy glyphOf fields partsAUV partsUV partsV trim
 entry-is a b i d u v = sym (join-cond 44 (indexBytes a b (numberIndex i)) (trim (partsAUV d u v)))

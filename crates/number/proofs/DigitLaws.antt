@@ -23,6 +23,7 @@ use Rattle.number.specs.Digits.{cap, headOf, ends, lead, pushed, digitsF
 pub head-drop : (s : List ℕ) (i : ℕ) → headOf (drop i s) ≡ getD s i 0
 head-drop s i = rw (getD-drop, add-zero)
 
+-- before the end the next byte decides
 pub ends-at : (t : ℕ → Bool) (s : List ℕ) (i : ℕ) → i < length s → ends t (drop i s) ≡ t (getD s i 0)
 ends-at t s i h = rw (drop-cons s i 0 h)
 

@@ -230,6 +230,7 @@ number-parted u w e r nu nw h ne k x c = go (mant u (e ∷ (w ++ r)) (none-or is
             (rw (fractionDigits, c)) (rw c (sg .minus-is)) (rw c l)))
         inner v q (odd a b y g i) = wrong (rw (c, d, a, and-false)) (rw (m, f, power-is, gone n f, g, i isBreak (none-unsigned w nw), and-false))
 
+-- a part x without a comma or a semicolon, and what follows it
 pub number-is : (x r : List ℕ) → none isBreak x ≡ true → ends isBreak r ≡ true → Numbered x r (x ++ r)
 number-is x r n h = go (cutting isE x)
   where

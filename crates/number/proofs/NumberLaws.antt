@@ -135,6 +135,7 @@ pub letter-some : (b : ℕ) → isE b ≡ true → 0 < b
 letter-some zero e = absurd (false≢true e)
 letter-some (suc b) e = omega arith
 
+-- the exponent by its letter, and what the code makes of it
 pub expo-none : (t : List ℕ) → isE (headOf t) ≡ false → exponentOf t ≡ unraised
 unfolding exponentOf
 expo-none t h = rw h

@@ -69,10 +69,12 @@ pub none-right : (t : ℕ → Bool) (u v : List ℕ) → none t (u ++ v) ≡ tru
 none-right t [] v h = h
 none-right t (b ∷ u) v h = none-right t u v (and-r (not (t b)) (none t (u ++ v)) h)
 
+-- a list has elements where it is not empty
 pub some-is : (w : List ℕ) → ltb 0 (length w) ≡ not (empty w)
 some-is [] = refl
 some-is (b ∷ w) = lt-ltb 0 (suc (length w)) (omega arith)
 
+-- no byte of either kind
 pub none-or : (t q : ℕ → Bool) (x : List ℕ) → none t x ≡ true → none q x ≡ true → none (λ b. t b || q b) x ≡ true
 none-or t q [] h k = refl
 none-or t q (b ∷ x) h k =

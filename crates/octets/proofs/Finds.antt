@@ -12,6 +12,7 @@ use lib.ListN.{length, getD, drop, drop-of-length-le}
 use lib.Seq.{drop-cons}
 use Rattle.label.specs.Bytes.{cut}
 
+-- where the first byte b from place i on stands, or the end
 abbrev pub found : List ℕ → ℕ → ℕ → ℕ
 found s b i = i + length (cut (λ x. eqb x b) (drop i s) .before)
 

@@ -5,8 +5,10 @@ use mathlib.Core.Bool.{Bool, true, false, not, _&&_}
 use borrow.Author.Tests.{not-true, not-false}
 
 module _ {w h x : Bool} (t n : Bool) (p : w ≡ h) (q : h ≡ (t && n)) (e : x ≡ t) where
+  -- the test fails, and so does the whole
   pub stops : not x ≡ true → false ≡ w
   stops k = sym (p ∙ q ∙ ap (λ (b : Bool). b && n) (sym e ∙ not-true x k))
 
+  -- it holds, and what follows decides
   pub goes : not x ≡ false → w ≡ n
   goes k = p ∙ q ∙ ap (λ (b : Bool). b && n) (sym e ∙ not-false x k)

@@ -8,6 +8,7 @@ use native.Mathlib.Omega.{arith}
 use lib.ListN.{length, getD, drop}
 use lib.Seq.{drop-cons}
 
+-- a list without elements
 pub none-at : {A : Type 0} (l : List A) → length l ≡ 0 → l ≡ []
 none-at [] h = refl
 none-at (x ∷ l) h = absurd (omega arith)

@@ -25,6 +25,7 @@ pub puts-length : (l : List ℕ) (i : ℕ) (w : List ℕ) → length (puts l i w
 unfolding puts
 puts-length l i w = length-sets l i w
 
+-- nothing stored
 pub none : {l : List ℕ} {at : ℕ} → Put l at [] at l
 unfolding puts
 none {l} {at} = record { behind = sym (add-zero at); is = refl }
@@ -41,6 +42,7 @@ then {l} {m} {n} {x} {y} {at} {p} {q} f g =
 pub put-as : {l n x y : List ℕ} {at q : ℕ} → x ≡ y → Put l at x q n → Put l at y q n
 put-as {l} {n} {x} {y} {at} {q} e f = subst (λ (w : List ℕ). Put l at w q n) e f
 
+-- one byte, with room for it or past the end
 pub put-one : (l : List ℕ) (at b : ℕ) → Put l at (b ∷ []) (at + 1) (set l at b)
 unfolding puts
 put-one l at b = record { behind = refl; is = refl }
@@ -67,6 +69,7 @@ pub record Left (old whole now : List ℕ) (from at : ℕ) (rest : List ℕ) : T
 pub left-start : {l w : List ℕ} {at : ℕ} → Left l w l at at w
 left-start = record { count = refl; gives = refl; same = refl }
 
+-- a turn stores x, which stands in front of what is left
 pub left-next : {old whole l n x r : List ℕ} {from at p : ℕ} → Left old whole l from at (x ++ r) → Put l at x p n → Left old whole n from p r
 left-next {old} {whole} {l} {n} {x} {r} {from} {at} {p} f g =
     record {
@@ -75,6 +78,7 @@ left-next {old} {whole} {l} {n} {x} {r} {from} {at} {p} f g =
       same = ap length (g .is) ∙ puts-length l at x ∙ f .same;
     }
 
+-- nothing is left: all of it is stored
 pub left-end : {old whole l : List ℕ} {from at : ℕ} → Left old whole l from at [] → Put old from whole at l
 unfolding puts
 left-end {old} {whole} {l} {from} {at} f = record { behind = omega (arith, f .count); is = f .gives }

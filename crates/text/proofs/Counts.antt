@@ -38,6 +38,7 @@ reached-next s i n k c j l r h e =
       count = rw (length-append, r .count, e);
     }
 
+-- a character up to U+FFFF is one unit, any other two
 pub one-is : (c : ℕ) → c ≤ 65535 → unitsOf c ≡ c ∷ []
 unfolding unitsOf
 one-is c h = rw (le-leb c 65535 h)
@@ -50,6 +51,7 @@ two-are c h = rw (lt-leb c 65535 h)
 pub plain-one : (b : ℕ) → within 32 127 b ≡ true → 1 ≡ length (unitsOf b)
 plain-one b h = let k : b ≤ 127 = within-hi 32 127 b h in sym (ap length (one-is b (omega arith)))
 
+-- the walk stops at a fault, or at the end
 pub reached-ill : (s : List ℕ) (i n : ℕ) → i < length s → Reached s i n → charAt s i ≡ Ill → Refused 2 i ≡ textCount (decode 0 0 s)
 reached-ill s i n l r h = ap textCount (sym (ap (λ (o : Outcome (List ℕ)). onto (r .us) o) (char-reads s i l h)) ∙ r .so-far)
 

@@ -90,11 +90,13 @@ left-inside s at count b a k c j x n l g e m =
     (λ t. let z : ⊥ = omega (arith, n, e, m, ap length (one-is c (leb-true c 65535 t))) in absurd z)
     (λ t. let h : 65535 < c = leb-false c 65535 t in left-half s at count b a c j x (omega (arith, n, e, m, ap length (two-are c h))) l g h)
 
+-- the text ends before all units are passed
 pub left-past : (s : List ℕ) (at count b a : ℕ) → Left s at count b a → (a ≡ 0 → ⊥) → length s ≤ b → Moves s at count Past
 left-past s at count b a x n l =
     let e : [] ≡ x .r = ok-path [] (x .r) (sym (decode-end s b l) ∙ x .here) in
     lt-leb count (length (unitsFrom s at)) (omega (arith, n, x .counts, left-length s at count b a x, ap length e))
 
+-- all units are passed
 pub left-done : (s : List ℕ) (at count b a : ℕ) → Left s at count b a → a ≡ 0 → Moves s at count (To b)
 left-done s at count b a x n = (
   le-leb count (length (unitsFrom s at)) (omega (arith, n, x .counts, left-length s at count b a x)),
@@ -115,9 +117,3 @@ no-ill s b r h l g = no-ok 2 b r (sym (char-reads s b l g) ∙ h)
 
 pub no-outside : {A : Type 0} (s : List ℕ) (b : ℕ) (r : List ℕ) → decode 0 b (drop b s) ≡ ok r → b < length s → charAt s b ≡ Outside → A
 no-outside s b r h l g = no-ok 3 b r (sym (char-reads s b l g) ∙ h)
-
-pub left-no-ill : {A : Type 0} (s : List ℕ) (at count b a : ℕ) → Left s at count b a → b < length s → charAt s b ≡ Ill → A
-left-no-ill s at count b a x l g = no-ill s b (x .r) (x .here) l g
-
-pub left-no-outside : {A : Type 0} (s : List ℕ) (at count b a : ℕ) → Left s at count b a → b < length s → charAt s b ≡ Outside → A
-left-no-outside s at count b a x l g = no-outside s b (x .r) (x .here) l g

@@ -94,6 +94,7 @@ first-unit k at (b ∷ bs) all l h =
 braces : (t all : List ℕ) → decode 0 0 t ≡ ok all → braced all ≡ braced t
 braces t all h = first-unit 123 0 t all (omega arith) h
 
+-- so the units begin with `{}` where the bytes do, and only there
 pub marks : (t all : List ℕ) → decode 0 0 t ≡ ok all → marked all ≡ marked t
 marks [] all h = rw (← ok-path [] all (sym (decode-none 0 0) ∙ h))
 marks (b ∷ bs) all h =
@@ -149,6 +150,7 @@ within-of : (us : List ℕ) (at : ℕ) → unitsWithin (length us) at ≡ unitsR
 unfolding unitsWithin
 within-of us at = cases (leb (length us) maxUnits) (λ t. rw t) (λ t. rw t)
 
+-- 2 or 3
 pub survey-refused : (t : List ℕ) (n p : ℕ) → textCount (decode 0 0 t) ≡ C.Refused n p → Refused (refusal n p) ≡ textRead t
 unfolding textRead
 survey-refused t n p h = go (decode 0 0 t) refl h

@@ -57,6 +57,7 @@ pub escape-other : (b : ℕ) → NoneOf (13 ∷ 10 ∷ 9 ∷ 34 ∷ 60 ∷ 38 �
 unfolding escapeByte
 escape-other b ((((((u, n), o), p), q), r), s) = rw (ne-eqb b 38 n, ne-eqb b 60 o, ne-eqb b 34 p, ne-eqb b 9 q, ne-eqb b 10 r, ne-eqb b 13 s)
 
+-- a character of one byte is escaped as that byte; no other has one of the six
 pub asked-ascii : (e : Bool) (u v : ℕ) → (e && leb u 127) ≡ true → escapeByte u ≡ asAsked e (unitBytes u v)
 asked-ascii true u v h = sym (unit-ascii u v (leb-true u 127 h))
 asked-ascii false u v h = absurd (false≢true h)

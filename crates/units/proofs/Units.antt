@@ -21,10 +21,12 @@ unfolding properUnits unitOk nextHalf
 proper-cons true u l h = refl
 proper-cons false u l h = rw (le-leb u 65535 (omega arith))
 
+-- the unit at a place, and what it asks of the next
 pub proper-here : (half : Bool) (us : List ℕ) (j : ℕ) {u : ℕ} → j < length us → u ≡ getD us j 0 → u < 65536
     → properUnits half (drop j us) ≡ (unitOk half u && properUnits (nextHalf half u) (drop (j + 1) us))
 proper-here half us j {u} h e f = rw (add-one, drop-cons us j 0 h, ← e) (proper-cons half u (drop (suc j) us) f)
 
+-- at the end no high half may be open
 pub proper-end : (half : Bool) (us : List ℕ) (j : ℕ) → length us ≤ j → properUnits half (drop j us) ≡ not half
 unfolding properUnits
 proper-end half us j h = rw (drop-of-length-le us h, properUnits)

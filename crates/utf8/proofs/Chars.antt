@@ -125,6 +125,7 @@ char-plain s i h =
     let k : getD s i 0 ≤ 127 = within-hi 32 127 (getD s i 0) h in
     sym (char-one s i refl (rw (xml-mid (getD s i 0) l (omega arith))) (omega arith))
 
+-- the same by a number c that is the byte
 pub char-plain-as : (s : List ℕ) (i c : ℕ) → c ≡ getD s i 0 → within 32 127 (getD s i 0) ≡ true → charAt s i ≡ Good c (i + 1)
 char-plain-as s i c e h = rw e (char-plain s i h)
 
@@ -132,10 +133,12 @@ module _ (s : List ℕ) (i : ℕ) (r : Trailing) (e : r ≡ lead (getD s i 0)) w
   by-lead : {t : Bool} → (r .fits && trail (r .more) (r .lo) (r .hi) (drop (i + 1) s)) ≡ t → startsChar (getD s i 0) (drop (i + 1) s) ≡ t
   by-lead h = starts-is (getD s i 0) (drop (i + 1) s) ∙ rw (← e) h
 
+  -- no row has its first byte
   pub char-unfit : r .fits ≡ false → Ill ≡ charAt s i
   unfolding charAt
   char-unfit h = rw (by-lead {t = false} (rw h))
 
+  -- the bytes behind it are not the row's
   pub char-cut : trail (r .more) (r .lo) (r .hi) (drop (i + 1) s) ≡ false → Ill ≡ charAt s i
   unfolding charAt
   char-cut h = rw (by-lead {t = false} (rw (h, and-false (r .fits))))
@@ -190,11 +193,14 @@ module _ (s : List ℕ) (i : ℕ) (l : i < length s) where
       (λ t. rw t tt)
 
   module _ {x : Char} (h : charAt s i ≡ x) where
+    -- what the code found there decides what is read
     pub char-reads : decode 0 i (drop i s) ≡ reading s i x
     char-reads = reads-here ∙ ap (λ (y : Char). reading s i y) h
 
+    -- and whether it may stand
     pub char-stands : Standing s i x
     char-stands = subst (λ (y : Char). Standing s i y) h stands-here
 
+-- its bytes are within the text
 pub char-inside : (s : List ℕ) (i c j : ℕ) → i < length s → charAt s i ≡ Good c j → (i < j) × (j ≤ length s)
 char-inside s i c j l h = let x = char-stands s i l h in (x .1, x .2)

@@ -72,6 +72,7 @@ by-none b h k =
 
 -- ── the bytes behind the first ──
 
+-- a turn of the code's loop: no byte is asked for, none is there, it is below or above the range, or within it
 pub trail-done : (k l h : ℕ) (s : List ℕ) → k ≡ 0 → trail k l h s ≡ true
 unfolding trail
 trail-done k l h s e = rw e
@@ -107,6 +108,7 @@ trail-inside zero l h s t = omega arith
 trail-inside (suc n) l h [] t = absurd (false≢true t)
 trail-inside (suc n) l h (b ∷ s) t = omega (arith, trail-inside n 128 191 s (and-r (within l h b) (trail n 128 191 s) t))
 
+-- and so the place behind them is within the text
 pub trail-fits : (s : List ℕ) (i n l h : ℕ) → i < length s → trail n l h (drop (i + 1) s) ≡ true → i + 1 + n ≤ length s
 trail-fits s i n l h p t = omega (arith, rw length-drop at (trail-inside n l h (drop (i + 1) s) t))
 

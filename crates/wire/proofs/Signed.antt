@@ -21,7 +21,7 @@ use Rattle.label.proofs.Basics.{cases}
 pub low-is : (v : ℤ) → toZ w32 (bitAnd (ofZ w32 v) 2147483647) ≡ pos (ofZ w32 v % 2147483648)
 low-is v = rw (and-mask (ofZ w32 v) 31) (toZ-pos w32 (omega arith))
 
--- the test `v < 0`, before the round trip of the machine is taken away
+-- the test `v < 0` by the bits
 neg-by : (v : ℤ) → SFits w32 v → ltZ v (pos 0) ≡ true → 2147483648 ≤ ofZ w32 v
 neg-by (pos n) f t = omega (arith, ltb-true n 0 t)
 neg-by (negsuc n) f t = omega arith
@@ -30,6 +30,7 @@ nonneg-by : (v : ℤ) → SFits w32 v → ltZ v (pos 0) ≡ false → ofZ w32 v 
 nonneg-by (pos n) f t = omega arith
 nonneg-by (negsuc n) f t = let z : _≡_ {A = ℕ} 0 1 = cc t in omega arith
 
+-- the same test on the number that the machine takes back from its bits
 pub neg-bits : (v : ℤ) → SFits w32 v → ltZ (toZ w32 (ofZ w32 v)) (pos 0) ≡ true → 2147483648 ≤ ofZ w32 v
 neg-bits v f t = neg-by v f (sym (ap (λ (z : ℤ). ltZ z (pos 0)) (toZ-ofZ f)) ∙ t)
 

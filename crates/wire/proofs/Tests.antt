@@ -14,6 +14,7 @@ use Rattle.label.proofs.Basics.{cases}
 use Rattle.wire.specs.Numbers.{glyphOf}
 
 module _ (n : ℕ) where
+  -- the number that the bits stand for, by the highest of them
   pub low : n < 2147483648 → signed n ≡ pos n
   unfolding signed
   low h = rw (lt-ltb n 2147483648 h)
@@ -44,6 +45,7 @@ module _ (n : ℕ) where
   pub nat-high : 2147483648 ≤ n → 0 ≡ nat (signed n)
   nat-high h = rw (high h)
 
+-- an index is named, and an advance given, where its number is not negative
 pub named-is : (z : ℤ) → natural z ≡ named (numberIndex z)
 named-is (pos n) = refl
 named-is (negsuc n) = refl

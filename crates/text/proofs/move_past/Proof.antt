@@ -1,4 +1,4 @@
--- `text::move_past`: the loop keeps `Left`: units passed and units left are all, and a are still to pass; each turn and return is one `left` law of Moves.
+-- `text::move_past`: the loop keeps `Left`: units passed and units left are all, and a are still to pass; each turn and return is one law of Moves.
 -- Assumes nothing.
 use Prim.Native.Nat.{_-_}
 use native.Mathlib.Omega.{arith}
@@ -7,7 +7,7 @@ use borrow.Author.Needs.{needs}
 use lib.ListN.{length}
 use Rattle.utf8.proofs.Chars.{char-plain, char-inside}
 use Rattle.text.proofs.Counts.{plain-one}
-use Rattle.text.proofs.Moves.{Left, left-start, left-next, left-inside, left-past, left-done, left-no-ill, left-no-outside}
+use Rattle.text.proofs.Moves.{Left, left-start, left-next, left-inside, left-past, left-done, no-ill, no-outside}
 use Rattle.text.proofs.move_past.Statement.{statement}
 use Rattle.text.proofs.move_past.Tie as tie
 
@@ -91,7 +91,7 @@ returns-3 c =
     let at-char-at = c .before .before in
     let at-if1 = at-char-at .before .before .before .before in
     let at-loop = at-if1 .before .before in
-    left-no-ill _ _ _ _ _ (at-loop .loop .inv) (at-if1 .if1 .left) (sym (at-char-at .char-at .ensures) ∙ c .enum-told .given .1)
+    no-ill _ _ _ (at-loop .loop .inv .here) (at-if1 .if1 .left) (sym (at-char-at .char-at .ensures) ∙ c .enum-told .given .1)
 
 enum-told-2 : tie.Need-enum-told-2 Inv-loop μ-loop
 enum-told-2 c = search needs
@@ -101,7 +101,7 @@ returns-4 c =
     let at-char-at = c .before .before in
     let at-if1 = at-char-at .before .before .before .before in
     let at-loop = at-if1 .before .before in
-    left-no-outside _ _ _ _ _ (at-loop .loop .inv) (at-if1 .if1 .left) (sym (at-char-at .char-at .ensures) ∙ c .enum-told2 .given .1)
+    no-outside _ _ _ (at-loop .loop .inv .here) (at-if1 .if1 .left) (sym (at-char-at .char-at .ensures) ∙ c .enum-told2 .given .1)
 
 returns-5 : tie.Need-returns-5 Inv-loop μ-loop
 returns-5 c = left-done _ _ _ _ _ (c .before .loop .inv) (c .loop-test .left)

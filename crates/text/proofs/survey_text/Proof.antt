@@ -44,12 +44,18 @@ returns-2 c =
     (at-if1 .if1 .left) (at-byte-or-zero2 .byte-or-zero2 .ensures .0) (c .if2 .taken)
 
 sub-limited : tie.Need-sub-limited
-sub-limited c = omega (
-  arith,
-  marked-two (c .before .before .before .before .before .before .before .before .before .args .text .now) _
-      (sym (c .before .before .before .before .before .before .before .count-units .ensures) ∙ c .before .before .before .before .before .n .given .1)
-      (c .before .before .before .byte-or-zero .ensures .0) (c .before .before .if1 .left) (c .before .byte-or-zero2 .ensures .0) (c .if2 .left),
-)
+sub-limited c =
+    let at-byte-or-zero2 = c .before in
+    let at-if1 = at-byte-or-zero2 .before in
+    let at-byte-or-zero = at-if1 .before in
+    let at-n = at-byte-or-zero .before .before in
+    let at-count-units = at-n .before .before in
+    let at-start = at-count-units .before .before in
+    omega (
+      arith,
+      marked-two (at-start .args .text .now) _ (sym (at-count-units .count-units .ensures) ∙ at-n .n .given .1) (at-byte-or-zero .byte-or-zero .ensures .0)
+          (at-if1 .if1 .left) (at-byte-or-zero2 .byte-or-zero2 .ensures .0) (c .if2 .left),
+    )
 
 limited-requires-2 : tie.Need-limited-requires-2
 limited-requires-2 c κs = search needs

@@ -1,4 +1,4 @@
--- `utf8::judged`: the test decides; each return is the definition's case. Assumes nothing.
+-- `utf8::judged`: by the test, the two cases of its contract. Assumes nothing.
 use mathlib.Core.Path.{sym, _∙_}
 use borrow.Author.Needs.{needs}
 use Rattle.utf8.proofs.judged.Statement.{statement}
