@@ -1,4 +1,4 @@
--- `picks::count_at` meets its contract. Assumes nothing.
+-- `picks::count_at`: by the flag; either number is fetched, and counted as `nat` does. Assumes nothing.
 use Rattle.wire.proofs.Fetched.{words-length}
 use native.Mathlib.Omega.{arith}
 use Rattle.label.specs.Sound.{nat}

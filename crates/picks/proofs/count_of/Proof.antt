@@ -1,4 +1,4 @@
--- `picks::count_of` meets its contract. Assumes nothing.
+-- `picks::count_of`: by the flag; a glyph is four numbers (law `glyph-count`). Assumes nothing.
 use Rattle.sound.proofs.Parts.{glyph-count}
 use Rattle.label.specs.Fetched.{words}
 use Prim.Native.Nat.{ℕ, _/_}

@@ -1,4 +1,4 @@
--- `picks::start_at` meets its contract. Assumes nothing.
+-- `picks::start_at`: by the test. Assumes nothing.
 use borrow.Author.Tests.{le-leb, lt-leb}
 use Rattle.picks.proofs.start_at.Statement.{statement}
 use Rattle.picks.proofs.start_at.Tie as tie

@@ -1,4 +1,5 @@
--- `picks::touched_by` meets its contract. Assumes nothing.
+-- `picks::touched_by`: the loop keeps "what is touched is what is touched from this cluster on" (`touchedAt`); it ends at the cluster that holds the last one
+-- picked, or behind all. Assumes nothing.
 use Rattle.picks.proofs.Touches.{touchedAt, walk-start, walk-end, walk-stop, walk-on, sum-at}
 use Rattle.picks.specs.Ways.{way}
 use Rattle.sound.specs.Sounds.{unitSum}

@@ -1,4 +1,5 @@
--- `reader::fill` meets its contract. Assumes nothing.
+-- `reader::fill`: the loop keeps `Filled`: the walk stands at the cursor, and the parts before it are stored; an entry of either kind goes on by one law
+-- (`fills`), and behind the last the tail completes the run. Assumes nothing.
 use Prim.Native.Nat.{_+_, _-_}
 use native.Mathlib.Omega.{arith}
 use mathlib.Core.Path.{_≡_, sym, _∙_, ap}

@@ -1,4 +1,4 @@
--- `reader::put_entry` meets its contract. Assumes nothing.
+-- `reader::put_entry`: the callees' equations, with the units that the entry takes put in. Assumes nothing.
 use borrow.Author.Needs.{needs}
 use Rattle.reader.proofs.put_entry.Statement.{statement}
 use Rattle.reader.proofs.put_entry.Tie as tie

@@ -1,4 +1,4 @@
--- `reader::put_glyph` meets its contract. Assumes nothing.
+-- `reader::put_glyph`: four numbers stored one behind the other are the glyph's bytes (law `four-stored`). Assumes nothing.
 use Rattle.wire.proofs.Signed.{back}
 use Rattle.reader.proofs.Stores.{four-stored}
 use borrow.Author.Needs.{needs}

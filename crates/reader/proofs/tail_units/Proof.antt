@@ -1,4 +1,4 @@
--- `reader::tail_units` meets its contract. Assumes nothing.
+-- `reader::tail_units`: by whether a pair stands there. Assumes nothing.
 use Rattle.reader.proofs.Tails.{wide-pair, wide-plain}
 use lib.ListN.{drop}
 use Rattle.label.specs.Fetched.{halves}

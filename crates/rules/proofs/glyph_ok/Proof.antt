@@ -1,4 +1,4 @@
--- `rules::glyph_ok` meets its contract. Assumes nothing.
+-- `rules::glyph_ok`: the code's flags, put in last to first, are the definition's test. Assumes nothing.
 use Rattle.rules.specs.Rules.{glyphOk}
 use borrow.Author.Needs.{needs}
 use Rattle.rules.proofs.glyph_ok.Statement.{statement}

@@ -1,4 +1,4 @@
--- `sheet::judge` meets its contract. Assumes nothing.
+-- `sheet::judge`: the loop keeps "so many records stand before here" (`Counted`); 25, 26, 27 and the count are one law of Records each. Assumes nothing.
 use Rattle.label.specs.Bytes.{ascii, begins}
 use Rattle.label.specs.Wire.{fromHalves}
 use Rattle.label.specs.Requests.Sheet.{header}

@@ -1,4 +1,4 @@
--- `sheet::record_at` meets its contract. Assumes nothing.
+-- `sheet::record_at`: the file ends inside the two lengths, inside what they count, or behind it: one law of Records each. Assumes nothing.
 use mathlib.Core.Path.{_∙_}
 use borrow.Author.Needs.{needs}
 use Rattle.sheet.proofs.Records.{record-short, record-cut, record-whole}

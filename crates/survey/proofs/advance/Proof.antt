@@ -1,4 +1,4 @@
--- `survey::advance` meets its contract. Assumes nothing.
+-- `survey::advance`: by whether a cluster is open, one rewriting each; the sums are closed by search. Assumes nothing.
 use borrow.Author.Needs.{needs}
 use borrow.Author.Tests.{eq-eqb, ne-eqb}
 use Rattle.survey.specs.Steps.{advanced}

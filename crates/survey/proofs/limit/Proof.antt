@@ -1,4 +1,4 @@
--- `survey::limit` meets its contract. Assumes nothing.
+-- `survey::limit`: by the test of 15; the count of rounded fields goes along. Assumes nothing.
 use mathlib.Core.Path.{refl}
 use borrow.Author.Needs.{needs}
 use borrow.Author.Tests.{le-leb, lt-leb}

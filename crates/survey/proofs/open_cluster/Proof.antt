@@ -1,4 +1,4 @@
--- `survey::open_cluster` meets its contract. Assumes nothing.
+-- `survey::open_cluster`: the three answers of `move_past` are the cluster, 12 and 13, by one law of Placing each. Assumes nothing.
 use native.Mathlib.Omega.{arith}
 use mathlib.Core.Path.{refl}
 use borrow.Author.Needs.{needs}

@@ -1,4 +1,4 @@
--- `survey::survey` meets its contract. Assumes nothing.
+-- `survey::survey`: 1 by each length, then what the text is read as: each return is one law of Surveying, over what Judging says of `read`. Assumes nothing.
 use Rattle.survey.proofs.Surveying.{refuses, judges}
 use Rattle.survey.proofs.Judging.{text-long, indices-long, text-units, read-units, text-refused}
 use mathlib.Core.Path.{_∙_}

@@ -1,4 +1,4 @@
--- `survey::survey_tail` meets its contract. Assumes nothing.
+-- `survey::survey_tail`: the tail has as many glyphs as clusters, so one count serves both (law `tail-counted`). Assumes nothing.
 use native.Mathlib.Omega.{arith}
 use mathlib.Core.Path.{_∙_}
 use borrow.Author.Needs.{needs}

@@ -1,4 +1,5 @@
--- `survey::take_entry` meets its contract. Assumes nothing.
+-- `survey::take_entry`: 10, 11, a cluster that opens and a further glyph are one law of Placing each, by the code's flags put together (`enough`, `allowed`).
+-- Assumes nothing.
 use mathlib.Core.Bool.{true, not, _&&_, _||_}
 use mathlib.Core.Path.{_≡_, refl, sym, _∙_}
 use lib.Dec.{leb, eqb}

@@ -1,4 +1,4 @@
--- `trials::print_next` meets its contract: the two lines lie within the input, and the place behind them is further on. Assumes nothing.
+-- `trials::print_next`: the two lines lie within the input, and the place behind them is further on. Assumes nothing.
 use borrow.Author.Needs.{needs}
 use Rattle.trials.proofs.print_next.Statement.{statement}
 use Rattle.trials.proofs.print_next.Tie as tie

@@ -1,4 +1,4 @@
--- `writer::owes` meets its contract. Assumes nothing.
+-- `writer::owes`: by the flag. Assumes nothing.
 use native.Mathlib.Omega.{arith}
 use borrow.Author.Needs.{needs}
 use Rattle.writer.proofs.owes.Statement.{statement}

@@ -1,4 +1,5 @@
--- `writer::put_indices` meets its contract. Assumes nothing.
+-- `writer::put_indices`: the loop keeps "what is left to store gives the whole" (`Left`), with the separators that are owed; either turn stores one entry (law
+-- `entry-stored`). Assumes nothing.
 use native.Mathlib.Omega.{arith}
 use mathlib.Core.Path.{ap, _∙_}
 use Prim.Native.Nat.{ℕ, _+_, _-_, _*_, _≤_}

@@ -1,4 +1,5 @@
--- `writer::put_next` meets its contract. Assumes nothing.
+-- `writer::put_next`: an entry has no bytes exactly where its glyph is wholly the font's (`blank`); else the separators and the entry are stored one behind the
+-- other. Assumes nothing.
 use native.Mathlib.Omega.{arith}
 use Rattle.octets.proofs.Puts.{none, then, put-as}
 use Rattle.writer.proofs.Stores.{glyph-is, led-none, led-some}

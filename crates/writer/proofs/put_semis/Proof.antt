@@ -1,4 +1,4 @@
--- `writer::put_semis` meets its contract. Assumes nothing.
+-- `writer::put_semis`: the loop keeps "what is left to store gives the whole" (`Left`). Assumes nothing.
 use native.Mathlib.Omega.{arith}
 use Prim.Native.Nat.{_+_}
 use mathlib.Core.Path.{_≡_, refl}
