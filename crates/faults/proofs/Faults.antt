@@ -1,4 +1,4 @@
--- The part that a fault shows.
+-- The part that a fault shows: entry k by a walk over the entries (`partFrom`), which part is shown, and that it lies inside its owner.
 -- Assumes nothing.
 use Prim.Native.Nat.{ℕ, zero, suc, _+_, _-_, _≤_, _<_}
 use native.Mathlib.Omega.{arith}
@@ -44,6 +44,7 @@ in-next h es i r =
     (λ t. rw (t, le-ltb (suc r) (suc (length es)) (omega (arith, ltb-false r (length es) t))))
 
 module _ (s : List ℕ) (i end : ℕ) (hi : i ≤ length s) (he : end ≡ i + length (here (drop i s))) where
+  -- the entry at place i, which ends at `end`, is passed, or is the one that is asked for
   pub from-next : (r : ℕ) → (r ≡ 0 → ⊥) → partFrom s i r ≡ partFrom s (end + 1) (r - 1)
   unfolding partFrom
   from-next zero n = absurd (n refl)
@@ -76,6 +77,7 @@ module _ (t s : List ℕ) (n p : ℕ) where
   unfolding faultPart
   part-none b e h o = rw (sym e ∙ h, o)
 
+  -- a part of the text starts inside it
   pub part-starts : (b : Bool) → b ≡ (ofText n && ltb p (length t)) → b ≡ true → p ≤ length t
   part-starts b e h =
       let l : p < length t = ltb-true p (length t) (and-r (ofText n) (ltb p (length t)) (sym e ∙ h)) in

@@ -1,4 +1,4 @@
--- What a verdict says: a number is given by the first cause that holds, and memory is filled or kept.
+-- What a verdict says: a number is given by the first cause that holds, and memory is filled or kept; by induction over the checks.
 -- Assumes nothing.
 use Prim.Native.Nat.{ℕ}
 use mathlib.Core.Path.{_≡_, refl, sym, _∙_, ap}

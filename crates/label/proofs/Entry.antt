@@ -1,4 +1,5 @@
--- An entry that a writer makes is read back: its map and its glyph.
+-- An entry that a writer makes is read back: its map and its glyph. Each of the four parts reads back by itself, and the split gives the parts that were
+-- joined.
 -- Assumes nothing.
 use Prim.Native.Nat.{ℕ, suc, _≤_, _<_}
 use native.Mathlib.Omega.{arith}

@@ -1,4 +1,4 @@
--- The entries without bytes are those that are wholly the font's.
+-- The entries without bytes are those that are wholly the font's: an entry's four parts are empty exactly where they are left to the font, or offsets of 0.
 -- Assumes nothing.
 use Prim.Native.Nat.{ℕ, suc}
 use native.Mathlib.Omega.{arith}

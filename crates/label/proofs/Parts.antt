@@ -1,4 +1,5 @@
--- Parts by their counts: every place in exactly one; a run's counts add up; a run's numbers and back; the stretch that a pick gives; the cluster map.
+-- Parts by their counts: every place in exactly one; a run's counts add up; a run's numbers and back; the stretch that a pick gives; the cluster map. By
+-- induction over the counts, the glyphs or the clusters.
 -- Assumes nothing.
 use Prim.Native.Nat.{ℕ, zero, suc, _+_, _*_, _-_, _≤_, _<_}
 use native.Mathlib.Omega.{arith}
@@ -30,6 +31,7 @@ abbrev pub sum : List ℕ → ℕ
 sum [] = 0
 sum (n ∷ ns) = n + sum ns
 
+-- every place is in a part
 pub find : (ns : List ℕ) (i : ℕ) → i < sum ns → (j : ℕ) × In ns j i
 find [] i h = absurd (not-suc-le-zero h)
 find (n ∷ ns) i h =
@@ -39,6 +41,7 @@ find (n ∷ ns) i h =
     let (j, x) = find ns (i - n) (omega arith) in
     (suc j, record { exists = omega (arith, x .exists); from = omega (arith, x .from); below = omega (arith, x .below) }))
 
+-- and places in order are in parts in order
 pub order : (ns : List ℕ) (i i′ j k : ℕ) → i ≤ i′ → In ns j i → In ns k i′ → j ≤ k
 order [] i i′ j k h x y = absurd (not-suc-le-zero (x .exists))
 order (n ∷ ns) i i′ zero k h x y = omega arith
@@ -194,6 +197,7 @@ holding-whole ns to first end j k h x y =
       least = λ a b f. (f j tj .0, f k tk .1);
     }
 
+-- a pick gives whole clusters
 pub touched-whole : (cs : List Cluster) (first end : ℕ) → first < end → end ≤ sum (glyphCounts cs)
     → ClustersTouched (glyphCounts cs) (unitCounts cs) first end (touched first end cs)
 unfolding touched
@@ -230,6 +234,7 @@ behind-it zero g k r h = let e : k - 0 ≡ k = omega arith in rw e
 behind-it (suc n) g zero r h = absurd (not-suc-le-zero h)
 behind-it (suc n) g (suc k) r h = let e : suc k - suc n ≡ k - n = omega arith in rw e (behind-it n g k r (omega arith))
 
+-- the entry of a unit is the first glyph of its cluster
 pub map-at : (cs : List Cluster) (g j k : ℕ) → In (unitCounts cs) j k → getD (clusterMap g cs) k 0 ≡ g + partStart (glyphCounts cs) j
 unfolding clusterMap
 map-at [] g j k x = absurd (not-suc-le-zero (x .exists))

@@ -1,4 +1,4 @@
--- What `holding` finds is the stretch of the cluster that holds the glyph.
+-- What `holding` finds is the stretch of the cluster that holds the glyph: by induction over the clusters.
 -- Assumes nothing.
 use Prim.Native.Nat.{ℕ, zero, suc, _+_, _-_, _≤_, _<_}
 use native.Mathlib.Omega.{arith}

@@ -1,4 +1,5 @@
--- Places that are handed in: those of a run name the run, and the soundness test says exactly that some accepted label reads as them.
+-- Places that are handed in: those of a run name the run, as numbers go to bytes and back, and the soundness test says exactly that some accepted label
+-- reads as them (`read-sound`, `read-back`).
 -- Assumes nothing.
 use Prim.Native.Nat.{ℕ, _+_}
 use native.Mathlib.Omega.{arith}

@@ -1,4 +1,4 @@
--- Where refusals are: their numbers and places are bounded.
+-- Where refusals are: their numbers and places are bounded. A bound goes through `need` and `>>=`, so it follows the steps of the reading.
 -- Assumes nothing.
 use mathlib.Core.Path.{_≡_, refl}
 use mathlib.Core.Bool.{Bool, true, false, cond, not, _&&_, _||_}

@@ -1,4 +1,5 @@
--- The walk over the entries that a writer makes gives back the clusters and the glyphs.
+-- The walk over the entries that a writer makes gives back the clusters and the glyphs: one induction over the glyphs, in which reader, writer and test go
+-- together (`walk-back`). What an accepted step and walk are made of.
 -- Assumes nothing.
 use Prim.Native.Nat.{ℕ, zero, suc, _+_, _*_, _-_, _≤_, _<_}
 use native.Mathlib.Omega.{arith}
@@ -205,6 +206,7 @@ may-opens us c g gs h =
         let v : b ≡ 1 = eqb-true b 1 (and-r (eqb a 1) (eqb b 1) h) in
         clash (maps a b) k (rw (u, v))
 
+-- where pairs stay whole, none is split behind the units taken
 pub whole-drop : (a : ℕ) (us : List ℕ) → keepsPair a us ≡ true → keepsPair 0 (drop a us) ≡ true
 whole-drop a us h = rw (getD-drop a us 0 0, add-zero a) h
 

@@ -1,4 +1,4 @@
--- How large a sound run and its writing can be.
+-- How large a sound run and its writing can be: a cluster has a glyph, and text and indices have the bounds of the way back.
 -- Assumes nothing.
 use Prim.Native.Nat.{ℕ, zero, suc, _-_, _≤_}
 use native.Mathlib.Omega.{arith}

@@ -1,4 +1,5 @@
--- What is read is sound, and what a writer makes of a sound run reads as it.
+-- What is read is sound, by what each accepted step says (`read-sound`), and what a writer makes of a sound run reads as it, by the ways back of text and
+-- indices (`read-back`).
 -- Assumes nothing.
 use Prim.Native.Nat.{ℕ, zero, suc, _+_, _-_, _/_, _%_, _≤_}
 use native.Mathlib.Omega.{arith}
@@ -181,6 +182,7 @@ may-open-is us e gs f h10 h12 h13 =
     (λ m. rw (eq-eqb (e .units) 1 (f .no-map m .0), eq-eqb (e .glyphs) 1 (f .no-map m .1)) (or-true (named (e .glyph .index)))) in
     rw (and-l (leb 1 (e .units)) (leb 1 (e .glyphs)) h10, and-r (leb 1 (e .units)) (leb 1 (e .glyphs)) h10, h12, h13, n)
 
+-- what an accepted walk gives fits
 pub walk-fits : (ss : List (List ℕ)) (bare : Bool) (k at : ℕ) (us : List ℕ) (lack opener : ℕ) (p : Parts) → (bare ≡ true → us ≡ [])
     → properUnits false us ≡ true
     → walk bare (state k at us lack opener) ss ≡ ok p → fits bare lack us (p .clusters) (p .glyphs) ≡ true
@@ -250,6 +252,7 @@ proper-char c us x h =
     (λ t. let (i, j) = xml-halves c x (leb-false c 65535 t) in
     rw t (proper-pair (55296 + (c - 65536) / 1024) (56320 + (c - 65536) % 1024) us i j h))
 
+-- what is decoded is proper
 pub decode-proper : (s : List ℕ) (skip at : ℕ) (us : List ℕ) → decode skip at s ≡ ok us → properUnits false us ≡ true
 decode-proper [] skip at us h = rw (← ok-path [] us (sym (decode-none skip at) ∙ h)) (unfold properUnits in refl)
 decode-proper (b ∷ bs) (suc skip) at us h = decode-proper bs skip (suc at) us (sym (decode-inside skip at b bs) ∙ h)

@@ -1,4 +1,5 @@
--- How a call that is a list of checks goes by steps, check by check: general laws, then each call.
+-- How a call that is a list of checks goes by steps, check by check: a check in front is a `need`, and lists joined are steps one behind the other; then
+-- each call.
 -- Assumes nothing.
 use Prim.Native.Nat.{ℕ, zero, suc, _+_, _*_, _-_}
 use native.Mathlib.Omega.{arith}

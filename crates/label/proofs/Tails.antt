@@ -1,4 +1,4 @@
--- The laws of the unwritten tail.
+-- The laws of the unwritten tail: its first cluster and what is behind it (`tail-first`), how many it has, that all is the font's, and that none is written.
 -- Assumes nothing.
 use Prim.Native.Nat.{ℕ, zero, suc, _+_, _-_, _/_, _%_, _≤_}
 use native.Mathlib.Omega.{arith}

@@ -1,4 +1,4 @@
--- The text that the writer makes is decoded to its units.
+-- The text that the writer makes is decoded to its units, unit by unit or pair by pair: where the UTF-8 of a character starts, it is read (`decode-start`).
 -- Assumes nothing.
 use Prim.Native.Nat.{ℕ, zero, suc, _+_, _*_, _-_, _/_, _%_, _≤_, _<_}
 use native.Mathlib.Omega.{arith}
@@ -160,6 +160,7 @@ pair-back u v us at hi lo ih =
     rw (bytes-cons u (v ∷ us), bytes-cons v us, bytes-low v (getD us 0 0) lo, bytes-high u v hi)
     (decode-utf8 (paired u v) at (unitsBytes us) us (pair-xml u v hi lo) ih ∙ ap (λ (l : List ℕ). ok (l ++ us)) (pair-units u v hi lo))
 
+-- proper units come back from their bytes
 pub decode-back : (us : List ℕ) → properUnits false us ≡ true → (at : ℕ) → decode 0 at (unitsBytes us) ≡ ok us
 decode-back [] h at = unfold unitsBytes in (decode-none 0 at)
 decode-back (u ∷ []) h at =

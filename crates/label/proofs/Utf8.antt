@@ -1,4 +1,5 @@
--- Laws of the rows of Table 3-7 and of UTF-8 by the bits of Table 3-6.
+-- Laws of the rows of Table 3-7 and of UTF-8 by the bits of Table 3-6: the rows' first bytes rise, so at most one row fits, and each row fits exactly where
+-- one of its code points starts (`Law`).
 -- Assumes nothing.
 use Prim.Native.Nat.{ℕ, zero, suc, _+_, _*_, _-_, _/_, _%_, _≤_, _<_}
 use native.Mathlib.Omega.{arith}
@@ -23,6 +24,7 @@ abbrev pub Rising : ℕ → List Row → Type 0
 Rising m [] = Unit {0}
 Rising m (r ∷ rs) = (f : Range) × (fs : List Range) × (r .bytes ≡ f ∷ fs) × (m ≤ f .lo) × (f .lo ≤ f .hi) × Rising (suc (f .hi)) rs
 
+-- those of the table do
 pub rising : Rising 0 table
 unfolding table
 rising = (
@@ -72,6 +74,7 @@ rising = (
 below-range : (lo hi b : ℕ) → b < lo → within lo hi b ≡ false
 below-range lo hi b h = rw (lt-leb lo b h)
 
+-- a row that does not fit is passed over
 pub skips : (r : Row) (rs : List Row) (s : List ℕ) → rowFits (r .bytes) s ≡ false → fitting (r ∷ rs) s ≡ fitting rs s
 unfolding fitting
 skips r rs s h = rw h
@@ -90,6 +93,7 @@ module _ (r : Row) (f : Range) (fs : List Range) (e : r .bytes ≡ f ∷ fs) whe
   unfolding rowFits
   unfit-end = rw e
 
+-- no row fits a first byte below them
 pub none-below : (rs : List Row) (m b : ℕ) (bs : List ℕ) → Rising m rs → b < m → fitting rs (b ∷ bs) ≡ []
 none-below [] m b bs o h = unfold fitting in refl
 none-below (r ∷ rs) m b bs (f, fs, e, l, k, o) h =
@@ -107,6 +111,7 @@ none-behind r rs m (b ∷ bs) (f, fs, e, l, k, o) h =
     (λ t. none-below rs (suc (f .hi)) b bs o (omega (arith, within-hi (f .lo) (f .hi) b t)))
     (λ t. clash (rowFits (r .bytes) (b ∷ bs)) h (unfit r f fs e b bs t))
 
+-- a row that fits is the only one
 pub alone : (r : Row) (rs : List Row) (m : ℕ) (s : List ℕ) → Rising m (r ∷ rs) → rowFits (r .bytes) s ≡ true → fitting (r ∷ rs) s ≡ r ∷ []
 unfolding fitting
 alone r rs m s o h = rw (h, none-behind r rs m s o h)

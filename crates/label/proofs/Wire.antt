@@ -1,4 +1,4 @@
--- Numbers go to bytes and back.
+-- Numbers go to bytes and back: a number is the sum of its bytes, by division and remainder.
 -- Assumes nothing.
 use Prim.Native.Nat.{ℕ, zero, suc, _+_, _*_, _-_, _/_, _%_, _≤_, _<_}
 use native.Mathlib.Omega.{arith}
@@ -83,6 +83,7 @@ words-back (z ∷ zs) h =
 
 -- ── the bytes of a run ──
 
+-- a number by its low byte and the rest
 pub cells : (a b : ℕ) → a < 256 → ((a + 256 * b) % 256 ≡ a) × ((a + 256 * b) / 256 ≡ b)
 cells a b l = (omega arith, omega arith)
 
@@ -104,6 +105,7 @@ pub record Four (a b c d n : ℕ) : Type 0 where
   pub r : n / 65536 % 256 ≡ c
   pub s : n / 16777216 ≡ d
 
+-- a number by its four bytes
 pub four : (a b c d : ℕ) → a < 256 → b < 256 → c < 256 → Four a b c d (a + 256 * b + 65536 * c + 16777216 * d)
 four a b c d i j k = record { p = omega arith; q = omega arith; r = omega arith; s = omega arith }
 

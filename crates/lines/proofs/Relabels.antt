@@ -1,9 +1,10 @@
--- What reading a label and writing the bytes it filled come to: the label's counts and its normal lines, or the refusal.
+-- What reading a label and writing the bytes it filled come to: the label's counts and its normal lines, or the refusal. The buffers hold every run, so
+-- demand 3 says it.
 -- Assumes nothing.
 use Rattle.label.proofs.Steps.{relabel-steps, into-steps}
 use Rattle.label.specs.Statements.Demands.{Roomy, RoomyFor, Wrote}
 use Rattle.label.specs.Checks.{read}
-use Prim.Native.Nat.{ℕ, _*_, _/_, _≤_, _<_}
+use Prim.Native.Nat.{ℕ, _*_, _≤_, _<_}
 use native.Mathlib.Omega.{arith}
 use mathlib.Core.Path.{_≡_, refl, sym, _∙_, ap}
 use mathlib.Core.List.{List}
@@ -18,6 +19,7 @@ use Rattle.label.specs.Calls.{roomOf, outputs, unitsAfter, clustersAfter, glyph
 use Rattle.label.specs.Relabel.{relabelRead}
 use Rattle.label.specs.declared.Counts.{Counts}
 use Rattle.label.proofs.Basics.{no-ok}
+use Rattle.label.proofs.Lists.{counted-no}
 use Rattle.label.proofs.Sound.{read-sound}
 use Rattle.label.proofs.Statements.Demands.{demand-3}
 use Rattle.label.proofs.Values.{normal-writer}
@@ -42,11 +44,7 @@ module _ (t i : List ℕ) (few : length i ≤ maxLineBytes) where
   read-is = relabel-steps t i ∙ rw (le-leb (length i) maxLineBytes few) (sym (largest-is t i))
 
   refused : (n p : ℕ) → no n p ≡ counted (readInto largest t i) → relabelRead t i ≡ no n p
-  refused n p h = read-is ∙ go (readInto largest t i) h
-    where
-      go : (o : Outcome Run) → no n p ≡ counted o → o ≡ no n p
-      go (ok r) e = no-ok n p (counts r) e
-      go (no m q) e = cc
+  refused n p h = read-is ∙ counted-no (readInto largest t i) n p (sym h)
 
   pub record WasRead (c : Counts) : Type 0 where
     pub run : Run
@@ -96,12 +94,14 @@ module _ (t i us cs gs tx ix : List ℕ) (few : length i ≤ maxLineBytes)
     read-as : WasRead t i few c
     read-as = was-read t i few c (h ∙ ap counted reading-is)
 
+    -- the counts are within the buffers
     pub line-room : (us′ cs′ gs′ : List ℕ) → length us′ ≡ length us → length cs′ ≡ length cs → length gs′ ≡ length gs
         → (2 * c .units ≤ length us′) × (8 * c .clusters ≤ length cs′) × (16 * c .glyphs ≤ length gs′)
     line-room us′ cs′ gs′ a b d =
         let m = roomy (read-as .run) (read-as .is) in
         rw (a, b, d, read-as .counts-are) (omega (arith, m .for-units), omega (arith, m .for-clusters), omega (arith, m .for-glyphs))
 
+    -- the run that was read is written
     pub line-written : (us′ cs′ gs′ : List ℕ) (o : Outcome Relabelled) (tx′ ix′ : List ℕ) → maxTextBytes ≤ length tx → maxIndicesBytes ≤ length ix
         → us′ ≡ unitsAfter reading us → cs′ ≡ clustersAfter reading cs → gs′ ≡ glyphsAfter reading gs
         → o ≡ answered c (lengths (written c us′ cs′ gs′)) → tx′ ≡ textAfter (written c us′ cs′ gs′) tx → ix′ ≡ indicesAfter (written c us′ cs′ gs′) ix

@@ -1,9 +1,10 @@
--- The laws of the walk over the clusters, and of the picks' returns.
+-- The laws of the walk over the clusters, and of the picks' returns; both ways are one walk, over the clusters or over them turned.
 -- Assumes nothing.
 use Rattle.label.specs.Places.{Places, places}
 use Rattle.label.proofs.Steps.{glyphs-steps, units-steps}
 use Prim.Native.Nat.{ℕ, _+_, _-_, _≤_, _<_}
 use native.Mathlib.Omega.{arith}
+use native.Mathlib.Nat.{sub-zero, sub-add-eq}
 use mathlib.Core.Path.{_≡_, refl, sym, _∙_}
 use mathlib.Core.Bool.{Bool, true, false, cond, not, _&&_}
 use mathlib.Core.List.{List, [], _∷_}
@@ -11,11 +12,11 @@ use borrow.Author.Tests.{le-leb, lt-leb, lt-ltb, le-ltb, leb-true, leb-false, lt
 use lib.Dec.{leb, ltb}
 use lib.IntN.{ℤ}
 use lib.ListN.{length, drop}
-use Rattle.label.specs.Outcome.{Outcome, ok, no, _>>_, need}
+use Rattle.label.specs.Outcome.{ok, no, _>>_, need}
 use Rattle.label.specs.Run.{cluster}
 use Rattle.label.specs.Fetched.{halves, words}
-use Rattle.label.specs.Sound.{nat, clustersOf, glyphsOf, noLeftOver, sound}
-use Rattle.label.specs.Pick.{stretch, holding, touched, turned, inside, pickUnits, pickGlyphs}
+use Rattle.label.specs.Sound.{nat, clustersOf, glyphsOf, sound}
+use Rattle.label.specs.Pick.{stretch, holding, touched, turned, inside}
 use Rattle.label.specs.declared.Cluster.{Cluster}
 use Rattle.label.specs.declared.Stretch.{Stretch}
 use Rattle.label.proofs.Basics.{and-l, and-r, cases}
@@ -58,16 +59,10 @@ module _ (turn : Bool) (cs : List ℤ) (i : ℕ) where
 unfoldable pub touchedFrom : ℕ → ℕ → List Cluster → ℕ → ℕ → ℕ → Stretch
 touchedFrom first end l n u s = stretch (cond (leb n first) (holding (first - n) u l .first) s) (holding (end - 1 - n) u l .end)
 
-less-both : (a b c : ℕ) → a - b - c ≡ a - (b + c)
-less-both a b c = omega arith
-
-less-none : (a : ℕ) → a - 0 ≡ a
-less-none a = omega arith
-
 module _ (first end : ℕ) where
   pub touched-start : (l : List Cluster) (s : ℕ) → touched first end l ≡ touchedFrom first end l 0 0 s
   unfolding touched touchedFrom
-  touched-start l s = rw (le-leb 0 first (omega arith), less-none first, less-none (end - 1))
+  touched-start l s = rw (le-leb 0 first (omega arith), sub-zero first, sub-zero (end - 1))
 
   pub touched-none : (n u s : ℕ) → touchedFrom first end [] n u s ≡ stretch (cond (leb n first) u s) u
   unfolding touchedFrom holding
@@ -87,7 +82,7 @@ module _ (first end : ℕ) where
     pub touched-on : n + c .glyphs < end → touchedFrom first end (c ∷ l) n u s ≡ touchedFrom first end l (n + c .glyphs) (u + c .units) (cond (leb n first) u s)
     unfolding touchedFrom holding
     touched-on e =
-        rw (le-ltb (end - 1 - n) (c .glyphs) (omega arith), less-both (end - 1) n (c .glyphs), less-both first n (c .glyphs))
+        rw (le-ltb (end - 1 - n) (c .glyphs) (omega arith), ← sub-add-eq (end - 1) n (c .glyphs), ← sub-add-eq first n (c .glyphs))
         (cases (leb n first)
         (λ t. let g = leb-true n first t in
         cases (ltb (first - n) (c .glyphs))
@@ -125,6 +120,7 @@ module _ (turn : Bool) (cs : List ℤ) (first end : ℕ) where
       walk-on e = here ∙ rw (es, ea, eb) (touched-on first end (cluster (added turn cs i) (counted turn cs i)) (way turn (clustersOf (drop (i + 2) cs))) n u s
           (rw ea at e))
 
+  -- what the clusters from place i on add up to
   pub sum-at : (i : ℕ) {b : ℕ} → b ≡ added turn cs i → 2 ≤ length cs - i
       → unitSum (way turn (clustersOf (drop i cs))) ≡ b + unitSum (way turn (clustersOf (drop (i + 2) cs)))
   unfolding unitSum

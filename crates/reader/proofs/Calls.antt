@@ -1,4 +1,4 @@
--- The call: from the counts that were found to the run, and 16 to 18.
+-- The call: from the counts that were found to the run (`Found`), and 16 to 18, which hold those counts to the room.
 -- Assumes nothing.
 use Rattle.survey.specs.Steps.{Starts}
 use Rattle.label.proofs.Steps.{walk-end, read-steps, into-steps}
@@ -8,9 +8,9 @@ use mathlib.Core.Path.{_≡_, refl, sym, _∙_, ap, subst}
 use mathlib.Core.Bool.{Bool, true, false, _&&_}
 use mathlib.Core.List.{List, [], _∷_}
 use borrow.Author.Tests.{le-leb, lt-leb, leb-true}
-use lib.Dec.{eqb, leb}
-use lib.ListN.{length, getD, List·getD-eq-default}
-use Rattle.label.specs.Outcome.{Outcome, ok, no, _>>=_, _>>_, need}
+use lib.Dec.{leb}
+use lib.ListN.{length}
+use Rattle.label.specs.Outcome.{Outcome, ok, no}
 use Rattle.label.specs.Bytes.{empty}
 use Rattle.label.specs.Entry.{entries}
 use Rattle.label.specs.Run.{Run, Parts, cluster, addGlyph, tail, State, startState, opens, takes, next, runWith}
@@ -27,6 +27,7 @@ use Rattle.label.specs.declared.Refusal.{Refusal}
 use Rattle.label.specs.declared.Reading.{Reading}
 use Rattle.label.specs.declared.Reading.the-variants.{Read, Refused}
 use Rattle.label.proofs.Basics.{need-ok, no-ok, and-r}
+use Rattle.label.proofs.Lists.{counted-no}
 use Rattle.label.proofs.Run.{ok-path, Walked, walk-ok}
 use Rattle.label.proofs.Sound.{WasRead, read-ok}
 use Rattle.text.specs.Moves.{unitsFrom}
@@ -144,15 +145,7 @@ Reads o k r units₀ units clusters₀ clusters glyphs₀ glyphs =
 
 module _ (t s : List ℕ) (m : Counts) where
   pub into-refused : (r : Reading) (x : Refusal) → readingOutcome r ≡ counted (read t s) → r ≡ Refused x → readInto m t s ≡ no (x .number) (x .place)
-  into-refused r x h e = into-steps m t s ∙ go (read t s) (sym (ap readingOutcome e) ∙ h)
-    where
-      go : (o : Outcome Run) → no (x .number) (x .place) ≡ counted o
-          → (o >>= (λ r. need (leb (length (r .units)) (m .units)) 16 (length (r .units))
-          >> (need (leb (length (r .clusters)) (m .clusters)) 17 (length (r .clusters)) >>
-          (need (leb (length (r .glyphs)) (m .glyphs)) 18 (length (r .glyphs)) >> ok r))))
-          ≡ no (x .number) (x .place)
-      go (ok r) q = no-ok (x .number) (x .place) (counts r) q
-      go (no i p) q = cc
+  into-refused r x h e = into-steps m t s ∙ rw (counted-no (read t s) (x .number) (x .place) (sym h ∙ ap readingOutcome e))
 
   module _ {b : ℕ} (n : Counts) (f : Found t b s n) where
     pub into-16 : m .units < n .units → readInto m t s ≡ no 16 (n .units)

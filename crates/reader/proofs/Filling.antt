@@ -1,4 +1,5 @@
--- The second pass over an accepted label: what a turn stores, and what stands in the buffers at the end.
+-- The second pass over an accepted label: what a turn stores, and what stands in the buffers at the end. The walk is accepted, so no turn is refused, and
+-- there is room for what each adds.
 -- Assumes nothing.
 use Rattle.label.proofs.Steps.{walk-end}
 use Prim.Native.Nat.{ℕ, _+_, _*_, _-_, _≤_, _<_, min}
@@ -22,6 +23,7 @@ use Rattle.label.specs.Requests.RoundedCount.{roundedEntry}
 use Rattle.label.specs.declared.Cursor.{Cursor}
 use Rattle.label.specs.declared.Refusal.{Refusal}
 use Rattle.label.proofs.Basics.{cases, need-ok, no-ok}
+use Rattle.label.proofs.Lists.{empty-is}
 use Rattle.label.proofs.Run.{ok-path, Walked, walk-ok, step-ok}
 use Rattle.label.proofs.Cursors.{joined, after, added}
 use Rattle.number.specs.Digits.{cap}
@@ -30,7 +32,7 @@ use Rattle.entry.specs.declared.Item.{Item}
 use Rattle.entry.specs.declared.EntryRead.the-variants.{Read, Refused}
 use Rattle.survey.specs.Steps.{itemEntry, advanced, entryAt}
 use Rattle.reader.specs.Stores.{takenBy, openedHere, clusterBytes, glyphBytes, clusterPlaces, glyphPlaces, Storable}
-use Rattle.survey.proofs.Entries.{empty-eqb, leftFrom, left-is, left-few}
+use Rattle.survey.proofs.Entries.{leftFrom, left-is, left-few}
 use Rattle.survey.proofs.Placing.{read-is, refused-is}
 use Rattle.survey.proofs.Walking.{stateOf, Stands, Ready, Turned, turned, takes-cut, refusing, step-no, ends-open, ends-shut}
 use Rattle.reader.proofs.Stores.{Stored, Flattens, clusters-flatten, glyphs-flatten, room-more, flat-stored}
@@ -145,6 +147,7 @@ module _ (us s : List ℕ) (all : Parts) (good : walk (empty us) (startState us)
       abbrev head : List ℕ
       head = here (drop (c .place) s)
 
+      -- an accepted label has no entry that is refused
       pub fill-never : {A : Type 0} (r : Refusal) → entryAt s c ≡ Refused r → A
       fill-never r e =
           never (r .number) (r .place)
@@ -163,7 +166,7 @@ module _ (us s : List ℕ) (all : Parts) (good : walk (empty us) (startState us)
           let u : takes (empty us) (stateOf us c lack) e₁ ≡ a =
           sym (takes-cut us s pre lack c st rd hi e₁ q (length head) (roundedEntry head))
           ∙ ap (λ (y : Item). takes (empty us) (stateOf us c (c .lack)) (itemEntry y)) ex
-          ∙ ap (λ (b : Bool). cond (eqb (c .lack) 0 && not b) (x .units) 0) (sym (ap (λ (m : ℕ). eqb m 0) en ∙ empty-eqb us))
+          ∙ ap (λ (b : Bool). cond (eqb (c .lack) 0 && not b) (x .units) 0) (empty-is us ∙ ap (λ (m : ℕ). eqb m 0) (sym en))
           ∙ sym ea in
           turned us s pre lack c st rd hi e₁ q 0 d x a ex u
           (ed
@@ -276,6 +279,7 @@ module _ (us s : List ℕ) (all : Parts) (good : walk (empty us) (startState us)
       all-parts : joined pre (tail rest) ≡ all
       all-parts = ok-path _ all (ap (λ (r : List ℕ). ok (joined pre (tail r))) er ∙ sym (ends-shut us s pre lack c st rd hi shut) ∙ good)
 
+      -- how many there are with the tail
       pub end-clusters : c .clusters + length (tail rest .clusters) ≡ length (all .clusters)
       end-clusters = end-count _ _ _ _ clusters-listed all pre (c .clusters) (st .clusters-are) (tail rest) all-parts
 
@@ -283,6 +287,7 @@ module _ (us s : List ℕ) (all : Parts) (good : walk (empty us) (startState us)
       end-glyphs = end-count _ _ _ _ glyphs-listed all pre (c .entry) (st .glyphs-are) (tail rest) all-parts
 
       module _ (old out out′ : List ℕ) where
+        -- and with it the buffers hold the run
         pub clusters-end : Stored old out (clusterBytes (pre .clusters)) → out′ ≡ sets out (8 * c .clusters) (clusterBytes (tail rest .clusters))
             → 8 * length (all .clusters) ≤ length old → out′ ≡ filled (clusterBytes (all .clusters)) old
         clusters-end = end-filled _ _ _ _ clusters-listed all pre (c .clusters) (st .clusters-are) (tail rest) all-parts old out out′

@@ -1,4 +1,5 @@
--- Bytes stored in the lent buffers: one thing's, those of several, and what stands in a buffer after stores one behind the other.
+-- Bytes stored in the lent buffers: one thing's, those of several, and what stands in a buffer after stores one behind the other; clusters and glyphs are
+-- laid out alike (`Flattens`).
 -- Assumes nothing.
 use Prim.Native.Nat.{ℕ, suc, _+_, _*_, _≤_, _<_}
 use native.Mathlib.Omega.{arith}
@@ -33,6 +34,7 @@ pub opened-no : (lack a b : ℕ) → (lack ≡ 0 → ⊥) → clusterBytes (open
 unfolding openedHere flatClusters fromWords clusterBytes
 opened-no lack a b h = rw (ne-eqb lack 0 h)
 
+-- the room for it, by its place and by its bytes
 pub pair-room : (lack n a b m : ℕ) → lack ≡ 0 → 8 * n + length (clusterBytes (openedHere lack a b)) ≤ m → 8 * n + 7 < m
 unfolding clusterPlaces
 pair-room lack n a b m h r = let q : 8 * n + length (clusterPlaces (cluster a b)) ≤ m = rw (opened-yes lack a b h) at r in omega arith
@@ -41,6 +43,7 @@ pub room-pair : (lack n a b m : ℕ) → lack ≡ 0 → 8 * n + 7 < m → 8 * n 
 unfolding clusterPlaces
 room-pair lack n a b m h r = rw (opened-yes lack a b h) (omega arith)
 
+-- its two numbers stored are its bytes
 pub pair-stored : (out o₁ o₂ : List ℕ) (lack n a b : ℕ) → lack ≡ 0 → o₁ ≡ puts out (4 * (2 * n)) (fourBytes a) → o₂ ≡ puts o₁ (4 * (2 * n + 1)) (fourBytes b)
     → o₂ ≡ sets out (8 * n) (clusterBytes (openedHere lack a b))
 unfolding puts clusterPlaces
@@ -50,6 +53,7 @@ pair-stored out o₁ o₂ lack n a b h e₁ e₂ =
 
 -- ── a glyph ──
 
+-- its four numbers stored are its bytes
 pub four-stored : (out o₁ o₂ o₃ o₄ : List ℕ) (k : ℕ) (g : Glyph) (i a : ℕ) (u v : ℤ) → i ≡ bitsOf (indexNumber (g .index))
     → a ≡ bitsOf (advanceNumber (g .advance)) → u ≡ g .u → v ≡ g .v
     → o₁ ≡ puts out (4 * (4 * k)) (fourBytes i) → o₂ ≡ puts o₁ (4 * (4 * k + 1)) (fourBytes a) → o₃ ≡ puts o₂ (4 * (4 * k + 2)) (fourBytes (bitsOf u))
@@ -132,6 +136,7 @@ module _ {A : Type 0} (flat : List A → List ℕ) (one : A → List ℕ) (w : �
 
   -- more things behind those before, of which there are n
   module _ (pre more : List A) (vs : List ℕ) (n : ℕ) (en : length pre ≡ n) (ev : flat more ≡ vs) where
+    -- there is room for them, and they are stored
     pub room-more : (k : ℕ) → length (pre ++ more) ≤ k → w * n + length vs ≤ w * k
     room-more k h =
         let l : w * n + length vs ≡ w * length (pre ++ more) =

@@ -1,4 +1,4 @@
--- The tail of some units, stored cluster by cluster.
+-- The tail of some units, stored cluster by cluster: what is left, stored from here on, gives the whole stored where it begins (`Storing`).
 -- Assumes nothing.
 use Prim.Native.Nat.{ℕ, suc, _+_, _*_, _-_, _≤_, _<_}
 use native.Mathlib.Omega.{arith}

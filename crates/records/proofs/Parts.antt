@@ -1,4 +1,4 @@
--- The parts of a record, as the code makes them of the bits of its numbers, are those of the definitions. Assumes nothing.
+-- The parts of a record, as the code makes them of the bits of its numbers, are those of the definitions: by whether the bits are below 2^31. Assumes nothing.
 use Rattle.wire.proofs.Tests.{low, high, natural-bits}
 use Rattle.wire.proofs.Signed.{back}
 use Rattle.wire.specs.Numbers.{place}

@@ -1,8 +1,9 @@
--- Laws of `planOf`: what it is where each test comes out, that what is stored fits the list and is there in the bytes, and what it makes of the list.
+-- Laws of `planOf`, by the three ways that a listing goes: what it is where each test comes out, that what is stored fits the list and is there in the
+-- bytes, and what it makes of the list.
 -- Assumes nothing.
 use Rattle.wire.proofs.Fetched.{words-length}
 use mathlib.Core.Path.{_≡_, refl, sym, _∙_}
-use mathlib.Core.Bool.{true, false, _&&_}
+use mathlib.Core.Bool.{true, false}
 use Prim.Native.Nat.{ℕ, _/_, _<_, _≤_, zero-le}
 use native.Mathlib.Omega.{arith}
 use mathlib.Core.List.{List}

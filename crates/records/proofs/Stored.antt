@@ -13,11 +13,11 @@ use lib.IntN.{ℤ}
 use lib.ListN.{length, set, drop}
 use Rattle.label.specs.Bytes.{empty}
 use Rattle.label.specs.Limits.{maxThousandths}
-use Rattle.label.specs.Sound.{wholeClusters, wholeGlyphs, clustersOf, glyphsOf, numberIndex, numberAdvance, size, indexFits, advanceFits, glyphFits}
-use Rattle.label.specs.Sound.{fits, runOf, soundRun, sound}
+use Rattle.label.specs.Sound.{clustersOf, glyphsOf, numberIndex, numberAdvance, size, indexFits, advanceFits, glyphFits}
+use Rattle.label.specs.Sound.{fits, runOf, sound}
 use Rattle.label.specs.declared.Cluster.{Cluster}
 use Rattle.label.specs.declared.Glyph.{Glyph}
-use Rattle.label.proofs.Basics.{and-l, and-r}
+use Rattle.label.proofs.Basics.{and-l}
 use Rattle.label.proofs.Sound.{sound-parts}
 use Rattle.label.proofs.Run.{fits-further, fits-opening}
 use Rattle.records.specs.Records.{recordOf, recordsFrom, records}
@@ -48,6 +48,7 @@ length-from s j (suc k) (y ∷ ys) l = ap suc (length-from s (suc j) k ys (le-of
 pub length-stored : (s : List ℤ) (ys : List Glyph) (k : ℕ) → k ≤ length ys → length (stored s ys k) ≡ length ys
 length-stored s ys k l = length-from s 0 k ys l
 
+-- none is stored
 pub none : (s : List ℤ) (ys : List Glyph) → ys ≡ stored s ys 0
 unfolding recordsFrom
 none s ys = refl

@@ -1,4 +1,4 @@
--- The limits of a glyph's numbers. Assumes nothing.
+-- The limits of a glyph's numbers: each comparison of the code is that of `glyphFits`, by the number's sign. Assumes nothing.
 use mathlib.Core.Path.{_≡_, refl, _∙_}
 use mathlib.Core.Bool.{Bool, _&&_}
 use Prim.Native.Nat.{ℕ}
@@ -16,6 +16,7 @@ advance-fits : (z : ℤ) → leb (nat z) maxThousandths ≡ advanceFits (numberA
 advance-fits (pos n) = refl
 advance-fits (negsuc n) = refl
 
+-- the code's comparisons joined
 pub limits-are : (i a u v : ℤ) {x y z w : ℕ} {p q r : Bool} → x ≡ nat i → y ≡ nat a → z ≡ size u → w ≡ size v → p ≡ (leb x maxIndex && leb y maxThousandths)
     → q ≡ (p && leb z maxThousandths)
     → r ≡ (q && leb w maxThousandths) → r ≡ glyphFits (glyphOf i a u v)

@@ -1,7 +1,7 @@
--- The answer to a label, by what the survey of it says; the loop that stores the answers; the call.
+-- The answer to a label, by what the survey of it says; the loop that stores the answers, in which those left give the whole (`Stored`); the call.
 -- Assumes nothing.
 use Rattle.label.proofs.Steps.{file-steps}
-use Prim.Native.Nat.{ℕ, _+_, _-_, _*_, _/_, _≤_, _<_}
+use Prim.Native.Nat.{ℕ, _+_, _*_, _/_, _≤_, _<_}
 use native.Mathlib.Omega.{arith}
 use mathlib.Core.Bool.{true, false, _&&_}
 use mathlib.Core.Path.{_≡_, refl, sym, ap, subst, _∙_}
@@ -18,8 +18,8 @@ use Rattle.label.specs.Run.{Run}
 use Rattle.label.specs.Checks.{read}
 use Rattle.label.specs.Wire.{bitsOf, fourBytes, fromWords}
 use Rattle.label.specs.Write.{Label}
-use Rattle.label.specs.Calls.{readingOutcome, fillingOutcome, filledCount, counts, counted, numbersAfter}
-use Rattle.label.specs.Requests.Sheet.{header, isRecord, recordLabel, labelsOf, answerOf, answer, answers, sheetInto}
+use Rattle.label.specs.Calls.{readingOutcome, fillingOutcome, filledCount, counted, numbersAfter}
+use Rattle.label.specs.Requests.Sheet.{header, isRecord, recordLabel, answerOf, answer, answers, sheetInto}
 use Rattle.label.specs.declared.Counts.{Counts}
 use Rattle.label.specs.declared.Refusal.{Refusal}
 use Rattle.label.specs.declared.Filling.{Filling}
@@ -27,6 +27,7 @@ use Rattle.label.specs.declared.Filling.the-variants as F
 use Rattle.label.specs.declared.Reading.{Reading}
 use Rattle.label.specs.declared.Reading.the-variants.{Read, Refused}
 use Rattle.label.proofs.Basics.{and-l, and-r, no-ok, need-ok, bind-ok}
+use Rattle.label.proofs.Lists.{counted-no}
 use Rattle.label.proofs.Run.{ok-path}
 use Rattle.label.proofs.Wire.{in32, all32, in32-below, length-words}
 use Rattle.label.proofs.Statements.Sheet.{into-labels, labels-into, answer-32}
@@ -42,10 +43,6 @@ use Rattle.label.specs.Steps.{labelsFrom}
 
 -- ── one answer ──
 
-not-counted : (o : Outcome Run) (n p : ℕ) → counted o ≡ no n p → o ≡ no n p
-not-counted (ok r) n p e = no-ok n p (counts r) (sym e)
-not-counted (no m q) n p e = cc
-
 is-counted : (o : Outcome Run) (c : Counts) → counted o ≡ ok c → answerOf o ≡ (pos 0 ∷ pos 0 ∷ [])
 is-counted (ok r) c e = refl
 is-counted (no m q) c e = no-ok m q c e
@@ -56,7 +53,7 @@ module _ (t i : List ℕ) {r : Reading} (e : readingOutcome r ≡ counted (read 
 
   module _ {x : Refusal} (k : r ≡ Refused x) where
     is-refused : read t i ≡ no (x .number) (x .place)
-    is-refused = not-counted (read t i) (x .number) (x .place) (sym e ∙ ap readingOutcome k)
+    is-refused = counted-no (read t i) (x .number) (x .place) (sym e ∙ ap readingOutcome k)
 
     bounded : (x .number < 2147483648) × (x .place < 2147483648)
     bounded = of (subst (λ (o : Outcome Run). Placed 15 262145 o) is-refused (read-placed t i))
@@ -70,6 +67,7 @@ module _ (t i : List ℕ) {r : Reading} (e : readingOutcome r ≡ counted (read 
     pub place-small : x .place < 2147483648
     place-small = bounded .1
 
+    -- the answer is the refusal's number and place
     pub told : (toZ w32 (x .number) ∷ toZ w32 (x .place) ∷ []) ≡ answerOf (read t i)
     told = rw (toZ-pos w32 number-small, toZ-pos w32 place-small, is-refused)
 
@@ -151,6 +149,7 @@ module _ (file : List ℕ) {old : List ℕ} where
       unfolding fromWords
       eight-more = rw (two-more file (s .left) h w a)
 
+      -- there is room for two numbers more
       pub two-places : k + 1 < length new / 4
       two-places = omega (arith, few, s .laid .count, s .laid .same, ap length eight-more)
 

@@ -1,4 +1,4 @@
--- A record at a place of a sheet's file, and the count of the records.
+-- A record at a place of a sheet's file, and the count of the records: those before a place and those from it on are all (`Counted`).
 -- Assumes nothing.
 use Rattle.label.proofs.Steps.{sheet-steps, file-steps}
 use Prim.Native.Nat.{ℕ, _+_, _-_, _*_, _/_, _≤_, _<_}
@@ -17,7 +17,7 @@ use Rattle.label.specs.Bytes.{ascii, begins}
 use Rattle.label.specs.Wire.{fromHalves}
 use Rattle.label.specs.Write.{Label}
 use Rattle.label.specs.Calls.{refusal, fillingOutcome, filledCount}
-use Rattle.label.specs.Requests.Sheet.{header, textLength, indicesLength, recordLength, isRecord, recordLabel, labelsOf, answers, sheetInto}
+use Rattle.label.specs.Requests.Sheet.{header, textLength, indicesLength, recordLength, isRecord, recordLabel, answers, sheetInto}
 use Rattle.label.specs.declared.Filling.{Filling}
 use Rattle.label.specs.declared.Filling.the-variants.{Refused}
 use Rattle.label.proofs.Basics.{and-r, cases, clash}
@@ -103,6 +103,7 @@ module _ (file : List ℕ) (at : ℕ) where
         label = rw (t, i, d, ← drop-drop 6 at file, ← drop-drop (6 + textLength here) at file);
       }
 
+  -- what the code found is so, and what it did not find is cut
   pub stands : {x : Record} → at ≤ length file → Whole x ≡ recordAt file at → Stands x
   unfolding recordAt
   stands {x} k e =

@@ -1,22 +1,20 @@
--- What soundness says of a run's three lists: the limits, and that the clusters' counts add up.
+-- What soundness says of a run's three lists: the limits, and that the clusters' counts add up; by label's laws of `fits`.
 -- Assumes nothing.
 use Rattle.label.specs.Limits.{maxUnits, maxGlyphs}
 use Rattle.label.specs.Fetched.{halves, words}
 use Rattle.label.specs.Places.{places}
-use Rattle.label.specs.Sound.{wholeClusters, wholeGlyphs, clustersOf, glyphsOf, soundRun, runOf, sound}
+use Rattle.label.specs.Sound.{clustersOf, glyphsOf, runOf, sound}
 use Rattle.label.specs.Pick.{turned}
 use Rattle.label.specs.Statements.Demands.{unitCounts, glyphCounts}
 use Rattle.label.proofs.Places.{sound-places}
 use mathlib.Core.Path.{_≡_, refl, sym, _∙_, ap}
-use mathlib.Core.Bool.{true, _&&_}
+use mathlib.Core.Bool.{true}
 use mathlib.Core.List.{List, [], _∷_}
 use Prim.Native.Nat.{ℕ, _+_, _*_, _≤_}
 use native.Mathlib.Nat.{zero-add}
 use native.Mathlib.Omega.{arith}
-use lib.IntN.{ℤ}
 use lib.ListN.{length}
 use Rattle.label.specs.declared.Cluster.{Cluster}
-use Rattle.label.proofs.Basics.{and-r}
 use Rattle.label.proofs.Parts.{sum, fits-units, fits-glyphs, turned-units}
 use Rattle.label.proofs.Sound.{SoundRun, sound-parts}
 use Rattle.sound.specs.Sounds.{unitSum}

@@ -1,4 +1,4 @@
--- Clusters and glyphs at a place of their numbers.
+-- Clusters and glyphs at a place of their numbers: the next one, by the next two or four numbers, or none where there are fewer.
 -- Assumes nothing.
 use mathlib.Core.Path.{_≡_, refl, sym, _∙_}
 use mathlib.Core.Bool.{_&&_}
@@ -46,6 +46,7 @@ whole-clusters-short (a ∷ b ∷ l) h = absurd (omega arith)
 
 -- ── at a place ──
 
+-- nothing is left exactly at the end
 pub none-left : {A : Type 0} (l : List A) (k : ℕ) → k ≤ length l → eqb (length (drop k l)) 0 ≡ eqb k (length l)
 none-left l k h =
     rw (length-drop)

@@ -1,4 +1,5 @@
--- The laws of the soundness test: the whole test in the order of the code, and what a turn of its walk finds at a place of the three lists.
+-- The laws of the soundness test: the whole test in the order of the code, and what a turn of its walk finds at a place of the three lists: the test from
+-- here on is the glyph's, its cluster's where it opens one, and the test behind it.
 -- Assumes nothing.
 use Rattle.rules.specs.Rules.{wholeBytes, limited, glyphOk, opensAt, owes}
 use mathlib.Core.Path.{_≡_, refl, sym, ap, _∙_}
@@ -13,13 +14,14 @@ use lib.ListN.{length, drop, getD, length-drop}
 use lib.Seq.{drop-drop, getD-drop}
 use Rattle.label.specs.Limits.{maxUnits, maxGlyphs}
 use Rattle.label.specs.Bytes.{empty}
-use Rattle.label.specs.Text.{isHigh, isLow, isPair}
+use Rattle.label.specs.Text.{isLow, isPair}
 use Rattle.label.specs.Run.{named, cluster}
 use Rattle.label.specs.Fetched.{halves, signed, words, evenBytes, wordBytes}
 use Rattle.label.specs.Places.{places}
-use Rattle.label.specs.Sound.{natural, choice, wholeClusters, wholeGlyphs, nat, numberIndex, numberAdvance, clustersOf, glyphsOf, properUnits, size, indexFits, advanceFits, glyphFits, isFont, allFont, mayOpen, fits, soundRun, noLeftOver, sound}
+use Rattle.label.specs.Sound.{natural, choice, wholeClusters, wholeGlyphs, nat, clustersOf, glyphsOf, properUnits, glyphFits, isFont, allFont, mayOpen, fits, soundRun, noLeftOver, sound}
 use Rattle.label.specs.declared.Glyph.{Glyph}
 use Rattle.label.proofs.Basics.{and-l, and-r, cases}
+use Rattle.label.proofs.Lists.{empty-is}
 use Rattle.octets.proofs.Loops.{stops, goes}
 use Rattle.wire.specs.Numbers.{clusterAt, glyphAt, glyphOf, place}
 use Rattle.wire.proofs.Tests.{named-is}
@@ -28,10 +30,6 @@ use Rattle.sound.proofs.Parts.{none-left, glyphs-at, glyphs-end, cluste
 use Rattle.sound.proofs.Tests.{further, opening, stands, bare, ended, unended, regroup}
 
 -- ── clusters and glyphs ──
-
-pub empty-is : {A : Type 0} (l : List A) → empty l ≡ eqb (length l) 0
-empty-is [] = refl
-empty-is (x ∷ l) = sym (ne-eqb (suc (length l)) 0 (λ e. omega arith))
 
 empty-drop : {A : Type 0} (i : ℕ) (l : List A) → i ≤ length l → empty (drop i l) ≡ eqb i (length l)
 empty-drop i l h = empty-is (drop i l) ∙ none-left l i h
@@ -117,6 +115,7 @@ module _ (b₀ : Bool) (us : List ℕ) (cs gs : List ℤ) where
         not-none : (n : ℕ) → (n ≡ 0 → ⊥) → 0 < n
         not-none n e = omega arith
 
+  -- behind the last glyph: all is used up
   pub turn-end : (t : Bool) (lack at i k : ℕ) → length gs - k < 4 → at ≤ length us → i ≤ length cs → k ≤ length gs
       → wellAt t lack at i k ≡ (eqb i (length cs) && eqb k (length gs) && eqb lack 0 && eqb at (length us))
   unfolding wellAt fits allFont

@@ -1,12 +1,11 @@
 -- The soundness test as the code takes it: one walk over clusters and glyphs, the tail's glyphs tested as they come.
 -- Assumes nothing.
-use Prim.Native.Nat.{ℕ, _+_, _-_}
+use Prim.Native.Nat.{ℕ, _+_}
 use mathlib.Core.Bool.{Bool, _&&_}
 use mathlib.Core.List.{List, [], _∷_}
 use lib.IntN.{ℤ}
 use Rattle.label.specs.Bytes.{empty}
-use Rattle.label.specs.Text.{isLow, isPair}
-use Rattle.label.specs.Sound.{choice, wholeClusters, wholeGlyphs, clustersOf, glyphsOf, glyphFits, isFont, fits}
+use Rattle.label.specs.Sound.{wholeClusters, wholeGlyphs, clustersOf, glyphsOf, fits}
 use Rattle.label.specs.declared.Cluster.{Cluster}
 
 -- what the walk over clusters and glyphs tests

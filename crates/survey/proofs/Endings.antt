@@ -1,4 +1,4 @@
--- The tail behind the entries, and the counts of the run.
+-- The tail behind the entries, counted a cluster for each character, and what each end of the walk comes to in the counts of the run.
 -- Assumes nothing.
 use Rattle.label.proofs.Steps.{run-steps}
 use Prim.Native.Nat.{ℕ, suc, _+_, _≤_, _<_}
@@ -18,6 +18,7 @@ use Rattle.label.specs.Calls.{refusal, readingOutcome, counted}
 use Rattle.label.specs.declared.Cursor.{Cursor}
 use Rattle.label.specs.declared.Reading.{Reading}
 use Rattle.label.specs.declared.Reading.the-variants.{Refused}
+use Rattle.label.proofs.Lists.{empty-is}
 use Rattle.label.proofs.Tails.{tail-nil, tail-even, tail-few, tail-char}
 use Rattle.label.proofs.Run.{ok-path}
 use Rattle.label.proofs.Cursors.{joined, decode-end}
@@ -26,7 +27,6 @@ use Rattle.text.specs.Moves.{unitsFrom}
 use Rattle.utf8.specs.declared.Char.the-variants.{Good}
 use Rattle.text.proofs.Moves.{Here, here-good}
 use Rattle.survey.specs.Steps.{countsWithin, countedFrom}
-use Rattle.survey.proofs.Entries.{empty-eqb}
 use Rattle.survey.proofs.Walking.{Stands, Ready, At, units-here, ends-shut}
 
 -- ── the tail's clusters, a character each ──
@@ -95,15 +95,19 @@ module _ (us s : List ℕ) where
       go (ok p) = rw (zero-add (length (p .clusters)), zero-add (length (p .glyphs))) (pick (leb (length (p .glyphs)) 4096) p)
       go (no n p) = refl
 
+  -- the code's flag of an empty label
   pub nothing-is : (b : Bool) (n : ℕ) → b ≡ (eqb n 0 && eqb (length s) 0) → n ≡ length us → b ≡ (empty us && empty s)
-  nothing-is b n e h = rw (e, h, empty-eqb us, empty-eqb s)
+  nothing-is b n e h = rw (e, h, ← empty-is us, ← empty-is s)
 
+  -- 6
   pub run-nothing : (r : Reading) → r ≡ Refused (refusal 6 0) → (empty us && empty s) ≡ true → readingOutcome r ≡ counted (runFrom us s)
   run-nothing r q h = rw (q, run-steps us s, h)
 
+  -- a walk that is refused
   pub run-stop : (n p : ℕ) → (empty us && empty s) ≡ false → walk (empty us) (startState us) (entries s) ≡ no n p → no n p ≡ counted (runFrom us s)
   run-stop n p h w = sym (run-counted h ∙ ap (countedFrom (length us) 0 0) w ∙ unfold countedFrom in refl)
 
+  -- a walk that is done, and the tail behind it
   pub run-tail : (n : ℕ) → n ≡ length us → (pre : Parts) (lack : ℕ) (c : Cursor) (text : List ℕ) → Stands us s pre lack c → Ready us s c → At text us c
       → length s < c .place → c .lack ≡ 0 → (empty us && empty s) ≡ false
       → countedFrom n (c .clusters) (c .entry) (ok (tail (unitsFrom text (c .byte)))) ≡ counted (runFrom us s)

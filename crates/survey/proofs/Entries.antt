@@ -1,4 +1,4 @@
--- The entries from a place of the indices on.
+-- The entries from a place of the indices on: the one that stands there, up to its `;`, and those behind it (`left-is`); by induction over the bytes.
 -- Assumes nothing.
 use Prim.Native.Nat.{ℕ, suc, _+_, _-_, _≤_, _<_}
 use native.Mathlib.Omega.{arith}
@@ -6,29 +6,15 @@ use mathlib.Core.Path.{_≡_, refl, sym, _∙_, ap}
 use mathlib.Core.Bool.{true, false, cond}
 use mathlib.Core.List.{List, [], _∷_}
 use borrow.Author.Tests.{le-leb, lt-leb, leb-true, leb-false}
-use lib.Dec.{eqb, leb, eqb·suc-zero, leb·zero, leb·suc-suc}
+use lib.Dec.{eqb, leb, leb·zero, leb·suc-suc}
 use lib.ListN.{length, getD, drop, length-drop}
 use lib.Seq.{drop-drop}
-use Rattle.label.specs.Bytes.{empty, split, Cut, onBefore, cut}
+use Rattle.label.specs.Bytes.{split, Cut, onBefore, cut}
 use Rattle.label.specs.Entry.{entries}
 use Rattle.label.proofs.Basics.{cases}
 use Rattle.label.proofs.Splits.{split-hit, split-miss, split-nil, split-length}
 use Rattle.entry.specs.Items.{isSemi, here}
 use Rattle.survey.specs.Steps.{firstPlace}
-
--- ── empty ──
-
-pub empty-yes : (l : List ℕ) → length l ≡ 0 → empty l ≡ true
-empty-yes [] h = refl
-empty-yes (x ∷ l) h = absurd (omega arith)
-
-pub empty-no : (l : List ℕ) → (length l ≡ 0 → ⊥) → empty l ≡ false
-empty-no [] h = absurd (h refl)
-empty-no (x ∷ l) h = refl
-
-pub empty-eqb : (l : List ℕ) → eqb (length l) 0 ≡ empty l
-empty-eqb [] = refl
-empty-eqb (x ∷ l) = eqb·suc-zero (length l)
 
 -- ── the entry at a place ──
 
@@ -76,6 +62,7 @@ here-short (b ∷ bs) =
 unfoldable pub leftFrom : List ℕ → ℕ → List (List ℕ)
 leftFrom s i = cond (leb i (length s)) (split 59 (drop i s)) []
 
+-- the entry at a place, and those behind it
 pub left-is : (s : List ℕ) (i : ℕ) → i ≤ length s → leftFrom s i ≡ here (drop i s) ∷ leftFrom s (i + length (here (drop i s)) + 1)
 unfolding leftFrom
 left-is s i h =
@@ -91,11 +78,13 @@ pub left-none : (s : List ℕ) (i : ℕ) → length s < i → leftFrom s i ≡ [
 unfolding leftFrom
 left-none s i h = rw (lt-leb i (length s) h)
 
+-- all of them
 pub left-all : (s : List ℕ) → entries s ≡ leftFrom s (firstPlace s)
 unfolding leftFrom entries
 left-all [] = refl
 left-all (b ∷ s) = rw (leb·zero (suc (length s)))
 
+-- an entry ends inside the indices
 pub here-inside : (s : List ℕ) (i : ℕ) → i ≤ length s → i + length (here (drop i s)) ≤ length s
 here-inside s i h = let r : length (here (drop i s)) ≤ length s - i = rw length-drop at (here-short (drop i s)) in omega arith
 

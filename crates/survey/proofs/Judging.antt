@@ -1,4 +1,4 @@
--- From the text to its units, and 1 to 15 in order.
+-- From the text to its units, and 1 to 15 in order: what `read` comes to at each return of the code, by its steps.
 -- Assumes nothing.
 use Rattle.label.proofs.Steps.{read-steps}
 use Prim.Native.Nat.{ℕ, _≤_, _<_}
@@ -11,7 +11,7 @@ use lib.ListN.{length, drop}
 use Rattle.label.specs.Outcome.{Outcome, ok, no, _>>=_}
 use Rattle.label.specs.Checks.{read}
 use Rattle.label.specs.Steps.{decode, textUnits, runFrom}
-use Rattle.label.specs.Calls.{refusal, readingOutcome, counted}
+use Rattle.label.specs.Calls.{refusal, counted}
 use Rattle.label.specs.declared.Refusal.{Refusal}
 use Rattle.label.proofs.Basics.{clash}
 use Rattle.label.proofs.Sound.{text-ok}
@@ -45,6 +45,7 @@ text-has t us h =
       start = refl;
     }
 
+-- the same by the code's answer
 pub text-units : (t : List ℕ) (r : TextRead) (u : TextUnits) → r ≡ textRead t → r ≡ Units u → TextHas t (u .count) (u .start)
 unfolding textRead
 text-units t r u e h = go (textUnits t) refl (sym e ∙ h)
@@ -69,6 +70,7 @@ module _ (t s : List ℕ) where
     read-text : read t s ≡ (textUnits t >>= (λ us. runFrom us s))
     read-text = read-steps t s ∙ rw (le-leb (length t) 16384 ht, le-leb (length s) 262144 hs)
 
+    -- behind the text: the run of its units
     pub read-units : (n at : ℕ) → TextHas t n at → counted (runFrom (unitsFrom t at) s) ≡ counted (read t s)
     read-units n at x = sym (ap counted (read-text ∙ ap (λ (o : Outcome (List ℕ)). o >>= (λ us. runFrom us s)) (x .is)))
 

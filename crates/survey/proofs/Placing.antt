@@ -1,4 +1,4 @@
--- One entry's checks 10 to 13 at a cursor, and with its map's counts cut.
+-- One entry's checks 10 to 13 at a cursor, a law for each return of the code; and that cutting its map's counts changes none of them (`placed-cut`).
 -- Assumes nothing.
 use Rattle.label.proofs.Steps.{placed-steps}
 use Prim.Native.Nat.{ℕ, _+_, _≤_, _<_, min}
@@ -7,7 +7,7 @@ use mathlib.Core.Path.{_≡_, refl, sym, ap, subst}
 use mathlib.Core.Bool.{Bool, true, false, not, _&&_, _||_}
 use mathlib.Core.List.{List}
 use borrow.Author.Tests.{le-leb, lt-leb, leb-true, leb-false}
-use lib.Dec.{eqb, leb, leb·zero}
+use lib.Dec.{eqb, leb}
 use lib.ListN.{length, drop}
 use Rattle.label.specs.Outcome.{Outcome, ok, no, _>>_, need}
 use Rattle.label.specs.Entry.{Entry}
@@ -17,8 +17,6 @@ use Rattle.label.specs.Calls.{refusal}
 use Rattle.label.specs.declared.Cursor.{Cursor}
 use Rattle.label.specs.declared.Refusal.{Refusal}
 use Rattle.label.proofs.Basics.{and-l, and-r, cases, clash}
-use Rattle.label.proofs.Text.{proper-first}
-use Rattle.label.proofs.Sound.{decode-proper}
 use Rattle.text.specs.Moves.{unitsFrom, Moves}
 use Rattle.text.specs.declared.Moved.{Moved}
 use Rattle.text.specs.declared.Moved.the-variants.{To, Past, Half}
@@ -34,6 +32,7 @@ use Rattle.survey.specs.Steps.{itemEntry, advanced, Opens, Turns, Carrie
 -- ── 12 and 13, by a move over the text ──
 
 module _ (text : List ℕ) (c : Cursor) (a b i : ℕ) where
+  -- a move that goes on, and one that would split a pair, stay inside the units
   pub moves-fit : (m : Moved) (j : ℕ) → Moves text (c .byte) a m → m ≡ To j → a ≤ length (unitsFrom text (c .byte))
   moves-fit m j h e = leb-true a (length (unitsFrom text (c .byte))) (subst (Moves text (c .byte) a) e h .0)
 
@@ -79,6 +78,7 @@ module _ (bare : Bool) (text : List ℕ) (c : Cursor) (x : Item) where
   unfolding Turns
   turn-eleven r q h f = rw (q, placed-steps bare (stateAt text c) (itemEntry x), h, f)
 
+  -- an entry that opens a cluster
   pub turn-opens : (r : Turn) → Opens text c (x .units) (x .glyphs) (c .place + x .used + 1) r → enough ≡ true → free ≡ true → Turns bare text c x r
   unfolding Turns Opens
   turn-opens (Took d k) o h f = rw (placed-steps bare (stateAt text c) (itemEntry x), h, f) (rw (o .0, o .1), o .2, o .3)
@@ -91,6 +91,7 @@ module _ (bare : Bool) (text : List ℕ) (c : Cursor) (x : Item) where
       go true false o = cc
       go false q o = cc
 
+  -- a further glyph, or an entry of a text without units
   pub turn-further : (d : Cursor) (n : ℕ) → d ≡ advanced c (c .byte) 0 (x .glyphs) (c .place + x .used + 1)
       → decode 0 (c .byte) (drop (c .byte) text) ≡ ok (unitsFrom text (c .byte))
       → enough ≡ true → (free || plain) ≡ true → free ≡ false → Turns bare text c x (Took d n)
@@ -131,6 +132,7 @@ pub read-is : (n r : ℕ) (o : Outcome Entry) (x : Item) → entryRead n r o ≡
 read-is n r (ok e) x h = (e, refl, cc)
 read-is n r (no i p) x h = let z : true ≡ false = cc in clash true refl z
 
+-- and what refusing it says
 pub refused-is : (n m : ℕ) (o : Outcome Entry) (r : Refusal) → entryRead n m o ≡ Refused r → o ≡ no (r .number) (r .place)
 refused-is n m (ok e) r h = let z : true ≡ false = cc in clash true refl z
 refused-is n m (no i p) r h =

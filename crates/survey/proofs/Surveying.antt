@@ -1,4 +1,4 @@
--- The first pass: where it stands, and how many fields were rounded so far and in all.
+-- The first pass: where it stands (`Underway`), and how many fields were rounded so far and in all; the fields so far and those left are all (`Rounding`).
 -- Assumes nothing.
 use Rattle.text.specs.Texts.{unitsStart}
 use Prim.Native.Nat.{ℕ, _+_, _≤_, _<_}
@@ -13,13 +13,13 @@ use Rattle.label.specs.Outcome.{Outcome, ok, no}
 use Rattle.label.specs.Bytes.{empty}
 use Rattle.label.specs.Run.{Run, Parts}
 use Rattle.label.specs.Checks.{read}
-use Rattle.label.specs.Calls.{readingOutcome, readingRounded, counts, counted}
+use Rattle.label.specs.Calls.{readingOutcome, readingRounded, counted}
 use Rattle.label.specs.Requests.RoundedCount.{roundedEntry, roundedEntries, rounded, beside}
 use Rattle.label.specs.declared.Cursor.{Cursor}
 use Rattle.label.specs.declared.Reading.{Reading}
 use Rattle.label.specs.declared.Reading.the-variants.{Read, Refused}
 use Rattle.label.specs.declared.Refusal.{Refusal}
-use Rattle.label.proofs.Basics.{no-ok}
+use Rattle.label.proofs.Lists.{counted-no}
 use Rattle.label.proofs.Cursors.{joined, added}
 use Rattle.label.proofs.Requests.RoundedCount.{rounded-few}
 use Rattle.entry.specs.Items.{here}
@@ -102,12 +102,9 @@ none-rounded r x n e = rw e
 abbrev Surveys : List ℕ → List ℕ → Reading → ℕ → Type 0
 Surveys t s r at = (readingOutcome r ≡ counted (read t s)) × ((readingRounded r ≡ beside (rounded s) (read t s)) × Starts t r at)
 
+-- a refusal, and an answer that is handed on
 pub refuses : (t s : List ℕ) {r : Reading} (at : ℕ) {x : Refusal} → r ≡ Refused x → no (x .number) (x .place) ≡ counted (read t s) → Surveys t s r at
-refuses t s at {x} e h = rw e (h, (go (read t s) h, tt))
-  where
-    go : (o : Outcome Run) → no (x .number) (x .place) ≡ counted o → 0 ≡ beside (rounded s) o
-    go (ok y) q = no-ok (x .number) (x .place) (counts y) q
-    go (no i p) q = refl
+refuses t s at {x} e h = rw e (h, (rw (counted-no (read t s) (x .number) (x .place) (sym h)), tt))
 
 pub judges : (t s : List ℕ) (r : Reading) {at : ℕ} → readingOutcome r ≡ counted (read t s) → readingRounded r ≡ beside (rounded s) (readingOutcome r)
     → at ≡ unitsStart t

@@ -1,7 +1,7 @@
--- The walk over the entries: where it stands, one entry more, its end.
+-- The walk over the entries: where it stands, one entry more, its end. What was read, put before the walk over what is left, is the whole walk (`Stands`).
 -- Assumes nothing.
 use Rattle.label.proofs.Steps.{walk-end}
-use Rattle.label.specs.Outcome.{Outcome, ok, no, _>>_, need}
+use Rattle.label.specs.Outcome.{Outcome, ok, no}
 use Rattle.label.specs.Bytes.{empty}
 use Rattle.label.specs.Entry.{Entry, entries}
 use Rattle.label.specs.Run.{Parts, tail, State, startState, opens, takes, next}
@@ -23,6 +23,7 @@ use lib.Seq.{drop-drop}
 use Rattle.label.specs.declared.Cursor.{Cursor}
 use Rattle.label.specs.declared.Refusal.{Refusal}
 use Rattle.label.proofs.Basics.{cases, and-r}
+use Rattle.label.proofs.Lists.{empty-is}
 use Rattle.label.proofs.Run.{Stepped, step-ok}
 use Rattle.label.proofs.Sound.{entry-facts}
 use Rattle.label.proofs.Cursors.{joined, after, added, walk-good, walk-bad, part-rest}
@@ -36,7 +37,7 @@ use Rattle.entry.specs.declared.EntryRead.the-variants.{Read, Refused}
 use Rattle.survey.specs.declared.Turn.{Turn}
 use Rattle.survey.specs.declared.Turn.the-variants.{Took, Stopped}
 use Rattle.survey.specs.Steps.{firstCursor, stateAt, itemEntry, advanced, Turns, Carries, entryAt, Stops, Steps}
-use Rattle.survey.proofs.Entries.{empty-eqb, leftFrom, left-is, left-none, left-all, here-inside}
+use Rattle.survey.proofs.Entries.{leftFrom, left-is, left-none, left-all, here-inside}
 use Rattle.survey.proofs.Placing.{read-is, refused-is, over, placed-cut}
 
 -- ── parts before an outcome's ──
@@ -136,6 +137,7 @@ pub record Turned (us s : List ℕ) (pre : Parts) (lack : ℕ) (c d : Cursor) (t
   pub small : glyphFits (e .glyph) ≡ true
 
 module _ (us s : List ℕ) (pre : Parts) (lack : ℕ) (c : Cursor) (st : Stands us s pre lack c) (rd : Ready us s c) (hi : c .place ≤ length s) where
+  -- whether a cluster is open, by either count
   pub same : eqb lack 0 ≡ eqb (c .lack) 0
   same = same-open (c .entry) lack (c .lack) (omega (arith, rd .number, rd .few-bytes)) (st .near)
 
@@ -221,6 +223,7 @@ module _ (us s : List ℕ) (pre : Parts) (lack : ℕ) (c : Cursor) (st : Stands 
             inside = inside-takes;
           }
 
+      -- the walk stands behind the entry
       pub turned : (d : Cursor) (x : Item) (t : ℕ) → cutItem (length (here (drop (c .place) s))) (roundedEntry (here (drop (c .place) s))) e ≡ x → taking ≡ t
           → d ≡ after-it → Turned us s pre lack c d t x
       turned d x t ex et ed =
@@ -241,6 +244,7 @@ module _ (us s : List ℕ) (pre : Parts) (lack : ℕ) (c : Cursor) (st : Stands 
 
 -- ── the first pass ──
 
+-- the units from a byte on, and so those not used yet
 pub units-at : (text : List ℕ) (b : ℕ) (r : List ℕ) → decode 0 b (drop b text) ≡ ok r → unitsFrom text b ≡ r
 unfolding unitsFrom
 units-at text b r h = rw h
@@ -274,6 +278,7 @@ further-on text us c d n b i at q h =
     let e : d .unit ≡ c .unit + n = ap (λ (y : Cursor). y .unit) q in
     h ∙ ap (λ (r : List ℕ). ok (drop n r)) (units-here text us c at) ∙ ap ok (drop-drop n (c .unit) us) ∙ ap (λ (k : ℕ). ok (drop k us)) (sym e)
 
+-- a step that is refused refuses the walk
 pub refusing : (us s : List ℕ) (pre : Parts) (lack : ℕ) (c : Cursor) → Stands us s pre lack c → c .place ≤ length s → (n p : ℕ)
     → step (empty us) (stateOf us c lack) (here (drop (c .place) s)) ≡ no n p → walk (empty us) (startState us) (entries s) ≡ no n p
 refusing us s pre lack c st hi n p q =
@@ -334,7 +339,7 @@ module _ (text us s : List ℕ) (pre : Parts) (lack : ℕ) (c : Cursor) (st : St
   -- the code's step, in a text of n units
   module _ (n : ℕ) (en : n ≡ length us) (r : Turn) (h : Steps (eqb n 0) text s c r) where
     steps-here : Steps (empty us) text s c r
-    steps-here = subst (λ (b : Bool). Steps b text s c r) (ap (λ (m : ℕ). eqb m 0) en ∙ empty-eqb us) h
+    steps-here = subst (λ (b : Bool). Steps b text s c r) (ap (λ (m : ℕ). eqb m 0) en ∙ sym (empty-is us)) h
 
     pub code-took : (d : Cursor) (k : ℕ) → r ≡ Took d k
         → (x : Item) × Turned us s pre lack c d (takes (empty us) (stateAt text c) (itemEntry x)) x × At text us d × (k ≡ x .rounded)

@@ -1,4 +1,4 @@
--- The writer's call: one law for each return.
+-- The writer's call: one law for each return, by 19, 20 and 21 in order (`write-steps`).
 -- Assumes nothing.
 use Rattle.label.proofs.Steps.{write-steps}
 use mathlib.Core.Path.{_≡_, refl, sym, _∙_}

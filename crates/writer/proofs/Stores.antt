@@ -1,4 +1,5 @@
--- The laws of storing the indices: the separators, an entry with those owed before it, and a turn of the loop over the glyphs.
+-- The laws of storing the indices: the separators, an entry with those owed before it, and a turn of the loop over the glyphs. Entries stored with what is
+-- owed are those that are kept, joined (`owed-kept`).
 -- Assumes nothing.
 use mathlib.Core.Path.{_≡_, refl, sym, ap, _∙_}
 use mathlib.Core.Bool.{Bool, true, false, cond, _&&_}
@@ -39,6 +40,7 @@ semis-none zero h = refl
 semis-none (suc m) h = absurd (omega arith)
 
 module _ (m : ℕ) (x : List ℕ) {e : Bool} (p : e ≡ empty x) where
+  -- e says whether the entry has no bytes
   pub led-none : e ≡ true → [] ≡ led m x
   unfolding led
   led-none h = rw (← p, h)

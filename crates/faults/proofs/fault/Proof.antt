@@ -1,3 +1,4 @@
+-- `faults::fault`: the part that was found lies inside its owner (law `part-inside`), so it can be cut out of it; by which of the two owns it. Assumes nothing.
 use native.Mathlib.Omega.{arith}
 use borrow.Author.Needs.{needs}
 use Rattle.faults.proofs.Faults.{part-below, in-indices, in-text, shows-indices, shows-text}

@@ -1,3 +1,4 @@
+-- `faults::find_entry`: the loop keeps "entry k of all is entry `rest` of those from here on" (`partFrom`); each return is one law of Faults. Assumes nothing.
 use Prim.Native.Nat.{_+_, _-_}
 use native.Mathlib.Omega.{arith}
 use mathlib.Core.Path.{_≡_, sym, _∙_}

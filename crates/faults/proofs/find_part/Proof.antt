@@ -1,3 +1,4 @@
+-- `faults::find_part`: by the definition's two tests in its order; the code's flags of the first are put together once (`tested`). Assumes nothing.
 use mathlib.Core.Bool.{Bool, _&&_}
 use mathlib.Core.Path.{_≡_, sym, _∙_, ap}
 use borrow.Author.Needs.{needs}

@@ -1,3 +1,4 @@
+-- `faults::is_of_entry`: the two flags put together. Assumes nothing.
 use mathlib.Core.Bool.{Bool, _||_}
 use mathlib.Core.Path.{_∙_, ap}
 use borrow.Author.Needs.{needs}

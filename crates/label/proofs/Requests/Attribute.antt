@@ -1,5 +1,5 @@
--- Raw attribute values: resolving restores what escaping made, from any place on; what resolving comes to at a place; decimal references; how long the
--- result is.
+-- Raw attribute values: resolving restores what escaping made, byte by byte, from any place on; what resolving comes to at a place; decimal references; how
+-- long the result is.
 -- Assumes nothing.
 use Prim.Native.Nat.{ℕ, zero, suc, _+_, _*_, _-_, _≤_, _<_}
 use native.Mathlib.Omega.{arith}

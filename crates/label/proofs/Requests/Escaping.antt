@@ -1,4 +1,5 @@
--- Escaping: the bytes that it leaves as they are, those of indices among them, and how many bytes it makes of a text.
+-- Escaping: the bytes that it leaves as they are, those of indices among them, as none of them is odd; and how many bytes it makes of a text, at most six a
+-- unit.
 -- Assumes nothing.
 use Prim.Native.Nat.{ℕ, zero, suc, _+_, _*_, _-_, _/_, _%_, _≤_, _<_}
 use native.Mathlib.Omega.{arith}

@@ -1,4 +1,5 @@
--- A sheet's file, record by record: what it comes to, read back and forth; and how many numbers its answers are.
+-- A sheet's file, record by record: what it comes to, read back and forth, by induction over the labels and over the bytes; and how many numbers its answers
+-- are.
 -- Assumes nothing.
 use Prim.Native.Nat.{ℕ, zero, suc, _+_, _*_, _-_, _≤_, _<_}
 use native.Mathlib.Omega.{arith}

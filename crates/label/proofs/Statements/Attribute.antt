@@ -1,4 +1,4 @@
--- What document 02 asks of resolving and escaping, proved.
+-- What document 02 asks of resolving and escaping, proved: from `restored`, the laws of checks, and the demands' writer, asked to escape.
 -- Assumes nothing.
 use Prim.Native.Nat.{ℕ, _≤_}
 use native.Mathlib.Omega.{arith}

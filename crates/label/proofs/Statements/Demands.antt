@@ -1,4 +1,5 @@
--- The three demands, proved. The writer is taken as it is asked for, to escape or not: the demands speak of the one that is not asked.
+-- The three demands, proved: from `read-sound`, `read-back` and the laws of checks. The writer is taken as it is asked for, to escape or not: the demands
+-- speak of the one that is not asked.
 -- Assumes nothing.
 use Prim.Native.Nat.{ℕ, _+_, _*_, _≤_, _<_}
 use native.Mathlib.Omega.{arith}

@@ -1,4 +1,4 @@
--- The record of specs/Statements/Encoding.antt.
+-- The record of specs/Statements/Encoding.antt: by the law of each row, the rising first bytes, and that the shortest UTF-8 is `utf8`.
 -- Assumes nothing.
 use Prim.Native.Nat.{ℕ, zero, suc, _+_, _≤_}
 use native.Mathlib.Omega.{arith}

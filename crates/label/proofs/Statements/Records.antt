@@ -1,4 +1,4 @@
--- What the list of glyph records promises, proved.
+-- What the list of glyph records promises, proved: by the steps of the listing, at the run that some label reads as.
 -- Assumes nothing.
 use Prim.Native.Nat.{ℕ, _≤_}
 use mathlib.Core.Path.{_≡_, refl, sym, _∙_, ap, subst}

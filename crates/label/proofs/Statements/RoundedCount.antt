@@ -1,4 +1,4 @@
--- What document 02 asks of the count of rounded fields, proved.
+-- What document 02 asks of the count of rounded fields, proved: by the laws of Requests/RoundedCount.antt.
 -- Assumes nothing.
 use Prim.Native.Nat.{ℕ, _+_, _*_, _^_}
 use mathlib.Core.Path.{_≡_, sym, _∙_, ap}

@@ -1,4 +1,4 @@
--- The record of specs/Statements/Rounding.antt.
+-- The record of specs/Statements/Rounding.antt: by quotient and remainder, then by distances: between two as near and even lies a nearer one.
 -- Assumes nothing.
 use Prim.Native.Nat.{ℕ, _+_, _*_, _/_, _%_, _^_, _≤_, _<_}
 use native.Mathlib.Omega.{arith}

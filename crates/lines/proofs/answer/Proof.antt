@@ -1,4 +1,4 @@
--- `lines::answer` meets its contract: by the two cases of the writing. Assumes nothing.
+-- `lines::answer`: by the two cases of the writing. Assumes nothing.
 use borrow.Author.Needs.{needs}
 use Rattle.lines.proofs.answer.Statement.{statement}
 use Rattle.lines.proofs.answer.Tie as tie

@@ -1,4 +1,4 @@
--- `lines::line_end` meets its contract: a line ends at its first line feed. Assumes nothing.
+-- `lines::line_end`: a line ends at its first line feed, which `find_byte` finds. Assumes nothing.
 use borrow.Author.Needs.{needs}
 use Rattle.lines.specs.Lines.{lineEnd}
 use Rattle.lines.proofs.line_end.Statement.{statement}

@@ -1,4 +1,4 @@
--- `lines::next_line` meets its contract: by whether a line feed stands at the line's end. Assumes nothing.
+-- `lines::next_line`: by whether a line feed stands at the line's end. Assumes nothing.
 use Rattle.lines.specs.Lines.{lineBehind}
 use borrow.Author.Tests.{lt-ltb, le-ltb}
 use native.Mathlib.Omega.{arith}

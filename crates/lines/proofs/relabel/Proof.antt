@@ -1,4 +1,4 @@
--- `lines::relabel` meets its contract: a line that is too long is refused first; the arrays have the lengths that `relabel_in` asks for. Assumes nothing.
+-- `lines::relabel`: a line that is too long is refused first; the arrays have the lengths that `relabel_in` asks for. Assumes nothing.
 use Rattle.lines.proofs.Relabels.{long-line}
 use mathlib.Core.Path.{refl}
 use borrow.Author.Needs.{needs}

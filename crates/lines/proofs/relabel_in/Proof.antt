@@ -1,4 +1,4 @@
--- `lines::relabel_in` meets its contract: the buffers hold every run, so 16 to 18 never come; the bytes that the reading filled are the run's. Assumes nothing.
+-- `lines::relabel_in`: the buffers hold every run, so 16 to 18 never come; the bytes that the reading filled are the run's (laws of Relabels). Assumes nothing.
 use mathlib.Core.List.{[]}
 use mathlib.Core.Path.{sym, _∙_, ap}
 use Rattle.label.specs.Calls.{readingOutcome}

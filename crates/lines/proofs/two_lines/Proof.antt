@@ -1,4 +1,4 @@
--- `lines::two_lines` meets its contract: each place follows from the one before it. Assumes nothing.
+-- `lines::two_lines`: each place follows from the one before it. Assumes nothing.
 use Rattle.lines.specs.Lines.{twoLines}
 use native.Mathlib.Omega.{arith}
 use borrow.Author.Needs.{needs}

@@ -1,7 +1,5 @@
--- `lines::write_places` meets its contract: the front of each buffer is handed to the writer, not asked to escape. Assumes nothing.
+-- `lines::write_places`: the front of each buffer is handed to the writer, not asked to escape. Assumes nothing.
 use mathlib.Core.Path.{sym, _∙_, ap}
-use Prim.Native.Nat.{_*_}
-use lib.ListN.{length, take}
 use lib.Seq.{length-take-le}
 use Rattle.lines.specs.Lines.{answered}
 use borrow.Author.Needs.{needs}

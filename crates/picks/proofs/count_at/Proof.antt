@@ -1,5 +1,4 @@
--- `picks::count_at`: a case split on `glyphs`; both returns rewrite by it and join what `wire::count` and `wire::number_at` return; `words-length` keeps the
--- place in range. Assumes nothing.
+-- `picks::count_at`: by the flag; either number is fetched, and counted as `nat` does. Assumes nothing.
 use Rattle.wire.proofs.Fetched.{words-length}
 use native.Mathlib.Omega.{arith}
 use Rattle.label.specs.Sound.{nat}

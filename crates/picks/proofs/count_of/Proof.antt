@@ -1,5 +1,4 @@
--- `picks::count_of`: a case split on `turn`; the units are what `unit_count` returns, the glyphs a fourth of the numbers by `glyph-count` of the sound's Parts.
--- Assumes nothing.
+-- `picks::count_of`: by the flag; a glyph is four numbers (law `glyph-count`). Assumes nothing.
 use Rattle.sound.proofs.Parts.{glyph-count}
 use Rattle.label.specs.Fetched.{words}
 use Prim.Native.Nat.{ℕ, _/_}

@@ -1,5 +1,4 @@
--- `picks::pick`: each return is one law of Touches: `refuses-19`, `refuses-22`, `picks-stretch`; `asks` says what the tests tell of a sound run,
--- `within-limits` admits the walk. Assumes nothing.
+-- `picks::pick`: 19, 22 and the stretch are one law of Touches each, for both ways at once; what the two tests say is told once (`asked`). Assumes nothing.
 use Rattle.picks.proofs.Touches.{Asked, asks, refuses-19, refuses-22, picks-stretch, within-limits}
 use Rattle.label.specs.Calls.{pickOutcome}
 use mathlib.Core.Path.{ap, _∙_}

@@ -1,4 +1,4 @@
--- `picks::start_at`: a case split on the test; both returns are one rewriting by it, as `le-leb` or `lt-leb`. Assumes nothing.
+-- `picks::start_at`: by the test. Assumes nothing.
 use borrow.Author.Tests.{le-leb, lt-leb}
 use Rattle.picks.proofs.start_at.Statement.{statement}
 use Rattle.picks.proofs.start_at.Tie as tie

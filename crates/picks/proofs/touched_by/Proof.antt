@@ -1,5 +1,5 @@
--- `picks::touched_by`: the loop keeps that the walk from place i on (`touchedAt`) gives the stretch of all clusters, and the sum left is small; `walk-on`,
--- `walk-stop`, `walk-end` of Touches. Assumes nothing.
+-- `picks::touched_by`: the loop keeps "what is touched is what is touched from this cluster on" (`touchedAt`); it ends at the cluster that holds the last one
+-- picked, or behind all. Assumes nothing.
 use Rattle.picks.proofs.Touches.{touchedAt, walk-start, walk-end, walk-stop, walk-on, sum-at}
 use Rattle.picks.specs.Ways.{way}
 use Rattle.sound.specs.Sounds.{unitSum}

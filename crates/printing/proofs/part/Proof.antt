@@ -1,4 +1,4 @@
--- `printing::part`: the part taken has n bytes, by `length-take-le` of Seq; every other need is closed by search. Assumes nothing.
+-- `printing::part`: the first n bytes are n; all else is closed by search. Assumes nothing.
 use lib.Seq.{length-take-le}
 use mathlib.Core.Path.{sym}
 use borrow.Author.Needs.{needs}

@@ -1,5 +1,5 @@
--- `reader::fill`: the loop keeps the walk's place and that all parts before it are stored (`Filled` of Filling); a turn is `fills`, a refused entry impossible
--- (`fill-never`), the end `clusters-end`, `glyphs-end`. Assumes nothing.
+-- `reader::fill`: the loop keeps `Filled`: the walk stands at the cursor, and the parts before it are stored; an entry of either kind goes on by one law
+-- (`fills`), and behind the last the tail completes the run. Assumes nothing.
 use Prim.Native.Nat.{_+_, _-_}
 use native.Mathlib.Omega.{arith}
 use mathlib.Core.Path.{_≡_, sym, _∙_, ap}

@@ -1,5 +1,5 @@
--- `reader::fill_tail`: the loop keeps that storing the rest's tail here gives the whole tail stored at its start (`Storing` of Tails); `storing-room`,
--- `storing-next` and `storing-end` carry turn and end. Assumes nothing.
+-- `reader::fill_tail`: the loop keeps `Storing`: what is left, stored from here on, gives the whole tail stored where it begins; a turn stores one cluster and
+-- its glyph. Assumes nothing.
 use Rattle.reader.proofs.Tails.{Storing, storing-start, Room, storing-room, storing-next, storing-end}
 use Rattle.reader.proofs.Stores.{opened-yes, room-pair}
 use lib.Seq.{sets}

@@ -1,5 +1,5 @@
--- `reader::put_cluster`: where a cluster opens, two stores are its eight bytes (`pair-stored` of Stores, room by `pair-room`); otherwise there are no bytes, by
--- `opened-no`. Assumes nothing.
+-- `reader::put_cluster`: two numbers stored one behind the other are the cluster's bytes (law `pair-stored`); where none opens, nothing is stored. Assumes
+-- nothing.
 use Rattle.reader.proofs.Stores.{pair-room, pair-stored, opened-no}
 use native.Mathlib.Omega.{arith}
 use Prim.Native.Nat.{_+_, _*_, _<_}

@@ -1,5 +1,4 @@
--- `reader::put_entry`: one rewriting by what `taken` returns gives the three clauses, which are what `put_cluster`, `put_glyph` and `survey::advance` say.
--- Assumes nothing.
+-- `reader::put_entry`: the callees' equations, with the units that the entry takes put in. Assumes nothing.
 use borrow.Author.Needs.{needs}
 use Rattle.reader.proofs.put_entry.Statement.{statement}
 use Rattle.reader.proofs.put_entry.Tie as tie

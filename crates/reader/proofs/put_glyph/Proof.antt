@@ -1,5 +1,4 @@
--- `reader::put_glyph`: four stores one behind the other are the glyph's sixteen bytes, by `four-stored` of Stores; `back` of the wire's Signed turns both
--- offsets' bits back. Assumes nothing.
+-- `reader::put_glyph`: four numbers stored one behind the other are the glyph's bytes (law `four-stored`). Assumes nothing.
 use Rattle.wire.proofs.Signed.{back}
 use Rattle.reader.proofs.Stores.{four-stored}
 use borrow.Author.Needs.{needs}

@@ -1,5 +1,5 @@
--- `reader::read`: each return is a law of Calls by what the survey found: `into-refused`, `into-16` to `into-18` with `nothing-read`, and `into-run` with
--- `run-read` behind the filling. Assumes nothing.
+-- `reader::read`: the survey's counts are those of the label's run (`Found`); 16 to 18 are one law each, and where none holds, `fill` stored that run. Assumes
+-- nothing.
 use native.Mathlib.Omega.{arith}
 use mathlib.Core.Path.{refl}
 use Rattle.reader.proofs.Calls.{counts-are, found-by, starts-at, into-refused, into-16, into-17, into-18, into-run, nothing-read, run-read}

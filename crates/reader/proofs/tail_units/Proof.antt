@@ -1,4 +1,4 @@
--- `reader::tail_units`: a case split on what `units::is_pair_at` returns: two units by `wide-pair`, one by `wide-plain`, both laws of Tails. Assumes nothing.
+-- `reader::tail_units`: by whether a pair stands there. Assumes nothing.
 use Rattle.reader.proofs.Tails.{wide-pair, wide-plain}
 use lib.ListN.{drop}
 use Rattle.label.specs.Fetched.{halves}

@@ -1,4 +1,4 @@
--- `reader::taken`: three returns, each one rewriting by whether the lack and the count of units are 0. Assumes nothing.
+-- `reader::taken`: by the two tests. Assumes nothing.
 use borrow.Author.Tests.{eq-eqb, ne-eqb}
 use Rattle.reader.proofs.taken.Statement.{statement}
 use Rattle.reader.proofs.taken.Tie as tie

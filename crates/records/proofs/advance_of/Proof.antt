@@ -1,4 +1,4 @@
--- `records::advance_of` meets its contract: the sign of the number decides. Assumes nothing.
+-- `records::advance_of`: the sign of the number decides. Assumes nothing.
 use mathlib.Core.Path.{sym, _∙_}
 use Rattle.records.proofs.Parts.{advance-given, advance-own}
 use borrow.Author.Needs.{needs}

@@ -1,4 +1,4 @@
--- `records::decide` meets its contract: each test decides one of the three ways of the listing. Assumes nothing.
+-- `records::decide`: each test decides one of the three ways that a listing goes. Assumes nothing.
 use Rattle.records.proofs.Planned.{unsound, short, whole}
 use mathlib.Core.Path.{sym, _∙_}
 use borrow.Author.Tests.{not-true, not-false}

@@ -1,4 +1,4 @@
--- `records::fill` meets its contract: a walk of its MIR, with a loop that calls a covered function and stores what it returns.
+-- `records::fill`: a walk of its MIR by hand, as the borrow checker covers no slice of structs, with a loop that calls `glyph_at` and stores what it returns.
 -- The borrow of `out` is opened once, before the loop, and closed once, after it. In between the row of all its elements stands in the invariant, at
 -- the list of which the first k are the records.
 -- A turn lends a copy of `glyphs` to `glyph_at`, beside the token of its lifetime, which comes back, stores the record at place k, and counts on. All
@@ -6,7 +6,7 @@
 -- Assumes nothing.
 use mathlib.Core.Path.{_≡_, refl, sym, _∙_, ap, subst}
 use Prim.Native.Nat.{ℕ, zero, suc, _+_, _*_, _/_, _<_, _≤_, _^_}
-use native.Mathlib.Nat.{zero-add, add-zero, lt-suc-self}
+use native.Mathlib.Nat.{zero-add, add-zero, lt-suc-self, le-refl, le-of-lt, lt-of-lt-of-le}
 use native.Mathlib.Numerals.{add-one}
 use native.Mathlib.Omega.{arith}
 use mathlib.Core.Bool.{Bool}
@@ -90,20 +90,11 @@ sum-less k t n e = omega arith
 sum-next : (k t n : ℕ) → k + suc t ≡ n → suc k + t ≡ n
 sum-next k t n e = omega arith
 
-less-le : (k n m : ℕ) → k < n → n ≤ m → k < m
-less-le k n m l h = omega arith
-
-lt-le : (k n : ℕ) → k < n → k ≤ n
-lt-le k n l = omega arith
-
 one-fits : (k n : ℕ) → k < n → n < 2 ^ 64 → k + 1 < 2 ^ 64
 one-fits k n l h = omega arith
 
 lt-fits : (k n : ℕ) → k < n → n < 2 ^ 64 → k < 2 ^ 64
 lt-fits k n l h = omega arith
-
-le-self : (n : ℕ) → n ≤ n
-le-self n = omega arith
 
 -- ---- where a loop of n turns stands: how many are left, and how many are done
 abbrev Turn : ℕ → Type 0
@@ -234,15 +225,15 @@ module _ {M : Type 1} (𝓤 : URA M) (H : Heap 𝓤) (A : Atoms 𝓤) (W : Given
       unfolding afterTurn
       more t k e =
           let l = sum-less k t n e in
-          let within = subst (λ (m : ℕ). k < m) (sym (length-stored s ys k (lt-le k (length ys) (less-le k n (length ys) l enough))))
-          (less-le k n (length ys) l enough) in
-          let fits = place-fits k (length ys) (less-le k n (length ys) l enough) (room .1) in
+          let within = subst (λ (m : ℕ). k < m) (sym (length-stored s ys k (le-of-lt (lt-of-lt-of-le l enough))))
+          (lt-of-lt-of-le l enough) in
+          let fits = place-fits k (length ys) (lt-of-lt-of-le l enough) (room .1) in
           assigns ! (bin ! (load ! (from ! (stop !)) (look ! 1 refl)) (load ! (from ! (stop !)) (look ! 8 refl)) tt) (from ! (stop !))
           (init ! 2 refl (tt, tt)) $
           rewrite ! 2 (λ (z : Bool). ‵ (fat fullShare tyBool l₅ 0 (vbool z))) (lt-ltb k n l) refl $
           stays ! (load ! (from ! (stop !)) (look ! 2 refl)) $
           move ! (13 ∷ 14 ∷ []) $
-          use2 W (raw (GlyphAt 𝓤 H A mem run .pre (to k)) ⊛ ‵ Own) (apart k (lt-fits k n l n-fits) (less-le k n (length (now gs) / 16) l long)) $ split ! $
+          use2 W (raw (GlyphAt 𝓤 H A mem run .pre (to k)) ⊛ ‵ Own) (apart k (lt-fits k n l n-fits) (lt-of-lt-of-le l long)) $ split ! $
           -- [what the callee asks; what `glyphs` owns; the row; _4; _5; _6; _7; _8; _1; _2; _3; _0; …]
           calls-at ! (fmOf 𝓤 H (W .laws) 𝓣) (GlyphAt 𝓤 H A mem run) known (to k)
           (and-then ! (load ! (from ! (stop !)) (look ! 9 refl)) (and-then ! (load ! (from ! (stop !)) (look ! 3 refl)) (no-more !))) (λ u.
@@ -264,7 +255,7 @@ module _ {M : Type 1} (𝓤 : URA M) (H : Heap 𝓤) (A : Atoms 𝓤) (W : Given
           (store-raw ! 0 refl (LL.lawful T.the-type T′.the-laws 𝓤 H A W .typed r _ is .0)) $
           move ! (0 ∷ 3 ∷ 2 ∷ []) $ elem-put ! R fullShare (zs k) k r (u ∷ []) b o within $
           rewrite ! 0 (λ (ws : List Glyph). ‵ (row R fullShare ws b o))
-          (ap (λ (w : Glyph). set (zs k) k w) is-k ∙ next s ys k (less-le k n (length ys) l enough)) refl $
+          (ap (λ (w : Glyph). set (zs k) k w) is-k ∙ next s ys k (lt-of-lt-of-le l enough)) refl $
           move ! (1 ∷ []) $ drop ! $
           -- [the row; the token; what `glyphs` owns; _4; _5; _6; _7; _8; _1; _2; _3; _0; …]
           assigns-last ! (bin ! (load ! (from ! (stop !)) (look ! 3 refl)) (lit ! tt) (record { fits = one-fits k n l n-fits })) (from ! (stop !))
@@ -280,7 +271,7 @@ module _ {M : Type 1} (𝓤 : URA M) (H : Heap 𝓤) (A : Atoms 𝓤) (W : Given
       ends X =
           assigns ! (bin ! (load ! (from ! (stop !)) (look ! 1 refl)) (load ! (from ! (stop !)) (look ! 8 refl)) tt) (from ! (stop !))
           (init ! 2 refl (tt, tt)) $
-          rewrite ! 2 (λ (z : Bool). ‵ (fat fullShare tyBool l₅ 0 (vbool z))) (le-ltb n n (le-self n)) refl $
+          rewrite ! 2 (λ (z : Bool). ‵ (fat fullShare tyBool l₅ 0 (vbool z))) (le-ltb n n (le-refl n)) refl $
           leaves-loop ! (load ! (from ! (stop !)) (look ! 2 refl)) $ exec ! C Λ E mir.t-3 (atRet E Post) $
           assigns ! (of-opd ! (unit-lit !)) (from ! (stop !)) (init ! 9 refl (tt, tt)) $
           move ! (0 ∷ 10 ∷ 11 ∷ 12 ∷ []) $ closes-slice ! tt R ys (zs n) (length-stored s ys n enough) b o $

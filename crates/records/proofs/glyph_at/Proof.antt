@@ -1,4 +1,4 @@
--- `records::glyph_at` meets its contract: the four numbers are fetched, and the record is made of them. Assumes nothing.
+-- `records::glyph_at`: the four numbers are fetched, and the record is made of them (law `made`). Assumes nothing.
 use Rattle.wire.proofs.Fetched.{words-length}
 use native.Mathlib.Omega.{arith}
 use Rattle.label.specs.Fetched.{words}

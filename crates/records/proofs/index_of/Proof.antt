@@ -1,4 +1,4 @@
--- `records::index_of` meets its contract: one test of the bits tells an index from all else. Assumes nothing.
+-- `records::index_of`: one test of the bits tells an index from all else. Assumes nothing.
 use Rattle.records.proofs.Parts.{index-named, index-font}
 use borrow.Author.Needs.{needs}
 use Rattle.records.proofs.index_of.Statement.{statement}

@@ -1,5 +1,5 @@
--- `records::list_four` meets its contract: a walk of its MIR. The array stands in a local, which is lent as a slice for a lifetime that the walk
--- makes, `list_records` is called, the lifetime is ended, and the array is taken back at the last list that the callee's contract says.
+-- `records::list_four`: a walk of its MIR by hand. The array stands in a local, which is lent as a slice for a lifetime that the walk makes, `list_records`
+-- is called, the lifetime is ended, and the array is taken back at the last list that the callee's contract says.
 -- Its own contract says nothing of a lent list of records, so the borrow checker covers its callers.
 -- Assumes nothing.
 use Rattle.label.specs.Places.{places}

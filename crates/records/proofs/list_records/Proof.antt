@@ -1,5 +1,5 @@
--- `records::list_records` meets its contract: a walk of its MIR, with no branch and no loop. `decide`, which is covered, says the answer and how many
--- records are stored, and `fill` stores them.
+-- `records::list_records`: a walk of its MIR by hand, with no branch and no loop: `decide`, which is covered, says the answer and how many records are
+-- stored, and `fill` stores them.
 -- The three shared slices are lent to the callees as copies, beside the tokens of their lifetimes, which come back. `out` goes to `fill` for good, at
 -- its own lifetime, share and name.
 -- Assumes nothing.

@@ -1,4 +1,4 @@
--- `rules::glyph_ok`: unfolds `glyphOk` and rewrites by what all eight callees return, from the last joining back to the first test. Assumes nothing.
+-- `rules::glyph_ok`: the code's flags, put in last to first, are the definition's test. Assumes nothing.
 use Rattle.rules.specs.Rules.{glyphOk}
 use borrow.Author.Needs.{needs}
 use Rattle.rules.proofs.glyph_ok.Statement.{statement}

@@ -1,4 +1,4 @@
--- `rules::is_limited`: one rewriting by what the three calls of `plain::both` return. Assumes nothing.
+-- `rules::is_limited`: the code's flags, put in last to first, are the definition's test. Assumes nothing.
 use borrow.Author.Needs.{needs}
 use Rattle.rules.proofs.is_limited.Statement.{statement}
 use Rattle.rules.proofs.is_limited.Tie as tie

@@ -1,4 +1,4 @@
--- `rules::keeps_limits`: one law, `limits-are` of Limits, fed with what the counts, the sizes and the three calls of `plain::both` return. Assumes nothing.
+-- `rules::keeps_limits`: the four comparisons are those of `glyphFits`, whatever the signs (law `limits-are`). Assumes nothing.
 use Rattle.rules.proofs.Limits.{limits-are}
 use Rattle.label.specs.Fetched.{signed}
 use borrow.Author.Needs.{needs}

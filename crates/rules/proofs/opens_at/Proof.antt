@@ -1,5 +1,4 @@
--- `rules::opens_at`: unfolds `opensAt`; each of the three returns is one rewriting by what the callees return and by the branches taken, the second also by
--- `and-true`. Assumes nothing.
+-- `rules::opens_at`: in each return the code's flags, put in last to first, are the definition's test, of which the branch decides a part. Assumes nothing.
 use Rattle.rules.specs.Rules.{opensAt}
 use mathlib.Core.Bool.{and-true}
 use borrow.Author.Needs.{needs}

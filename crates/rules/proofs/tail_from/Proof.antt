@@ -1,4 +1,4 @@
--- `rules::tail_from`: unfolds `owes` and rewrites by what the three joining calls return. Assumes nothing.
+-- `rules::tail_from`: the code's flags, put in last to first, are the definition's test. Assumes nothing.
 use Rattle.rules.specs.Rules.{owes}
 use borrow.Author.Needs.{needs}
 use Rattle.rules.proofs.tail_from.Statement.{statement}

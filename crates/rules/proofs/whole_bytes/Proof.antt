@@ -1,4 +1,4 @@
--- `rules::whole_bytes`: one rewriting by what the two calls of `plain::both` return. Assumes nothing.
+-- `rules::whole_bytes`: the code's flags, put in last to first, are the definition's test. Assumes nothing.
 use borrow.Author.Needs.{needs}
 use Rattle.rules.proofs.whole_bytes.Statement.{statement}
 use Rattle.rules.proofs.whole_bytes.Tie as tie

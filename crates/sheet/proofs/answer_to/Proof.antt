@@ -1,5 +1,5 @@
--- `sheet::answer_to`: an accepted label is `accepted`, a refused one `told`, both of Answers; `number-small` and `place-small` let the refusal's two numbers
--- fit. Assumes nothing.
+-- `sheet::answer_to`: by what the survey says: 0 and 0, or number and place, which fit 32 bits as every refusal of a reading does (law `read-placed`). Assumes
+-- nothing.
 use Rattle.sheet.proofs.Answers.{accepted, number-small, place-small, told}
 use Rattle.sheet.specs.Records.{labelIn}
 use borrow.Author.Needs.{needs}

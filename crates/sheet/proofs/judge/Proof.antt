@@ -1,5 +1,4 @@
--- `sheet::judge`: the loop keeps that the header stands and n records stand before the place (`Counted` of Records); the returns are `judged-25`, `judged-26`,
--- `judged-27` and `judged`. Assumes nothing.
+-- `sheet::judge`: the loop keeps "so many records stand before here" (`Counted`); 25, 26, 27 and the count are one law of Records each. Assumes nothing.
 use Rattle.label.specs.Bytes.{ascii, begins}
 use Rattle.label.specs.Wire.{fromHalves}
 use Rattle.label.specs.Requests.Sheet.{header}

@@ -1,5 +1,5 @@
--- `sheet::put_answers`: the loop keeps that the answers before the place are stored and those left give the whole (`Stored` of Answers); a cut record is
--- impossible, by `not-cut`. Assumes nothing.
+-- `sheet::put_answers`: the loop keeps `Stored`: the answers to the labels left, stored from here on, give all; an accepted file ends inside no record. Assumes
+-- nothing.
 use native.Mathlib.Omega.{arith}
 use Prim.Native.Nat.{_+_, _-_, _/_, _<_}
 use mathlib.Core.Path.{sym, _∙_}

@@ -1,5 +1,5 @@
--- `sheet::read_sheet`: rewrites the room by `number_count`; then Answers has what `judge` tells: `accepts` and `tells` where it fills, `tells-no` and `refuses`
--- where it refuses. Assumes nothing.
+-- `sheet::read_sheet`: what `judge` says of the file is what the call says; accepted, `put_answers` has stored the answers, refused, the list is as it was.
+-- Assumes nothing.
 use Rattle.sheet.proofs.Answers.{tells, accepts, tells-no, refuses}
 use borrow.Author.Needs.{needs}
 use Rattle.sheet.proofs.read_sheet.Statement.{statement}

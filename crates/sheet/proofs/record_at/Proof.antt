@@ -1,5 +1,4 @@
--- `sheet::record_at`: each return is one law of Records: `record-short` for fewer than six bytes, `record-cut` where the end lies past the file, `record-whole`
--- otherwise. Assumes nothing.
+-- `sheet::record_at`: the file ends inside the two lengths, inside what they count, or behind it: one law of Records each. Assumes nothing.
 use mathlib.Core.Path.{_∙_}
 use borrow.Author.Needs.{needs}
 use Rattle.sheet.proofs.Records.{record-short, record-cut, record-whole}

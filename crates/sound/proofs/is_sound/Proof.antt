@@ -1,7 +1,7 @@
--- `sound::is_sound`: the helper `tested` makes the code's counting tests the definition's; the returns are `not-limited`, `not-proper` and `well-left` of
--- Sounds. Assumes nothing.
+-- `sound::is_sound`: the definition's test in the code's order (law `sound-is`): each return is one law of Sounds, at the first part that fails or behind all.
+-- Assumes nothing.
 use Rattle.sound.proofs.Sounds.{not-limited, not-proper, well-left}
-use Rattle.sound.proofs.Tests.{and-of}
+use Rattle.label.proofs.Lists.{and-of}
 use Rattle.rules.specs.Rules.{wholeBytes, limited}
 use Rattle.label.specs.Fetched.{halves, words}
 use Prim.Native.Nat.{_/_}

@@ -1,7 +1,8 @@
--- `sound::well_run`: the loop keeps that the test from this place on (`wellAt`) is the whole test; each turn and return goes by a `turn-..` law of Sounds, the
--- last one with the code's final tests rewritten. Assumes nothing.
-use Rattle.sound.proofs.Sounds.{wellAt, empty-is, Turn, Numbers, Opened, turn-not-ok, turn-no-cluster, turn-not-named, turn-named, opens-here, turn-not-opened, turn-opened, turn-within, turn-end}
+-- `sound::well_run`: the loop keeps "the test of all is the test from here on" (`wellAt`); what a turn has found is told once (`turn`, `numbers`, `opened`),
+-- and each return is one law of it. Assumes nothing.
+use Rattle.sound.proofs.Sounds.{wellAt, Turn, Numbers, Opened, turn-not-ok, turn-no-cluster, turn-not-named, turn-named, opens-here, turn-not-opened, turn-opened, turn-within, turn-end}
 use Rattle.sound.specs.Sounds.{wellRun}
+use Rattle.label.proofs.Lists.{empty-is}
 use Rattle.label.specs.Fetched.{halves, words}
 use lib.Dec.{eqb}
 use native.Mathlib.Omega.{arith}

@@ -1,4 +1,4 @@
--- `survey::advance`: both returns unfold `advanced` and rewrite by what `plain::less_one` returns and by whether the cursor's lack is 0. Assumes nothing.
+-- `survey::advance`: by whether a cluster is open, one rewriting each; the sums are closed by search. Assumes nothing.
 use borrow.Author.Needs.{needs}
 use borrow.Author.Tests.{eq-eqb, ne-eqb}
 use Rattle.survey.specs.Steps.{advanced}

@@ -1,5 +1,5 @@
--- `survey::count_tail`: the loop keeps that n and the clusters of the rest's tail are all clusters (`Counting` of Endings); bad characters cannot occur, by
--- `no-ill` and `no-outside` of the text's Moves. Assumes nothing.
+-- `survey::count_tail`: the loop keeps "the clusters counted and those of the units from here on are the tail's" (`Counting`); a text with units has no
+-- character that ends it early. Assumes nothing.
 use Rattle.survey.proofs.Endings.{Counting, counting-start, counting-few, counting-next, counting-end}
 use Rattle.text.proofs.Moves.{no-ill, no-outside}
 use Rattle.utf8.proofs.Chars.{char-plain, char-inside}

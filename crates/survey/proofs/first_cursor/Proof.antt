@@ -1,4 +1,4 @@
--- `survey::first_cursor`: one rewriting by what `first_place` and `fresh_cursor` return; every other need is closed by search. Assumes nothing.
+-- `survey::first_cursor`: the fresh cursor with two fields set, by one rewriting. Assumes nothing.
 use borrow.Author.Needs.{needs}
 use Rattle.survey.proofs.first_cursor.Statement.{statement}
 use Rattle.survey.proofs.first_cursor.Tie as tie

@@ -1,5 +1,4 @@
--- `survey::limit`: a case split at 4096 glyphs; both returns are a rewriting by that test, the refused one also by what `Reading::refused` returns. Assumes
--- nothing.
+-- `survey::limit`: by the test of 15; the count of rounded fields goes along. Assumes nothing.
 use mathlib.Core.Path.{refl}
 use borrow.Author.Needs.{needs}
 use borrow.Author.Tests.{le-leb, lt-leb}

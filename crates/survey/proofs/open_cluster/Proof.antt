@@ -1,5 +1,4 @@
--- `survey::open_cluster`: each outcome of `text::move_past` is one law of Placing: `opens-to`, `opens-past`, `opens-half`; `moves-fit` and `half-fit` keep the
--- sums of units in range. Assumes nothing.
+-- `survey::open_cluster`: the three answers of `move_past` are the cluster, 12 and 13, by one law of Placing each. Assumes nothing.
 use native.Mathlib.Omega.{arith}
 use mathlib.Core.Path.{refl}
 use borrow.Author.Needs.{needs}

@@ -1,5 +1,4 @@
--- `survey::survey`: refusals go by `refuses` of Surveying with the cases of Judging (too long, refused text); an accepted text's units go by `text-units`,
--- `read-units` and `judges`. Assumes nothing.
+-- `survey::survey`: 1 by each length, then what the text is read as: each return is one law of Surveying, over what Judging says of `read`. Assumes nothing.
 use Rattle.survey.proofs.Surveying.{refuses, judges}
 use Rattle.survey.proofs.Judging.{text-long, indices-long, text-units, read-units, text-refused}
 use mathlib.Core.Path.{_∙_}

@@ -1,5 +1,5 @@
--- `survey::survey_entry`: an index alone goes by `turn-plain` of Placing, any other entry by what `take_entry` says; `steps-read` and `steps-refused` of
--- Walking make each a step. Assumes nothing.
+-- `survey::survey_entry`: an index alone at a plain character is taken by its three flags (`easy`); any other entry is read, and what `take_entry` says of it
+-- is the step. Assumes nothing.
 use native.Mathlib.Omega.{arith}
 use mathlib.Core.Path.{_≡_, refl, sym, _∙_}
 use mathlib.Core.Bool.{true}

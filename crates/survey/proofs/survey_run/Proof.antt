@@ -1,5 +1,5 @@
--- `survey::survey_run`: the loop keeps where the walk stands, with the parts and rounded fields so far (`Underway` of Surveying); a turn is `surveyed-on`, the
--- returns are laws of Endings and Walking. Assumes nothing.
+-- `survey::survey_run`: the loop keeps `Underway`: the walk stands at the cursor, and the fields rounded so far and those left are all; each end is one law of
+-- Endings. Assumes nothing.
 use Prim.Native.Nat.{ℕ, _+_, _-_, _<_}
 use native.Mathlib.Omega.{arith}
 use mathlib.Core.Path.{refl, sym, _∙_, ap}

@@ -1,5 +1,4 @@
--- `survey::survey_tail`: `tail-counted` of Endings turns the counted tail into the run's counts; `tail-few` of the label's Tails keeps both sums in range.
--- Assumes nothing.
+-- `survey::survey_tail`: the tail has as many glyphs as clusters, so one count serves both (law `tail-counted`). Assumes nothing.
 use native.Mathlib.Omega.{arith}
 use mathlib.Core.Path.{_∙_}
 use borrow.Author.Needs.{needs}

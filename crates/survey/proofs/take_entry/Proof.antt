@@ -1,5 +1,5 @@
--- `survey::take_entry`: each return is one law of Placing: `turn-ten`, `turn-eleven`, `turn-opens`, `turn-further`; the helpers `enough` and `allowed` turn the
--- code's flags into what checks 10 and 11 ask. Assumes nothing.
+-- `survey::take_entry`: 10, 11, a cluster that opens and a further glyph are one law of Placing each, by the code's flags put together (`enough`, `allowed`).
+-- Assumes nothing.
 use mathlib.Core.Bool.{true, not, _&&_, _||_}
 use mathlib.Core.Path.{_≡_, refl, sym, _∙_}
 use lib.Dec.{leb, eqb}

@@ -1,5 +1,4 @@
--- `trials::print_next`: the place behind the two lines is further on and within the input, as `lines::two_lines` says; every other need is closed by search.
--- Assumes nothing.
+-- `trials::print_next`: the two lines lie within the input, and the place behind them is further on. Assumes nothing.
 use borrow.Author.Needs.{needs}
 use Rattle.trials.proofs.print_next.Statement.{statement}
 use Rattle.trials.proofs.print_next.Tie as tie

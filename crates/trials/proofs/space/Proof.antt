@@ -1,4 +1,4 @@
--- `trials::space`: the length of so many equal bytes, by `length-replicate` of ListN. Assumes nothing.
+-- `trials::space`: the array is as long as its count says. Assumes nothing.
 use Prim.Native.Nat.{ℕ}
 use mathlib.Core.Path.{sym}
 use lib.ListN.{length-replicate}

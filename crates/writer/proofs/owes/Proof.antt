@@ -1,4 +1,4 @@
--- `writer::owes`: a case split on `stored`; both returns are a rewriting by it, and the bound is arithmetic. Assumes nothing.
+-- `writer::owes`: by the flag. Assumes nothing.
 use native.Mathlib.Omega.{arith}
 use borrow.Author.Needs.{needs}
 use Rattle.writer.proofs.owes.Statement.{statement}

@@ -1,5 +1,5 @@
--- `writer::put_indices`: the loop keeps that what is left to store, separators owed included, gives all indices (`Left`); a turn is `rest-further` or
--- `rest-opens` with `entry-stored` of Stores. Assumes nothing.
+-- `writer::put_indices`: the loop keeps "what is left to store gives the whole" (`Left`), with the separators that are owed; either turn stores one entry (law
+-- `entry-stored`). Assumes nothing.
 use native.Mathlib.Omega.{arith}
 use mathlib.Core.Path.{ap, _∙_}
 use Prim.Native.Nat.{ℕ, _+_, _-_, _*_, _≤_}

@@ -1,5 +1,5 @@
--- `writer::put_next`: a glyph wholly the font's has an entry without bytes (`empty-is-font`), so `led-none` of Stores; otherwise separators and entry, joined
--- by `then`, are `led-some`. Assumes nothing.
+-- `writer::put_next`: an entry has no bytes exactly where its glyph is wholly the font's (`blank`); else the separators and the entry are stored one behind the
+-- other. Assumes nothing.
 use native.Mathlib.Omega.{arith}
 use Rattle.octets.proofs.Puts.{none, then, put-as}
 use Rattle.writer.proofs.Stores.{glyph-is, led-none, led-some}

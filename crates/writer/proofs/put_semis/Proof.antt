@@ -1,5 +1,4 @@
--- `writer::put_semis`: the loop keeps that m separators are left to store and give the whole (`Left` of the octets' Puts), by `semis-step` and, at the end,
--- `semis-none` of Stores. Assumes nothing.
+-- `writer::put_semis`: the loop keeps "what is left to store gives the whole" (`Left`). Assumes nothing.
 use native.Mathlib.Omega.{arith}
 use Prim.Native.Nat.{_+_}
 use mathlib.Core.Path.{_≡_, refl}

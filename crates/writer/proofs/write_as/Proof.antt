@@ -1,5 +1,5 @@
--- `writer::write_as`: each return is one law of Answers (`refuses-19`, `refuses-20`, `refuses-21`, `writes`); `few` says that a sound run is small enough for
--- the callees. Assumes nothing.
+-- `writer::write_as`: 19, 20 and 21 in order, then both outputs: each return is one law of Answers; a sound run is small enough for the callees (`small`).
+-- Assumes nothing.
 use Rattle.writer.proofs.Answers.{few, refuses-19, refuses-20, refuses-21, writes}
 use Prim.Native.Nat.{_≤_}
 use lib.ListN.{length}
