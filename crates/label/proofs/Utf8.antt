@@ -175,16 +175,16 @@ module _ (c : ℕ) where
   unfolding formRoom
   utf8-shortest m =
       by-length
-      (λ h. record { size = 1; held = omega arith; is = utf8-one h; least = λ n l. needs-bytes c n l .1 })
-      (λ h k. record { size = 2; held = omega arith; is = utf8-two h k; least = λ n l. needs-bytes c n l .2 h })
-      (λ h k. record { size = 3; held = omega arith; is = utf8-three h k; least = λ n l. needs-bytes c n l .3 h })
-      (λ h. record { size = 4; held = m; is = utf8-four h; least = λ n l. needs-bytes c n l .4 h })
+      (λ h. record { count = 1; held = omega arith; is = utf8-one h; least = λ n l. needs-bytes c n l .1 })
+      (λ h k. record { count = 2; held = omega arith; is = utf8-two h k; least = λ n l. needs-bytes c n l .2 h })
+      (λ h k. record { count = 3; held = omega arith; is = utf8-three h k; least = λ n l. needs-bytes c n l .3 h })
+      (λ h. record { count = 4; held = m; is = utf8-four h; least = λ n l. needs-bytes c n l .4 h })
 
   -- there is no other
   pub shortest-is : (s : List ℕ) → Shortest c s → s ≡ utf8 c
   shortest-is s x =
-      let y : Shortest c (utf8 c) = utf8-shortest (needs-bytes c (x .size) (x .held) .0) in
-      let e : x .size ≡ y .size = omega (arith, x .least (y .size) (y .held), y .least (x .size) (x .held)) in
+      let y : Shortest c (utf8 c) = utf8-shortest (needs-bytes c (x .count) (x .held) .0) in
+      let e : x .count ≡ y .count = omega (arith, x .least (y .count) (y .held), y .least (x .count) (x .held)) in
       x .is ∙ ap (λ (n : ℕ). layout n c) e ∙ sym (y .is)
 
 -- ── scalar values ──

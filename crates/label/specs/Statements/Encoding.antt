@@ -28,10 +28,10 @@ formRoom (suc (suc (suc (suc (suc n))))) = 0
 
 -- s is the shortest UTF-8 of c: a form of Table 3-6 with room for c, and no form of fewer bytes has it
 pub record Shortest (c : ℕ) (s : List ℕ) : Type 0 where
-  pub size : ℕ
-  pub held : c < formRoom size
-  pub is : s ≡ layout size c
-  pub least : (n : ℕ) → c < formRoom n → size ≤ n
+  pub count : ℕ
+  pub held : c < formRoom count
+  pub is : s ≡ layout count c
+  pub least : (n : ℕ) → c < formRoom n → count ≤ n
 
 -- the shortest UTF-8 of c starts here
 pub record Starts (c : ℕ) (s : List ℕ) : Type 0 where
