@@ -8,23 +8,12 @@ use lib.Bits.{bit_or, or_shifted_r}
 use mir.Syntax.{w32}
 use mir.Val.{to_z}
 use Rattle.wire.proofs.Signed.{signed_is}
-use Rattle.wire.proofs.signed_number.Statement.{statement}
-use Rattle.wire.proofs.signed_number.Tie as tie
+use Rattle.wire.proofs.signed_number.Goals as goal
 
-cast-result : tie.Need-overflow-cast-result
-cast-result c = search rules
+pub returns-then-n-lt2147483648 : goal.returns-then-n-lt2147483648
+returns-then-n-lt2147483648 c = signed_is c.args.n
 
-cast-result-2 : tie.Need-overflow-cast-result-2
-cast-result-2 c = search rules
-
-returns : tie.Need-returns
-returns c = signed_is c.before.args.n
-
-returns-2 : tie.Need-returns-2
-returns-2 c =
-    let n = c.before.args.n in
+pub returns-else-n-lt2147483648 : goal.returns-else-n-lt2147483648
+returns-else-n-lt2147483648 c =     let n = c.args.n in
     let e : bit_or (n - 2147483648) 2147483648 ≡ n = omega (arith, or_shifted_r 1 31 (n - 2147483648) (omega arith))
     in ap (to_z w32) e ∙ signed_is n
-
-pub signed-number-spec : {M : Type 1} → statement M
-signed-number-spec = tie.close (tie.spec cast-result cast-result-2 returns returns-2)
