@@ -1,0 +1,22 @@
+-- `number::shrunk`: past 18 places `shrink_none` and `none_whole` give 0; else the test on quotient and remainder decides `round_up` or `round_down`, and
+-- `twice_small` gives it room, all of ValueLaws. Assumes nothing.
+use native.Mathlib.Nat.{div-le_self}
+use native.Mathlib.Omega.{arith}
+use borrow.Author.Rules.{rules}
+use Rattle.number.proofs.ValueLaws.{shrink_none, none_whole, round_up, round_down, ten_pos, twice_small}
+use Rattle.number.proofs.shrunk.Goals as goal
+
+pub returns-then-k-gt18 : goal.returns-then-k-gt18
+returns-then-k-gt18 c =     rw (c.zero.ensures, shrink_none _ _ c.requires c.if-k-gt18.true, none_whole _ _ c.requires c.if-k-gt18.true)
+
+pub nonzero_div-q : goal.nonzero_div-q
+nonzero_div-q c = rw c.power-d.ensures (ten_pos _)
+
+pub nonzero_rem-r : goal.nonzero_rem-r
+nonzero_rem-r c = rw c.power-d.ensures (ten_pos _)
+
+pub returns-then-d-r : goal.returns-then-d-r
+returns-then-d-r c =     rw (← c.power-d.ensures, round_up c.args.m c.power-d.result (omega (arith, c.if-d-r.true))) c.limited.ensures
+
+pub returns-else-d-r : goal.returns-else-d-r
+returns-else-d-r c =     rw (← c.power-d.ensures, round_down c.args.m c.power-d.result (omega (arith, c.if-d-r.false))) c.limited-else-d-r.ensures
