@@ -10,7 +10,7 @@ use label::Filling;
 // ── references ──
 
 // The character that a reference stands for and the place behind its `;`; or no reference.
-#[derive(Drop)]
+#[derive(Clone, Copy)]
 enum Reference {
     To { code: u32, next: usize },
     Bad,
@@ -42,7 +42,7 @@ fn with_digit(n: u32, base: u32, d: u32) -> u32
 }
 
 // The digits at a place: their value, cut, and the place behind them.
-#[derive(Drop)]
+#[derive(Clone, Copy)]
 struct Number {
     value: u32,
     end: usize,
@@ -165,7 +165,7 @@ fn width_at(s: &[u8], at: usize) -> usize
 }
 
 // How many bytes came out, or the place of a bad reference or a raw `<`.
-#[derive(Drop)]
+#[derive(Clone, Copy)]
 enum Stored {
     Bytes(usize),
     Bad(usize),

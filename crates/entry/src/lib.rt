@@ -13,7 +13,7 @@ use number::{Digits, Thousandths};
 
 // What an entry says: whether it has a map, the map's two counts (1 and 1 without one; cut at 10^18), its glyph record, how many bytes it has, and how
 // many of its fields were rounded.
-#[derive(Drop)]
+#[derive(Clone, Copy)]
 pub struct Item {
     pub mapped: bool,
     pub units: usize,
@@ -23,7 +23,7 @@ pub struct Item {
     pub rounded: usize,
 }
 
-#[derive(Drop)]
+#[derive(Clone, Copy)]
 pub enum EntryRead {
     Read(Item),
     Refused(Refusal),
@@ -58,7 +58,7 @@ fn breaks_at(s: &[u8], at: usize) -> bool
 // ── the index part ──
 
 // The map at the start of an entry, of no bytes where there is none.
-#[derive(Drop)]
+#[derive(Clone, Copy)]
 struct MapPart {
     ok: bool,
     used: usize,
@@ -132,7 +132,7 @@ fn map_of(s: &[u8]) -> MapPart
 }
 
 // The map and the index's digits: whether they are well formed, the bytes used, what the map says, whether an index is named, and which (cut at 10^18).
-#[derive(Drop)]
+#[derive(Clone, Copy)]
 struct Front {
     ok: bool,
     used: usize,
@@ -178,7 +178,7 @@ fn front_of(s: &[u8], first: Digits) -> Front
 // ── fields ──
 
 // A field behind its comma, of no bytes where the entry has ended.
-#[derive(Drop)]
+#[derive(Clone, Copy)]
 struct Field {
     ok: bool,
     used: usize,

@@ -13,7 +13,7 @@ ghost use Rattle.glyph_label.specs.Fits.{Small32, ReadingFits, WritingFits, Stre
 // What was read: how many units, clusters and glyphs, and how many given fields were rounded. In each answer `number` is 0, or a refusal's number, and
 // then `place` is its place and all else 0.
 #[repr(C)]
-#[derive(Drop)]
+#[derive(Clone, Copy)]
 pub struct GlyphLabelReading {
     pub number: u32,
     pub place: u32,
@@ -25,7 +25,7 @@ pub struct GlyphLabelReading {
 
 // How many bytes were written.
 #[repr(C)]
-#[derive(Drop)]
+#[derive(Clone, Copy)]
 pub struct GlyphLabelWriting {
     pub number: u32,
     pub place: u32,
@@ -35,7 +35,7 @@ pub struct GlyphLabelWriting {
 
 // How many places of a lent buffer were filled: bytes, or numbers of an answer list. A raw value and a file have any size, and so has a place in them.
 #[repr(C)]
-#[derive(Drop)]
+#[derive(Clone, Copy)]
 pub struct GlyphLabelFilled {
     pub number: u32,
     pub place: usize,
@@ -44,7 +44,7 @@ pub struct GlyphLabelFilled {
 
 // The stretch of units or of glyphs that was picked.
 #[repr(C)]
-#[derive(Drop)]
+#[derive(Clone, Copy)]
 pub struct GlyphLabelStretch {
     pub number: u32,
     pub place: u32,
@@ -54,7 +54,7 @@ pub struct GlyphLabelStretch {
 
 // A part of the text (0) or of the indices (1).
 #[repr(C)]
-#[derive(Drop)]
+#[derive(Clone, Copy)]
 pub struct GlyphLabelPart {
     pub in_indices: u32,
     pub start: usize,

@@ -5,7 +5,7 @@ ghost use Rattle.label.specs.Limits.{max_text_bytes, max_indices_bytes, max_unit
 ghost use Rattle.label.specs.Calls.{refusal};
 
 // The limits type.
-#[derive(Drop)]
+#[derive(Clone, Copy)]
 pub struct Limits;
 
 impl Limits {
@@ -78,7 +78,7 @@ impl Limits {
     }
 }
 
-#[derive(Drop)]
+#[derive(Clone, Copy)]
 pub struct LimitValues {
     pub text: usize,
     pub indices: usize,
@@ -93,7 +93,7 @@ pub struct LimitValues {
 
 // Where the walk over the entries stands: the byte of the indices where the next entry starts and that entry's number; the byte of the text
 // where the next code unit starts and the units used; the glyphs that the open cluster lacks and the entry that opened it; the clusters so far.
-#[derive(Drop)]
+#[derive(Clone, Copy)]
 pub struct Cursor {
     pub place: usize,
     pub entry: usize,
@@ -105,21 +105,21 @@ pub struct Cursor {
 }
 
 // A glyph index: named by the label, or chosen by the font.
-#[derive(Drop)]
+#[derive(Clone, Copy)]
 pub enum Index {
     Named(u16),
     Font,
 }
 
 // An advance: given by the label, in thousandths, or the font's own.
-#[derive(Drop)]
+#[derive(Clone, Copy)]
 pub enum Advance {
     Given(u32),
     Own,
 }
 
 // A glyph record; the offsets are in thousandths.
-#[derive(Drop)]
+#[derive(Clone, Copy)]
 pub struct Glyph {
     pub index: Index,
     pub advance: Advance,
@@ -127,21 +127,21 @@ pub struct Glyph {
     pub v: i32,
 }
 
-#[derive(Drop)]
+#[derive(Clone, Copy)]
 pub struct Cluster {
     pub units: u32,
     pub glyphs: u32,
 }
 
 // A refusal: its number and its place in document 01's table.
-#[derive(Drop)]
+#[derive(Clone, Copy)]
 pub struct Refusal {
     pub number: usize,
     pub place: usize,
 }
 
 // How many units, clusters and glyphs a run has.
-#[derive(Drop)]
+#[derive(Clone, Copy)]
 pub struct Counts {
     pub units: usize,
     pub clusters: usize,
@@ -149,7 +149,7 @@ pub struct Counts {
 }
 
 // What the reader says of a label: its run's counts, and beside them how many given fields were not whole thousandths; or the refusal.
-#[derive(Drop)]
+#[derive(Clone, Copy)]
 pub enum Reading {
     Read { counts: Counts, rounded: usize },
     Refused(Refusal),
@@ -165,33 +165,33 @@ impl Reading {
 }
 
 // How many bytes the writer wrote.
-#[derive(Drop)]
+#[derive(Clone, Copy)]
 pub struct Lengths {
     pub text: usize,
     pub indices: usize,
 }
 
-#[derive(Drop)]
+#[derive(Clone, Copy)]
 pub enum Writing {
     Written(Lengths),
     Refused(Refusal),
 }
 
 // A stretch of code units or of glyphs, from `first` up to and without `end`.
-#[derive(Drop)]
+#[derive(Clone, Copy)]
 pub struct Stretch {
     pub first: usize,
     pub end: usize,
 }
 
-#[derive(Drop)]
+#[derive(Clone, Copy)]
 pub enum Pick {
     Picked(Stretch),
     Refused(Refusal),
 }
 
 // How many places of a lent list or buffer were filled.
-#[derive(Drop)]
+#[derive(Clone, Copy)]
 pub enum Filling {
     Filled(usize),
     Refused(Refusal),
@@ -207,7 +207,7 @@ impl Filling {
 }
 
 // A part of the text or of the indices of a label.
-#[derive(Drop)]
+#[derive(Clone, Copy)]
 pub struct Part {
     pub in_indices: bool,
     pub start: usize,

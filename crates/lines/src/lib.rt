@@ -7,13 +7,13 @@ ghost use Rattle.lines.specs.Lines.{line_end, line_behind, two_lines, answered, 
 
 use label::{Counts, Lengths, Limits, Reading, Refusal, Writing};
 
-#[derive(Drop)]
+#[derive(Clone, Copy)]
 pub struct Relabelled {
     pub read: Counts,
     pub written: Lengths,
 }
 
-#[derive(Drop)]
+#[derive(Clone, Copy)]
 pub enum Relabelling {
     Ok(Relabelled),
     No(Refusal),
@@ -38,7 +38,7 @@ fn next_line(s: &[u8], end: usize) -> usize
 }
 
 // Where a label's two lines stand: the text up to `text_end`, the indices from `start` to `end`, and what follows from `next` on.
-#[derive(Drop)]
+#[derive(Clone, Copy)]
 pub struct TwoLines {
     pub text_end: usize,
     pub start: usize,

@@ -12,7 +12,7 @@ use label::Limits;
 // ── digits ──
 
 // The digits that stand at a place: how many, and their value, cut at 10^18.
-#[derive(Drop)]
+#[derive(Clone, Copy)]
 pub struct Digits {
     pub count: usize,
     pub value: u64,
@@ -63,7 +63,7 @@ pub fn digits_at(s: &[u8], at: usize, start: u64) -> Digits
 // ── values ──
 
 // Whole thousandths, where they are within the limit, and whether the exact value is this one.
-#[derive(Drop)]
+#[derive(Clone, Copy)]
 pub enum Thousandths {
     Of { count: u32, exact: bool },
     Over,
@@ -186,7 +186,7 @@ fn to_thousandths(m: u64, f: usize, negative: bool, e: usize) -> Thousandths
 // ── numbers ──
 
 // The digits before any exponent: whether they are well formed, the bytes used, the count of digits, their value, and the count behind the point.
-#[derive(Drop)]
+#[derive(Clone, Copy)]
 struct Mantissa {
     ok: bool,
     used: usize,
@@ -196,7 +196,7 @@ struct Mantissa {
 }
 
 // The exponent, of no bytes where there is none.
-#[derive(Drop)]
+#[derive(Clone, Copy)]
 struct Exponent {
     ok: bool,
     used: usize,
@@ -205,7 +205,7 @@ struct Exponent {
     value: u64,
 }
 
-#[derive(Drop)]
+#[derive(Clone, Copy)]
 pub struct Number {
     pub ok: bool,
     pub used: usize,

@@ -63,7 +63,7 @@ fn fill(out: &mut [Glyph], glyphs: &[u8], n: usize)
 }
 
 // What the listing answers, and how many records it stores: none where it refuses.
-#[derive(Drop)]
+#[derive(Clone, Copy)]
 struct Plan {
     count: usize,
     answer: Filling,
@@ -109,7 +109,7 @@ pub fn list_records(units: &[u8], clusters: &[u8], glyphs: &[u8], out: &mut [Gly
 }
 
 // Four records by value, and what the listing into them answers.
-#[derive(Drop)]
+#[derive(Clone, Copy)]
 pub struct Four {
     pub answer: Filling,
     pub records: [Glyph; 4],

@@ -12,7 +12,7 @@ use label::Filling;
 const FIRST: usize = 5;
 
 // Where a record's text and indices start, and where it ends.
-#[derive(Drop)]
+#[derive(Clone, Copy)]
 struct Record {
     text: usize,
     indices: usize,
@@ -20,7 +20,7 @@ struct Record {
 }
 
 // A record, or that the file ends inside it.
-#[derive(Drop)]
+#[derive(Clone, Copy)]
 enum Found {
     Whole(Record),
     Cut,
@@ -74,7 +74,7 @@ fn judge(file: &[u8], room: usize) -> Filling
 // ── answers ──
 
 // The answer to a label: number and place of its refusal, 0 and 0 where it is accepted.
-#[derive(Drop)]
+#[derive(Clone, Copy)]
 struct Answer {
     number: i32,
     place: i32,

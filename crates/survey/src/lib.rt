@@ -14,7 +14,7 @@ ghost use Rattle.survey.specs.Steps.{first_place, first_cursor, advanced, Opens,
 // ── one entry ──
 
 // The cursor behind an entry and how many of its fields were rounded, or the refusal.
-#[derive(Drop)]
+#[derive(Clone, Copy)]
 enum Turn {
     Took { next: label::Cursor, rounded: usize },
     Stopped(label::Refusal),
@@ -263,7 +263,7 @@ fn survey_run(text: &[u8], indices: &[u8], count: usize, start: usize) -> label:
 }
 
 // What 1 to 15 say of a label, and the byte of its text where the units of its run start; 0 where it is refused.
-#[derive(Drop)]
+#[derive(Clone, Copy)]
 pub struct Surveyed {
     pub reading: label::Reading,
     pub start: usize,

@@ -14,7 +14,7 @@ ghost use Rattle.text.specs.declared.Moved.TheVariants.{To};
 // ── a text's units ──
 
 // How many units, or the number and place of a refusal.
-#[derive(Drop)]
+#[derive(Clone, Copy)]
 pub enum Counted {
     Units(usize),
     Refused(usize, usize),
@@ -58,13 +58,13 @@ fn count_units(s: &[u8]) -> Counted
 }
 
 // The units of a text's run: how many, and the byte where they start, which is behind `{}`.
-#[derive(Drop)]
+#[derive(Clone, Copy)]
 pub struct TextUnits {
     pub count: usize,
     pub start: usize,
 }
 
-#[derive(Drop)]
+#[derive(Clone, Copy)]
 pub enum TextRead {
     Units(TextUnits),
     Refused(label::Refusal),
@@ -172,7 +172,7 @@ pub fn fill_units(text: &[u8], from: usize, out: &mut [u8])
 // ── moves over a text ──
 
 // The byte behind the units passed; or fewer units are left; or they end between the halves of a pair.
-#[derive(Drop)]
+#[derive(Clone, Copy)]
 pub enum Moved {
     To(usize),
     Past,

@@ -8,7 +8,7 @@ ghost use Rattle.utf8.specs.Chars.{char_at};
 
 // What a row says of the bytes behind a first byte in its range: how many there are, and the range of the second, 0 and 0 where there is none; `fits`:
 // there is such a row.
-#[derive(Drop)]
+#[derive(Clone, Copy)]
 pub struct Trailing {
     pub fits: bool,
     pub more: usize,
@@ -90,7 +90,7 @@ fn follows(s: &[u8], at: usize, n: usize, lo: u8, hi: u8) -> bool
 // ── characters ──
 
 // A character and the place behind it; or no well-formed one; or one that may not stand.
-#[derive(Drop)]
+#[derive(Clone, Copy)]
 pub enum Char {
     Good { code: u32, next: usize },
     Ill,
