@@ -11,7 +11,6 @@ use Rattle.text.specs.Moves.{units_from}
 use Rattle.survey.proofs.Endings.{nothing_is, run_nothing, run_stop, run_tail, refused_outcome}
 use Rattle.survey.proofs.Surveying.{Underway, surveyed_on, rounding_start, rounding_few, rounding_end, none_rounded}
 use Rattle.survey.proofs.Walking.{nothing, stands_start, ready_start, stands_at_start, at_decodes, at_length, code_stopped, ends_open}
-use Rattle.survey.proofs.survey_run.Goals.{In-Took}
 use Rattle.survey.proofs.survey_run.Given as goal
 
 abbrev pub invariant-loop-c : goal.invariant-loop-c
