@@ -1,0 +1,14 @@
+-- `faults::fault`: the part that was found lies inside its owner (law `part_inside`), so it can be cut out of it; by which of the two owns it. Assumes nothing.
+use native.Mathlib.Omega.{arith}
+use borrow.Author.Rules.{rules}
+use Rattle.faults.proofs.Faults.{part_below, in_indices, in_text, shows_indices, shows_text}
+use Rattle.faults.proofs.fault.Goals as goal
+
+pub overflow_add-end : goal.overflow_add-end
+overflow_add-end c = record { fits = part_below _ _ _ _ _ c.find_part-part.ensures 18446744073709551616 (omega arith) (omega arith) }
+
+pub slice_bounds-result-end : goal.slice_bounds-result-end
+slice_bounds-result-end c = in_indices _ _ _ _ _ c.find_part-part.ensures c.if-part.true
+
+pub slice_bounds-result-end-2 : goal.slice_bounds-result-end-2
+slice_bounds-result-end-2 c = in_text _ _ _ _ _ c.find_part-part.ensures c.if-part.false
