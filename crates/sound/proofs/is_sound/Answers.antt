@@ -8,6 +8,8 @@ use Prim.Native.Nat.{◌/◌}
 use lib.ListN.{length}
 use mathlib.Core.Bool.{◌&&◌}
 use mathlib.Core.Path.{◌≡◌, ◌∙◌}
+use mathlib.Core.Bool.{not}
+use mathlib.Core.Path.{ap}
 use borrow.Author.Rules.{rules}
 use Rattle.sound.proofs.is_sound.Goals.{After-both}
 use Rattle.sound.proofs.is_sound.Goals as goal
@@ -22,11 +24,11 @@ tested c =
     (c.is_limited-few.ensures ∙ rw (c.unit_count.ensures.value, c.number_count.ensures.value))
 
 pub returns-then-not-both : goal.returns-then-not-both
-returns-then-not-both c = not_limited _ _ _ (tested (goal.at.returns-then-not-both c).After-both) c.if-not-both.true
+returns-then-not-both c = not_limited _ _ _ (tested (goal.at.returns-then-not-both c).After-both) (ap not c.if-not-both.true)
 
 pub returns-then-not-proper_units : goal.returns-then-not-proper_units
-returns-then-not-proper_units c =     not_proper _ _ _ (tested (goal.at.returns-then-not-proper_units c).After-both) c.if-not-both.false c.proper_units.ensures c.if-not-proper_units.true
+returns-then-not-proper_units c =     not_proper _ _ _ (tested (goal.at.returns-then-not-proper_units c).After-both) (ap not c.if-not-both.false) c.proper_units.ensures (ap not c.if-not-proper_units.true)
 
 pub returns : goal.returns
 returns c =     c.well_run.ensures
-    ∙ well_left _ _ _ (tested (goal.at.returns c).After-both) c.if-not-both.false c.proper_units.ensures c.if-not-proper_units.false
+    ∙ well_left _ _ _ (tested (goal.at.returns c).After-both) (ap not c.if-not-both.false) c.proper_units.ensures (ap not c.if-not-proper_units.false)

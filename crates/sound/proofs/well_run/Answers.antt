@@ -8,6 +8,8 @@ use lib.Dec.{eqb}
 use native.Mathlib.Omega.{arith}
 use Prim.Native.Nat.{◌-◌, ◌≤◌}
 use mathlib.Core.Path.{◌≡◌, sym, ◌∙◌}
+use mathlib.Core.Bool.{not}
+use mathlib.Core.Path.{ap}
 use borrow.Author.Rules.{rules}
 use Rattle.sound.proofs.well_run.Goals.{After-number_at-v}
 use Rattle.sound.proofs.well_run.Goals.{After-number_at-y}
@@ -41,19 +43,19 @@ numbers c =
       second = c.number_at-y.ensures;
     }
 
--- where a cluster is judged: the place where its first glyph's numbers are fetched, and what the judgement says
-abbrev fetched : After-both → tie.After-number-at4 invariant-loop decreases-loop
-fetched c = c.«After-number_at-v»
-
+-- where a cluster is judged, at the goal's place, with the turn and the two numbers found before
 opened : (c : After-both)
-    → (let l = (fetched c).before.before.before.before.before in
-    let u = l.before.before.before in
-    let a = u.before.before.before.before.args in
-    Opened (well_run (halves a.us.now) (words a.cs.now) (words a.gs.now)) (eqb u.unit_count.result 0) (halves a.us.now) (words a.cs.now)
-    (words a.gs.now) l.loop.tail l.loop.at l.loop.i l.loop.k c.count-a.result c.count-b.result
+    → (let a = c.args in
+    Turn (well_run (halves a.us.now) (words a.cs.now) (words a.gs.now)) (eqb c.unit_count-units.result 0) (halves a.us.now) (words a.cs.now)
+    (words a.gs.now) c.loop-k.tail c.loop-k.lack c.loop-k.at c.loop-k.i c.loop-k.k c.number_at-index.result
+    c.number_at-advance.result c.number_at-u.result c.number_at-v.result)
+    → (let a = c.args in Numbers (words a.cs.now) c.loop-k.i c.number_at-x.result c.number_at-y.result)
+    → (let a = c.args in
+    Opened (well_run (halves a.us.now) (words a.cs.now) (words a.gs.now)) (eqb c.unit_count-units.result 0) (halves a.us.now) (words a.cs.now)
+    (words a.gs.now) c.loop-k.tail c.loop-k.at c.loop-k.i c.loop-k.k c.count-a.result c.count-b.result
     c.is_natural-named.result c.both.result)
-opened c =
-    opens_here (turn (fetched c)) c.glyph_ok.ensures c.if-not-glyph_ok.false c.is_natural-named.ensures (numbers c.«After-number_at-y»)
+opened c t n =
+    opens_here t c.glyph_ok.ensures (ap not c.if-not-glyph_ok.false) c.is_natural-named.ensures n
     (omega (arith, c.if-lack-gt0.false)) c.count-a.ensures.value c.count-b.ensures.value c.is_font-font.ensures
     c.opens_at.ensures c.is_natural.ensures c.is_natural-in-loop-k.ensures c.both-whole.ensures c.both.ensures
 
@@ -62,19 +64,19 @@ unfolding well_run well_at
 loop-k-init c =     (omega arith, omega arith, omega arith, rw (empty_is (halves c.args.us.now), ← c.unit_count-units.ensures.value))
 
 pub returns-then-not-glyph_ok : goal.returns-then-not-glyph_ok
-returns-then-not-glyph_ok c = turn_not_ok (turn (goal.at.returns-then-not-glyph_ok c).After-number_at-v) c.glyph_ok.ensures c.if-not-glyph_ok.true
+returns-then-not-glyph_ok c = turn_not_ok (turn (goal.at.returns-then-not-glyph_ok c).After-number_at-v) c.glyph_ok.ensures (ap not c.if-not-glyph_ok.true)
 
 pub returns-then-not-named : goal.returns-then-not-named
-returns-then-not-named c =     turn_not_named (turn (goal.at.returns-then-not-named c).After-number_at-v) c.glyph_ok.ensures c.if-not-glyph_ok.false c.is_natural-named.ensures c.if-lack-gt0.true
-    c.if-not-named.true
+returns-then-not-named c =     turn_not_named (turn (goal.at.returns-then-not-named c).After-number_at-v) c.glyph_ok.ensures (ap not c.if-not-glyph_ok.false) c.is_natural-named.ensures c.if-lack-gt0.true
+    (ap not c.if-not-named.true)
 
 pub loop-k-preserved-then-lack-gt0 : goal.loop-k-preserved-then-lack-gt0
 loop-k-preserved-then-lack-gt0 c =     let t = turn (goal.at.loop-k-preserved-then-lack-gt0 c).After-number_at-v in (
       omega (arith, c.loop-k.invariant.0),
       omega (arith, c.loop-k.invariant.1),
       omega (arith, c.loop-k-test.true),
-      turn_named t c.glyph_ok.ensures c.if-not-glyph_ok.false c.is_natural-named.ensures
-          c.if-lack-gt0.true c.if-not-named.false,
+      turn_named t c.glyph_ok.ensures (ap not c.if-not-glyph_ok.false) c.is_natural-named.ensures
+          c.if-lack-gt0.true (ap not c.if-not-named.false),
     )
 
 pub returns-then-counts-i-lt2 : goal.returns-then-counts-i-lt2
@@ -82,17 +84,15 @@ returns-then-counts-i-lt2 c =     turn_no_cluster (turn (goal.at.returns-then-co
     (omega (arith, c.if-counts-i-lt2.true, c.number_count-counts.ensures.value))
 
 pub returns-then-not-both : goal.returns-then-not-both
-returns-then-not-both c = turn_not_opened (opened (goal.at.returns-then-not-both c).After-both) c.if-not-both.true
+returns-then-not-both c = turn_not_opened (opened (goal.at.returns-then-not-both c).After-both (turn (goal.at.returns-then-not-both c).After-number_at-v) (numbers (goal.at.returns-then-not-both c).After-number_at-y)) (ap not c.if-not-both.true)
 
 pub loop-k-preserved : goal.loop-k-preserved
-loop-k-preserved c =     let at-loop-test = (fetched (goal.at.loop-k-preserved c).After-both).before.before.before.before in
-    let at-unit-count = at-loop-test.before.before.before.before in
-    let o = opened (goal.at.loop-k-preserved c).After-both in
-    let w = turn_within o c.if-not-both.false (omega (arith, at-unit-count.unit_count.ensures.0, at-loop-test.before.loop.inv.0)) in (
-      omega (arith, w, at-unit-count.unit_count.ensures.0),
+loop-k-preserved c =     let o = opened (goal.at.loop-k-preserved c).After-both (turn (goal.at.loop-k-preserved c).After-number_at-v) (numbers (goal.at.loop-k-preserved c).After-number_at-y) in
+    let w = turn_within o (ap not c.if-not-both.false) (omega (arith, c.unit_count-units.ensures.value, c.loop-k.invariant.0)) in (
+      omega (arith, w, c.unit_count-units.ensures.value),
       omega (arith, c.if-counts-i-lt2.false),
-      omega (arith, at-loop-test.loop-test.taken),
-      turn_opened o c.if-not-both.false c.tail_from-tail.ensures c.less_one-lack.ensures,
+      omega (arith, c.loop-k-test.true),
+      turn_opened o (ap not c.if-not-both.false) c.tail_from-tail.ensures c.less_one-lack.ensures,
     )
 
 pub returns : goal.returns
