@@ -2,8 +2,11 @@
 // refusal's number and place.
 #![tactic(auto)]
 
-ghost use Rattle.std.specs.Prelude.{◌≤◌, ◌<◌, length, take, IfOk};
-ghost use Rattle.std.specs.Io.KnownBytes.{Consumes, IsAtEnd};
+ghost use Rattle.std.specs.Prelude.{◌≡◌, ◌≤◌, ◌<◌, length, take, IfOk, OnOk};
+ghost use Rattle.label.specs.Outcome.{no};
+ghost use Rattle.label.specs.Relabel.{printed, relabel_read};
+ghost use Rattle.printing.specs.Lines.{number_after, line_of, run_lines};
+ghost use Rattle.std.specs.Io.KnownBytes.{Appends, Consumes, IsAtEnd};
 
 use label::{Limits, Refusal};
 use lines::{Relabelled, Relabelling};
@@ -27,16 +30,22 @@ pub fn read_full<R: Read>(input: &mut R, buf: &mut [u8]) -> io::Result<usize>
     Ok(done)
 }
 
-fn print_number<W: Write>(out: &mut W, n: usize) -> io::Result<()> {
+fn print_number<W: Write>(out: &mut W, n: usize) -> io::Result<()>
+    ensures { OnOk result (Appends (W.contents out.old) (W.contents out.new) (number_after n)) }
+{
     write!(out, " {n}")
 }
 
-fn print_line<W: Write>(out: &mut W, s: &[u8]) -> io::Result<()> {
+fn print_line<W: Write>(out: &mut W, s: &[u8]) -> io::Result<()>
+    ensures { OnOk result (Appends (W.contents out.old) (W.contents out.new) (line_of s.now)) }
+{
     out.write_all(s)?;
     out.write_all(b"\n")
 }
 
-fn print_refusal<W: Write>(out: &mut W, x: Refusal) -> io::Result<()> {
+fn print_refusal<W: Write>(out: &mut W, x: Refusal) -> io::Result<()>
+    ensures { OnOk result (Appends (W.contents out.old) (W.contents out.new) (printed (no x.number x.place))) }
+{
     out.write_all(b"no")?;
     print_number(out, x.number)?;
     print_number(out, x.place)?;
@@ -44,11 +53,16 @@ fn print_refusal<W: Write>(out: &mut W, x: Refusal) -> io::Result<()> {
 }
 
 // The first n bytes, or all where there are fewer.
-fn part(s: &[u8], n: usize) -> &[u8] {
+fn part(s: &[u8], n: usize) -> &[u8]
+    ensures { result.now ≡ take n s.now }
+{
     if n <= s.len() { &s[..n] } else { s }
 }
 
-fn print_run<W: Write>(out: &mut W, x: Relabelled, text: &[u8], indices: &[u8]) -> io::Result<()> {
+fn print_run<W: Write>(out: &mut W, x: Relabelled, text: &[u8], indices: &[u8]) -> io::Result<()>
+    ensures { let lines = run_lines x.read (take x.written.text text.now) (take x.written.indices indices.now) in
+        OnOk result (Appends (W.contents out.old) (W.contents out.new) lines) }
+{
     let read = x.read;
     let written = x.written;
     out.write_all(b"ok")?;
@@ -60,8 +74,10 @@ fn print_run<W: Write>(out: &mut W, x: Relabelled, text: &[u8], indices: &[u8]) 
     print_line(out, part(indices, written.indices))
 }
 
-// Prints a label's lines. It fills no buffer; what it prints is held to the programs' files `stdout` and to the independent reader.
-pub fn print_label<W: Write>(out: &mut W, text: &[u8], indices: &[u8]) -> io::Result<()> {
+// Prints what `relabel` prints of a label's two lines.
+pub fn print_label<W: Write>(out: &mut W, text: &[u8], indices: &[u8]) -> io::Result<()>
+    ensures { OnOk result (Appends (W.contents out.old) (W.contents out.new) (printed (relabel_read text.now indices.now))) }
+{
     let mut out_text = [0u8; Limits::TEXT_BYTES];
     let mut out_indices = [0u8; Limits::INDICES_BYTES];
     match lines::relabel(text, indices, &mut out_text, &mut out_indices) {

@@ -2,6 +2,10 @@
 // instead; so it does on standard error where it knows no such argument.
 #![tactic(auto)]
 
+ghost use Rattle.std.specs.Prelude.{take, IfSome, OnOk};
+ghost use Rattle.std.specs.Io.KnownBytes.{Appends};
+ghost use Rattle.label.specs.Relabel.{relabel};
+
 use std::env::{Env, FillError};
 use std::io;
 use std::io::{Read, Write};
@@ -35,16 +39,25 @@ fn asks_for_help(rt: &impl Env) -> bool {
     }
 }
 
-// 65,536 bytes hold two lines of the lengths that are read, and show that a longer line is too long.
-fn relabel_input<R: Read, W: Write>(input: &mut R, out: &mut W) -> io::Result<()> {
-    let mut buffer = [0u8; 65_536];
-    let n = printing::read_full(input, &mut buffer)?;
-    let s = &buffer[..n];
+// Prints the label of the first two lines.
+fn print_first<W: Write>(out: &mut W, s: &[u8]) -> io::Result<()>
+    ensures { OnOk result (Appends (W.contents out.old) (W.contents out.new) (relabel s.now)) }
+{
     let l = lines::two_lines(s, 0);
     let text_end = l.text_end;
     let start = l.start;
     let end = l.end;
     printing::print_label(out, &s[..text_end], &s[start..end])
+}
+
+// 65,536 bytes hold two lines of the lengths that are read, and show that a longer line is too long.
+fn relabel_input<R: Read, W: Write>(input: &mut R, out: &mut W) -> io::Result<()>
+    ensures { IfSome (R.remaining input.old) (λ bytes.
+        OnOk result (Appends (W.contents out.old) (W.contents out.new) (relabel (take 65536 bytes)))) }
+{
+    let mut buffer = [0u8; 65_536];
+    let n = printing::read_full(input, &mut buffer)?;
+    print_first(out, &buffer[..n])
 }
 
 fn main(rt: HostRuntime) -> io::Result<()> {

@@ -1,5 +1,6 @@
 -- The bytes that a read gave stand in the buffer behind those that stood there before it.
-use Rattle.std.proofs.Common.{◌≡◌, ℕ, ◌+◌, ◌≤◌, List, ◌++◌, rules, length, take, le_refl, sym, ap, ◌∙◌, subst, drop_at, length-take-le}
+use Rattle.std.proofs.Common.{◌≡◌, ℕ, ◌+◌, ◌≤◌, List, ◌++◌, rules, length, take, drop}
+use Rattle.std.proofs.Common.{le_refl, sym, ap, ◌∙◌, subst, drop_at, length-take-le}
 use Rattle.std.proofs.lemmas.Slice.{take-put_mid_below}
 use Rattle.std.specs.Io.KnownBytes.{Consumes}
 use Rattle.std.proofs.KnownBytes.{Consumes-trans}
@@ -12,7 +13,7 @@ front a k n xs ys within fits =
     let whole = put_mid a k xs ys in
     let first = take-put_mid_below a k xs ys a (le_refl a) within in
     let second = ap (take n) (drop_at (take a xs) (ys ++ post_of a k xs) a (length-take-le a xs within)) ∙ take-append-le n ys (post_of a k xs) fits in
-    sym (take-add a n whole ∙ ap (λ l. l ++ take n (lib.ListN.drop a whole)) first ∙ ap (λ l. take a xs ++ l) second)
+    sym (take-add a n whole ∙ ap (λ l. l ++ take n (drop a whole)) first ∙ ap (λ l. take a xs ++ l) second)
 
 pub loop-done-preserved : goal.loop-done-preserved
 loop-done-preserved g c =
