@@ -1,88 +1,84 @@
 // Lists the glyphs of three runs in four records, and prints each answer and the records after it.
-use label::{Advance, Filling, Glyph, Index};
+#![tactic(auto)]
 
-fn print_index(index: Index) {
+use label::{Advance, Filling, Glyph, Index};
+use std::io;
+use std::io::Write;
+
+fn print_index<W: Write>(out: &mut W, index: Index) -> io::Result<()> {
     match index {
-        Index::Named(n) => {
-            io::print_decimal(1, n as u64);
-        }
-        Index::Font => {
-            io::write_all(1, b"font");
-        }
+        Index::Named(n) => write!(out, "{n}"),
+        Index::Font => out.write_all(b"font"),
     }
 }
 
-fn print_advance(advance: Advance) {
+fn print_advance<W: Write>(out: &mut W, advance: Advance) -> io::Result<()> {
     match advance {
-        Advance::Given(n) => {
-            io::print_decimal(1, n as u64);
-        }
-        Advance::Own => {
-            io::write_all(1, b"own");
-        }
+        Advance::Given(n) => write!(out, "{n}"),
+        Advance::Own => out.write_all(b"own"),
     }
 }
 
 // By its bits: a sign, and the size without it.
-fn print_offset(v: i32) {
+fn print_offset<W: Write>(out: &mut W, v: i32) -> io::Result<()> {
     let mut bytes = [0u8; 4];
     wire::put_number(&mut bytes, 0, v);
     let n = wire::number_at(&bytes, 0);
     if !wire::is_natural(n) {
-        io::write_all(1, b"-");
+        out.write_all(b"-")?;
     }
-    io::print_decimal(1, wire::size(n) as u64);
+    let size = wire::size(n);
+    write!(out, "{size}")
 }
 
 // A line of index, advance, u offset and v offset.
-fn print_glyph(g: Glyph) {
+fn print_glyph<W: Write>(out: &mut W, g: Glyph) -> io::Result<()> {
     let index = g.index;
     let advance = g.advance;
     let u = g.u;
     let v = g.v;
-    print_index(index);
-    io::write_all(1, b" ");
-    print_advance(advance);
-    io::write_all(1, b" ");
-    print_offset(u);
-    io::write_all(1, b" ");
-    print_offset(v);
-    io::write_all(1, b"\n");
+    print_index(out, index)?;
+    out.write_all(b" ")?;
+    print_advance(out, advance)?;
+    out.write_all(b" ")?;
+    print_offset(out, u)?;
+    out.write_all(b" ")?;
+    print_offset(out, v)?;
+    out.write_all(b"\n")
 }
 
 // A line of `listed` and the count, or of `no`, number and place.
-fn print_answer(answer: Filling) {
+fn print_answer<W: Write>(out: &mut W, answer: Filling) -> io::Result<()> {
     match answer {
-        Filling::Filled(n) => {
-            io::write_all(1, b"listed ");
-            io::print_decimal(1, n as u64);
-        }
+        Filling::Filled(n) => writeln!(out, "listed {n}"),
         Filling::Refused(x) => {
             let number = x.number;
             let place = x.place;
-            io::write_all(1, b"no ");
-            io::print_decimal(1, number as u64);
-            io::write_all(1, b" ");
-            io::print_decimal(1, place as u64);
+            writeln!(out, "no {number} {place}")
         }
     }
-    io::write_all(1, b"\n");
 }
 
 // Lists the glyphs of a run in the records, prints the answer and the records, and hands them back.
-fn show(units: &[u8], clusters: &[u8], glyphs: &[u8], before: [Glyph; 4]) -> [Glyph; 4] {
+fn show<W: Write>(
+    out: &mut W,
+    units: &[u8],
+    clusters: &[u8],
+    glyphs: &[u8],
+    before: [Glyph; 4],
+) -> io::Result<[Glyph; 4]> {
     let four = records::list_four(units, clusters, glyphs, before);
     let answer = four.answer;
     let after = four.records;
-    print_answer(answer);
-    print_glyph(after[0]);
-    print_glyph(after[1]);
-    print_glyph(after[2]);
-    print_glyph(after[3]);
-    after
+    print_answer(out, answer)?;
+    print_glyph(out, after[0])?;
+    print_glyph(out, after[1])?;
+    print_glyph(out, after[2])?;
+    print_glyph(out, after[3])?;
+    Ok(after)
 }
 
-fn main() {
+fn main(rt: HostRuntime) -> io::Result<()> {
     let blank = Glyph {
         index: Index::Named(0),
         advance: Advance::Given(0),
@@ -103,7 +99,21 @@ fn main() {
         \xff\xff\xff\xff\0\0\0\0\0\0\0\0\0\0\0\0\
         \xff\xff\xff\xff\xff\xff\xff\xff\0\0\0\0\0\0\0\0\
         \xff\xff\xff\xff\xff\xff\xff\xff\0\0\0\0\0\0\0\0";
-    let listed = show(&units[..6], &clusters[..24], &glyphs[..48], [blank; 4]);
-    let unsound = show(&units[..4], &clusters[..24], &glyphs[..48], listed);
-    show(units, clusters, glyphs, unsound);
+    let mut out = rt.stdout();
+    let listed = show(
+        &mut out,
+        &units[..6],
+        &clusters[..24],
+        &glyphs[..48],
+        [blank; 4],
+    )?;
+    let unsound = show(
+        &mut out,
+        &units[..4],
+        &clusters[..24],
+        &glyphs[..48],
+        listed,
+    )?;
+    show(&mut out, units, clusters, glyphs, unsound)?;
+    Ok(())
 }

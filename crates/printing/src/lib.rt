@@ -1,48 +1,87 @@
-// Prints what comes of a label: `ok`, its counts and its two normal lines; or `no`, the refusal's number and place.
+// What the programs share: a read of their whole input; and the printing of what comes of a label: `ok`, its counts and its two normal lines; or `no`, the
+// refusal's number and place.
+#![tactic(auto)]
+
+ghost use Rattle.std.specs.Prelude.{◌≡◌, ◌≤◌, ◌<◌, length, take, IfOk, OnOk};
+ghost use Rattle.label.specs.Outcome.{no};
+ghost use Rattle.label.specs.Relabel.{printed, relabel_read};
+ghost use Rattle.printing.specs.Lines.{number_after, line_of, run_lines};
+ghost use Rattle.std.specs.Io.KnownBytes.{Appends, Consumes, IsAtEnd};
+
 use label::{Limits, Refusal};
-use libc::STDOUT_FILENO;
 use lines::{Relabelled, Relabelling};
+use std::io;
+use std::io::{Read, Write};
 
-fn print_number(n: usize) {
-    io::write_all(STDOUT_FILENO, b" ");
-    io::print_decimal(STDOUT_FILENO, n as u64);
+// Reads until buf is full or the input ends, and returns how many bytes it put at the start of buf.
+pub fn read_full<R: Read>(input: &mut R, buf: &mut [u8]) -> io::Result<usize>
+    ensures bound { IfOk result (λ n. n ≤ length buf.new) }
+    ensures bytes { IfOk result (λ n. Consumes (R.remaining input.old) (R.remaining input.new) (take n buf.new)) }
+    ensures end { IfOk result (λ n. n < length buf.new → IsAtEnd (R.remaining input.new)) }
+{
+    let mut done = 0;
+    while done < buf.len() {
+        let n = input.read(&mut buf[done..])?;
+        if n == 0 {
+            break;
+        }
+        done += n;
+    }
+    Ok(done)
 }
 
-fn print_line(s: &[u8]) {
-    io::write_all(STDOUT_FILENO, s);
-    io::write_all(STDOUT_FILENO, b"\n");
+fn print_number<W: Write>(out: &mut W, n: usize) -> io::Result<()>
+    ensures { OnOk result (Appends (W.contents out.old) (W.contents out.new) (number_after n)) }
+{
+    write!(out, " {n}")
 }
 
-fn print_refusal(x: Refusal) {
-    io::write_all(STDOUT_FILENO, b"no");
-    print_number(x.number);
-    print_number(x.place);
-    print_line(b"");
+fn print_line<W: Write>(out: &mut W, s: &[u8]) -> io::Result<()>
+    ensures { OnOk result (Appends (W.contents out.old) (W.contents out.new) (line_of s.now)) }
+{
+    out.write_all(s)?;
+    out.write_all(b"\n")
+}
+
+fn print_refusal<W: Write>(out: &mut W, x: Refusal) -> io::Result<()>
+    ensures { OnOk result (Appends (W.contents out.old) (W.contents out.new) (printed (no x.number x.place))) }
+{
+    out.write_all(b"no")?;
+    print_number(out, x.number)?;
+    print_number(out, x.place)?;
+    print_line(out, b"")
 }
 
 // The first n bytes, or all where there are fewer.
-fn part(s: &[u8], n: usize) -> &[u8] {
+fn part(s: &[u8], n: usize) -> &[u8]
+    ensures { result.now ≡ take n s.now }
+{
     if n <= s.len() { &s[..n] } else { s }
 }
 
-fn print_run(x: Relabelled, text: &[u8], indices: &[u8]) {
+fn print_run<W: Write>(out: &mut W, x: Relabelled, text: &[u8], indices: &[u8]) -> io::Result<()>
+    ensures { let lines = run_lines x.read (take x.written.text text.now) (take x.written.indices indices.now) in
+        OnOk result (Appends (W.contents out.old) (W.contents out.new) lines) }
+{
     let read = x.read;
     let written = x.written;
-    io::write_all(STDOUT_FILENO, b"ok");
-    print_number(read.units);
-    print_number(read.clusters);
-    print_number(read.glyphs);
-    print_line(b"");
-    print_line(part(text, written.text));
-    print_line(part(indices, written.indices));
+    out.write_all(b"ok")?;
+    print_number(out, read.units)?;
+    print_number(out, read.clusters)?;
+    print_number(out, read.glyphs)?;
+    print_line(out, b"")?;
+    print_line(out, part(text, written.text))?;
+    print_line(out, part(indices, written.indices))
 }
 
-// Prints a label's lines. It has no result and fills no buffer; what it prints is held to the programs' files `stdout` and to the independent reader.
-pub fn print_label(text: &[u8], indices: &[u8]) {
+// Prints what `relabel` prints of a label's two lines.
+pub fn print_label<W: Write>(out: &mut W, text: &[u8], indices: &[u8]) -> io::Result<()>
+    ensures { OnOk result (Appends (W.contents out.old) (W.contents out.new) (printed (relabel_read text.now indices.now))) }
+{
     let mut out_text = [0u8; Limits::TEXT_BYTES];
     let mut out_indices = [0u8; Limits::INDICES_BYTES];
     match lines::relabel(text, indices, &mut out_text, &mut out_indices) {
-        Relabelling::Ok(x) => print_run(x, &out_text, &out_indices),
-        Relabelling::No(x) => print_refusal(x),
+        Relabelling::Ok(x) => print_run(out, x, &out_text, &out_indices),
+        Relabelling::No(x) => print_refusal(out, x),
     }
 }

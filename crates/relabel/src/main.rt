@@ -1,10 +1,17 @@
 // Reads a label on two lines, text and indices, and prints its counts and its normal writing, or the refusal. Asked with `--help`, it prints how it is used
 // instead; so it does on standard error where it knows no such argument.
-use libc::{STDERR_FILENO, STDIN_FILENO, STDOUT_FILENO};
+#![tactic(auto)]
 
-fn print_usage(fd: i32) {
-    io::write_all(
-        fd,
+ghost use Rattle.std.specs.Prelude.{take, IfSome, OnOk};
+ghost use Rattle.std.specs.Io.KnownBytes.{Appends};
+ghost use Rattle.label.specs.Relabel.{relabel};
+
+use std::env::{Env, FillError};
+use std::io;
+use std::io::{Read, Write};
+
+fn print_usage<W: Write>(out: &mut W) -> io::Result<()> {
+    out.write_all(
         b"\
 usage: relabel < LABEL
        relabel --help
@@ -15,34 +22,50 @@ Prints `ok`, the counts of units, clusters and glyphs, and the text and the
 indices in their normal writing, a line each; or `no`, the number and the place
 of the refusal. Indices above 32,768 bytes are refused as 1.
 ",
-    );
+    )
+}
+
+// Whether there is an argument.
+fn has_argument(rt: &impl Env) -> bool {
+    !matches!(rt.arg(1, &mut []), Err(FillError::NotPresent))
 }
 
 // Whether the first argument is `--help`; one that is longer than the word is not.
-fn asks_for_help() -> bool {
+fn asks_for_help(rt: &impl Env) -> bool {
     let mut word = [0u8; 8];
-    let n = os::arg(1, &mut word);
-    check::same(&word[..n], b"--help")
+    match rt.arg(1, &mut word) {
+        Ok(n) => &word[..n] == b"--help".as_slice(),
+        Err(_) => false,
+    }
 }
 
-// 65,536 bytes hold two lines of the lengths that are read, and show that a longer line is too long.
-fn relabel_input() {
-    let mut input = io::large_buffer();
-    let n = io::read_full(STDIN_FILENO, &mut input);
-    let s = &input[..n];
+// Prints the label of the first two lines.
+fn print_first<W: Write>(out: &mut W, s: &[u8]) -> io::Result<()>
+    ensures { OnOk result (Appends (W.contents out.old) (W.contents out.new) (relabel s.now)) }
+{
     let l = lines::two_lines(s, 0);
     let text_end = l.text_end;
     let start = l.start;
     let end = l.end;
-    printing::print_label(&s[..text_end], &s[start..end]);
+    printing::print_label(out, &s[..text_end], &s[start..end])
 }
 
-fn main() {
-    if os::arg_count() <= 1 {
-        relabel_input();
-    } else if asks_for_help() {
-        print_usage(STDOUT_FILENO);
+// 65,536 bytes hold two lines of the lengths that are read, and show that a longer line is too long.
+fn relabel_input<R: Read, W: Write>(input: &mut R, out: &mut W) -> io::Result<()>
+    ensures { IfSome (R.remaining input.old) (λ bytes.
+        OnOk result (Appends (W.contents out.old) (W.contents out.new) (relabel (take 65536 bytes)))) }
+{
+    let mut buffer = [0u8; 65_536];
+    let n = printing::read_full(input, &mut buffer)?;
+    print_first(out, &buffer[..n])
+}
+
+fn main(rt: HostRuntime) -> io::Result<()> {
+    if !has_argument(&rt) {
+        relabel_input(&mut rt.stdin(), &mut rt.stdout())
+    } else if asks_for_help(&rt) {
+        print_usage(&mut rt.stdout())
     } else {
-        print_usage(STDERR_FILENO);
+        print_usage(&mut rt.stderr())
     }
 }

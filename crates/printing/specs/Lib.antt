@@ -1,0 +1,2 @@
+-- What the programs print of a label
+pub mod Lines

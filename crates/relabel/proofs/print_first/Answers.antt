@@ -1,0 +1,6 @@
+-- The two lines that are found are those that the document cuts.
+use Rattle.lines.proofs.Standing.{standing}
+use Rattle.relabel.proofs.print_first.Goals as goal
+
+pub returns : goal.returns
+returns g c = rw (standing.prints c.args.s.now, ← c.two_lines-l.ensures.value) c.print_label.ensures
