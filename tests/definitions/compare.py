@@ -157,7 +157,8 @@ def main():
     accepted = sum('no' not in l['answer'] for l in labels)
     numbers_seen = sorted({l['answer']['no'][0] for l in labels if 'no' in l['answer']})
     if done.returncode != 0:
-        print((done.stdout + done.stderr)[-4000:])
+        said = done.stdout + done.stderr
+        print(said[max(said.find(': error'), 0):][:4000])
         sys.exit(f'definitions: the theorems of {len(labels)} labels, {len(values)} raw values and bytes to escape and {len(sheets)} sheets were refused')
     rounded = sum(l['rounded'] for l in labels)
     bad = sum('no' in v.get('answer', ()) for v in values)
