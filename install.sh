@@ -66,10 +66,7 @@ put() {
 
 build() {
     sh "$root/tools/shared.sh"
-    if [ ! -x "$root/target/bin/relabel" ] || [ -n "$(find "$root/crates" -newer "$root/target/bin/relabel" -type f -print -quit)" ]; then
-        command -v rt > /dev/null || { echo "install.sh: target/bin/relabel is not there, and rt, which builds it, neither" >&2; exit 2; }
-        (cd "$root" && rt check relabel > target/relabel.log 2>&1) || { cat "$root/target/relabel.log" >&2; exit 2; }
-    fi
+    sh "$root/tools/build.sh" relabel
 }
 
 # The file that pkg-config reads. Paths are found from where it stands, so that the folder may move; pkg-config escapes blanks in them itself.

@@ -3,6 +3,6 @@
 # resolving, escaped writing, sheets, and the stack of each call.
 set -euo pipefail
 cd "$(dirname "$0")/.."
-rt staticlib glyph_label > /dev/null
+sh tools/build.sh glyph_label
 "${CC:-cc}" -std=gnu99 -O2 -Wall -pthread -o target/bench bench/bench.c target/staticlib/libglyph_label.a
 target/bench

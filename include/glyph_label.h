@@ -11,7 +11,7 @@
  *
  * A sheet is a file of labels. One call says of each of them whether it is accepted, as reading it would.
  *
- * This header is C99 or C++. Link target/staticlib/libglyph_label.a (made by `rt staticlib glyph_label`), which is for
+ * This header is C99 or C++. Link target/staticlib/libglyph_label.a (made by `sh tools/build.sh glyph_label`), which is for
  * Linux on x86-64 and needs no other library. Nothing is allocated, nothing is kept between calls, and there is no
  * state: any number of threads may call at once. A call takes at most GLYPH_LABEL_STACK_MAX bytes of stack, whatever
  * the size of the run. The archive is not instrumented, so that sanitizers do not see what a call reads and writes:

@@ -53,8 +53,8 @@ def main():
     if unmarked:
         sys.exit('believe: no mark in a table of contents: ' + ' '.join(unmarked))
     print('believe: ' + ', '.join(f'{totals[mark]} lines {mark}' for mark in MARKS))
-    for_c = sum(code_lines(os.path.join(FOR_C, name)) for name in ('Answers.antt', 'Contracts.antt'))
-    print(f'believe: {for_c} lines more for the calls for C, in Answers and Contracts of glyph_label')
+    for_c = sum(code_lines(os.path.join(FOR_C, name)) for name in ('Answers.antt', 'CallContracts.antt'))
+    print(f'believe: {for_c} lines more for the calls for C, in Answers and CallContracts of glyph_label')
 
 
 if __name__ == '__main__':

@@ -8,7 +8,7 @@ seed=1 relabel=4000 trials=20000 archive=600000
 if [ "${1:-}" = --short ]; then relabel=1500 trials=4000 archive=100000; shift; fi
 if [ "${1:-}" = --seed ]; then seed=$2; fi
 
-rt check relabel trials > /dev/null
+sh tools/build.sh relabel trials
 sh tools/shared.sh
 compare=tests/independent/compare.py
 

@@ -3,8 +3,8 @@
 
   readme.py
 
-A command is a fenced block whose last line runs one of the programs below; what it prints is the block that follows. Its `rt` commands, which build the
-programs, are left out: they are built by the tests before this one. `target/plotter` is compiled as README says.
+A command is a fenced block whose last line runs one of the programs below; what it prints is the block that follows. What it says before that, to build the
+program, is run as well: tools/build.sh makes only what is missing or older than the crates.
 """
 import os, re, subprocess, sys
 
@@ -22,16 +22,11 @@ def runs_program(line):
     return any(re.search(rf'(^|\| ?|&& ){program} ?', line) for program in PROGRAMS)
 
 
-def built(command):
-    """A command without what builds the programs by `rt`."""
-    return '\n'.join(re.sub(r'^rt [^&]*&& ', '', line) for line in command.split('\n'))
-
-
 def main():
     found, wrong = blocks(), 0
     shown = [(command, output) for command, output in zip(found, found[1:]) if runs_program(command.strip().split('\n')[-1])]
     for command, output in shown:
-        done = subprocess.run(['bash', '-c', built(command)], cwd=ROOT, capture_output=True, text=True)
+        done = subprocess.run(['bash', '-c', command], cwd=ROOT, capture_output=True, text=True)
         if done.stdout != output:
             wrong += 1
             print(f'readme: {command.strip()}\nprints\n{done.stdout}{done.stderr}and README shows\n{output}')

@@ -40,7 +40,7 @@ def names(module):
     found = []
     for line in lines_of(os.path.join(SPECS, module + '.antt')):
         declared = re.match(r'(?:abbrev |unfoldable )?pub (?:record |data )?(\S+)', line)
-        part = re.match(r'  (?:pub )?([\w′\-]+) : ', line)
+        part = re.match(r"  (?:pub )?([\w'-]+) : ", line)
         if declared and declared.group(1) != 'mod':
             found.append((declared.group(1), []))
         elif part and found and re.match(r'  ', line):

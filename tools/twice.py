@@ -5,10 +5,10 @@
   twice.py [--most N] BASE      only where six of the lines on one side were added since the commit BASE
 
 Prints pairs of places that share six or more lines in a row, the longest first: the same lines, or lines that differ only in names and numbers, each name
-and number of one place standing for one of the other. Lines of few words, as the fields of a struct, and names given to places in a proof, as
-`let at-loop = c .before in`, count only where they are the same. Passed over are blank lines, comments, imports, lists of what a proof unfolds and what the
-check prints in a proof file: the signatures of needs, `search needs`, the list of answers at the end. A text that stands more than twice is a row for each
-place but the first.
+and number of one place standing for one of the other. Lines of few words, as the fields of a struct, and names given to what is known in a proof, as
+`let at = c.args.at in`, count only where they are the same. Passed over are blank lines, comments, imports, lists of what a proof unfolds and what the check
+prints in a proof file: the signatures of goals, invariants and measures, and `search rules`. A text that stands more than twice is a row for each place but the
+first.
 """
 import argparse, collections, os, re, subprocess
 
@@ -16,22 +16,20 @@ ROOT = os.path.dirname(os.path.dirname(os.path.abspath(__file__)))
 LEAST = 6  # lines in a row
 NAMES = 20  # names and numbers in them, where they are not the same
 PASSED = re.compile(r'\s*(--.*|//.*|(ghost |pub |unfoldable )*use .*|pub mod .*|[\W_]*|else \{'
-                    r'|\S+ : \S*\.Need-.*|\S+( t)? c( κs)? = search needs|abbrev \S+ : tie\..*)\s*')
-# what goes over several lines: what a proof unfolds, the signature of a need of a function that calls itself
-LISTS = re.compile(r'^( *)unfolding .*(\n\1 +\S.*)*$|^\S+ : .*\.Need-\S+ \(\n[^)]*\).*$', re.M)
-PLACE = re.compile(r'let \S+ = \S+( \.before)*( \.args)? in')
-WORD = re.compile(r'[^\W\d][\w·₀-₉-]*|\d[\w.]*|\S')
+                    r'|(abbrev )?(pub )?\S+ : goal\.\S+|\S+( t)? c = search rules)\s*')
+LISTS = re.compile(r'^( *)unfolding .*(\n\1 +\S.*)*$', re.M)  # what a proof unfolds, over several lines
+PLACE = re.compile(r'let \S+ = c(\.[\w-]+)* in')
+WORD = re.compile(r"[^\W\d][\w'₀-₉-]*|\d[\w.]*|\S")
 # words of the languages and of their tactics: these are never taken for another's name
 KEPT = set('let in where record data abbrev unfoldable unfolding pub module λ if else while loop for return match fn mut struct enum impl const true false'
-           ' requires ensures bounds now entry exit before taken left omega arith search needs rw simp cc refl sym ap subst cond'.split())
+           ' requires ensures bounds now old new result goal args invariant omega arith search rules grind rw simp cc refl sym ap subst cond'.split())
 
 
 def telling_lines(path):
-    """The lines of a file that are compared, with their numbers; in a proof file those before the list of answers."""
+    """The lines of a file that are compared, with their numbers."""
     text = open(path, encoding='utf-8').read()
     text = LISTS.sub(lambda found: '\n' * found.group(0).count('\n'), text)
-    lines = re.split(r'^pub \S+-spec : ', text, flags=re.M)[0].split('\n')
-    return [(k, line.strip()) for k, line in enumerate(lines, 1) if not PASSED.fullmatch(line)]
+    return [(k, line.strip()) for k, line in enumerate(text.split('\n'), 1) if not PASSED.fullmatch(line)]
 
 
 def shape(lines):

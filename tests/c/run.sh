@@ -13,10 +13,7 @@ fail() {
     exit 1
 }
 
-rt staticlib glyph_label > "$out/staticlib.log" 2>&1 || {
-    cat "$out/staticlib.log"
-    exit 1
-}
+sh tools/build.sh glyph_label || exit 1
 warnings="-Wall -Wextra -Werror"
 flags="-std=c99 $warnings -O1 -g -Iinclude"
 ${CC:-cc} $flags -Itests/c -pthread tests/c/*.c "$archive" -o "$out/test_calls"

@@ -43,27 +43,27 @@ def row(label):
         clusters = numbers([f'cluster {a} {b}' for a, b in pairs(answer['clusters'], 2)])
         glyphs = numbers([glyph(g) for g in pairs(answer['glyphs'], 4)])
         said = f"reads {numbers(answer['units'])} {clusters} {glyphs} {bytes_of(answer['text'])} {bytes_of(answer['indices'])}"
-    return f"    labelRow {bytes_of(label['text'])} {bytes_of(label['indices'])} ({said}) ∷"
+    return f"    label_row {bytes_of(label['text'])} {bytes_of(label['indices'])} ({said}) ∷"
 
 
 def counted(label):
-    return f"    countRow {bytes_of(label['text'])} {bytes_of(label['indices'])} {label['rounded']} ∷"
+    return f"    count_row {bytes_of(label['text'])} {bytes_of(label['indices'])} {label['rounded']} ∷"
 
 
 def resolved(value):
     answer = value['answer']
     said = f"no {answer['no'][0]} {answer['no'][1]}" if 'no' in answer else f"ok {bytes_of(answer['ok'])}"
-    return f"    rawRow {bytes_of(value['raw'])} ({said}) ∷"
+    return f"    raw_row {bytes_of(value['raw'])} ({said}) ∷"
 
 
 def escaped(value):
-    return f"    escapeRow {bytes_of(value['bytes'])} {bytes_of(value['escaped'])} ∷"
+    return f"    escape_row {bytes_of(value['bytes'])} {bytes_of(value['escaped'])} ∷"
 
 
 def answered(sheet):
     answer = sheet['answer']
     said = f"no {answer['no'][0]} {answer['no'][1]}" if 'no' in answer else f"ok {numbers([signed(z) for z in answer['ok']])}"
-    return f"    sheetRow {bytes_of(sheet['file'])} {sheet['room']} ({said}) ∷"
+    return f"    sheet_row {bytes_of(sheet['file'])} {sheet['room']} ({said}) ∷"
 
 
 def rows_of(name, kind, rows):
@@ -83,25 +83,25 @@ class Rows:
                 self.modules.update((name, module) for name in names.split(', '))
         types = re.findall(r'^(?:abbrev pub|pub record|pub data) (\S+)', self.files['Types.antt'], re.M)
         constructors = re.findall(r'^  (\w+) : ', self.files['Types.antt'], re.M)
-        self.modules.update((name, 'Rattle·label·specs.specs.Rows.Types') for name in types + constructors)
+        self.modules.update((name, 'Rattle.label.specs.Rows.Types') for name in types + constructors)
 
     def unfolding(self, theorem):
         """The definitions that the proof of a theorem of this folder unfolds, without lists of rows."""
         for text in self.files.values():
             found = re.search(rf'^pub {theorem} :[^\n]*\n(?:    [^\n]*\n)*unfolding ([^\n]*(?:\n    [^\n]*)*)\n', text, re.M)
             if found:
-                return [name for name in found.group(1).split() if not name.endswith('Rows')]
+                return [name for name in found.group(1).split() if not name.endswith('_rows')]
         sys.exit(f'definitions: no theorem {theorem} in {self.folder}')
 
     def theorem(self, name, rows, kind, computed, answer):
         """Computed of each of some rows is the row's answer."""
-        return (f'pub {name} : map (λ (r : {kind}). {computed}) {rows} ≡ map (λ (r : {kind}). r .{answer}) {rows}\n'
+        return (f'pub {name} : map (λ (r : {kind}). {computed}) {rows} ≡ map (λ (r : {kind}). r.{answer}) {rows}\n'
                 f'unfolding {" ".join([rows] + self.unfolding(name))}\n{name} = refl\n')
 
     def write(self, name, *parts):
         """The file of these parts, with the imports that they need."""
         text = '\n'.join(parts)
-        used = set(re.findall(r'(?<![.\w-])[^\W\d][\w-]*', text)) | {'_≡_', '_∷_', '[]'}
+        used = set(re.findall(r'(?<![.\w-])[^\W\d][\w-]*', text)) | {'◌≡◌', '◌∷◌', '[]'}
         imports = {}
         for word in sorted(used & set(self.modules)):
             imports.setdefault(self.modules[word], []).append(word)
@@ -115,19 +115,19 @@ class Rows:
             if name != 'Types.antt':
                 os.remove(os.path.join(self.folder, name))
         self.write('Document.antt',
-                   rows_of('documentRows', 'LabelRow', [row(l) for l in labels]),
-                   self.theorem('labels', 'documentRows', 'LabelRow', 'said (read (r .text) (r .indices))', 'answer'))
+                   rows_of('document_rows', 'LabelRow', [row(l) for l in labels]),
+                   self.theorem('labels', 'document_rows', 'LabelRow', 'said (read r.text r.indices)', 'answer'))
         self.write('RoundedCount.antt',
-                   rows_of('roundedRows', 'RoundedRow', [counted(l) for l in labels]),
-                   self.theorem('rounded-labels', 'roundedRows', 'RoundedRow', 'beside (rounded (r .indices)) (read (r .text) (r .indices))', 'count'))
+                   rows_of('rounded_rows', 'RoundedRow', [counted(l) for l in labels]),
+                   self.theorem('rounded_labels', 'rounded_rows', 'RoundedRow', 'beside (rounded r.indices) (read r.text r.indices)', 'count'))
         self.write('Attribute.antt',
-                   rows_of('rawRows', 'RawRow', [resolved(v) for v in values if 'raw' in v]),
-                   self.theorem('raw-values', 'rawRows', 'RawRow', 'resolve (r .raw)', 'answer'),
-                   rows_of('escapeRows', 'EscapeRow', [escaped(v) for v in values if 'bytes' in v]),
-                   self.theorem('escaped-values', 'escapeRows', 'EscapeRow', 'escape (r .bytes)', 'escaped'))
+                   rows_of('raw_rows', 'RawRow', [resolved(v) for v in values if 'raw' in v]),
+                   self.theorem('raw_values', 'raw_rows', 'RawRow', 'resolve r.raw', 'answer'),
+                   rows_of('escape_rows', 'EscapeRow', [escaped(v) for v in values if 'bytes' in v]),
+                   self.theorem('escaped_values', 'escape_rows', 'EscapeRow', 'escape r.bytes', 'escaped'))
         self.write('Sheet.antt',
-                   rows_of('sheetRows', 'SheetRow', [answered(s) for s in sheets]),
-                   self.theorem('sheets', 'sheetRows', 'SheetRow', 'sheetInto (r .room) (r .file)', 'answer'))
+                   rows_of('sheet_rows', 'SheetRow', [answered(s) for s in sheets]),
+                   self.theorem('sheets', 'sheet_rows', 'SheetRow', 'sheet_into r.room r.file', 'answer'))
         with open(os.path.join(self.specs, 'Rows.antt'), 'w', encoding='utf-8') as out:
             out.write(''.join(f'pub mod {name[:-5]}\n' for name in sorted(os.listdir(self.folder))))
 
@@ -150,14 +150,15 @@ def main():
     with tempfile.TemporaryDirectory() as folder:
         subprocess.run(['git', 'init', '-q', folder], check=True)
         label = os.path.join(folder, 'crates', 'label')
-        shutil.copytree(os.path.join(ROOT, 'crates', 'label'), label, ignore=shutil.ignore_patterns('must-fail'))
+        shutil.copytree(os.path.join(ROOT, 'crates', 'label'), label, ignore=shutil.ignore_patterns('must-fail', 'out'))
         open(os.path.join(folder, 'crates.txt'), 'w').write('label:\n')
         Rows(os.path.join(label, 'specs')).replace(labels, values, sheets)
-        done = subprocess.run(['rt', 'check', 'label'], cwd=folder, capture_output=True, text=True)
+        done = subprocess.run(['rt', 'check'], cwd=label, capture_output=True, text=True)
     accepted = sum('no' not in l['answer'] for l in labels)
     numbers_seen = sorted({l['answer']['no'][0] for l in labels if 'no' in l['answer']})
     if done.returncode != 0:
-        print((done.stdout + done.stderr)[-4000:])
+        said = done.stdout + done.stderr
+        print(said[max(said.find(': error'), 0):][:4000])
         sys.exit(f'definitions: the theorems of {len(labels)} labels, {len(values)} raw values and bytes to escape and {len(sheets)} sheets were refused')
     rounded = sum(l['rounded'] for l in labels)
     bad = sum('no' in v.get('answer', ()) for v in values)

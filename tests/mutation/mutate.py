@@ -3,12 +3,15 @@
 
   mutate.py [--seed N] [--count N] [--crate NAME]..
 
-A change is one operator, bound or number of a line of crates/*/src/*.rt outside contracts and comments. It is made in a copy of the repository, whose crates
-below are proved already (the last crate of crates.txt is tried first), and only its crate is checked. Printed for each: refused by a fact, refused because the
-proof no longer fits the code, or NOT REFUSED, which is looked at by hand: such a change must not change what the code does.
+A change is one operator, bound or number of a line of crates/*/src/*.rt outside contracts and comments. It is made in a copy of the repository, and only its
+crate is checked (the last crate of crates.txt is tried first); the checks begin with what earlier ones on this machine kept. Printed for each: refused by a
+fact, refused because a proof names what the change took away, refused by the compiler, or NOT REFUSED, which is looked at by hand: such a change must not change
+what the code does. A check that gives no verdict, as where it is killed, is printed as UNKNOWN, and fails as NOT REFUSED does.
 """
 import argparse, os, random, re, shutil, subprocess, sys, tempfile
 
+# an error in a proof that names what the code no longer has, and one that only follows from another
+NAMES = re.compile(r'(note: )?(\./)?proofs/.*(has no field|is not in scope|has no `|was not admitted)')
 ROOT = os.path.dirname(os.path.dirname(os.path.dirname(os.path.abspath(__file__))))
 SWAPS = [(' < ', ' <= '), (' <= ', ' < '), (' == ', ' != '), (' != ', ' == '), (' + ', ' - '), (' - ', ' + '), (' += ', ' -= '), (' -= ', ' += '),
          (' * ', ' + '), (' / ', ' % '), (' % ', ' / '), (' & ', ' | '), (' | ', ' & '), (' << ', ' >> '), (' >> ', ' << '), ('true', 'false'), ('false', 'true'),
@@ -17,7 +20,7 @@ SWAPS = [(' < ', ' <= '), (' <= ', ' < '), (' == ', ' != '), (' != ', ' == '), (
 
 def crates():
     """The crates that have definitions to be proved against, in the order of crates.txt: each behind those that it is built on."""
-    names = [line.split(':')[0] for line in open(os.path.join(ROOT, 'crates.txt'), encoding='utf-8') if ':' in line and not line.startswith('#')]
+    names = [line.split(':')[0].split()[0] for line in open(os.path.join(ROOT, 'crates.txt'), encoding='utf-8') if ':' in line and not line.startswith('#')]
     return [name for name in names if os.path.isdir(os.path.join(ROOT, 'crates', name, 'specs'))]
 
 
@@ -33,7 +36,7 @@ def code_lines(lines):
             continue
         if not inside or s.startswith(('//', 'ensures', 'requires', 'ghost', 'use ', '#', 'pub ', 'fn ', 'const')):
             continue
-        if '⌜' in s or not s:
+        if not s:
             continue
         yield k
 
@@ -51,23 +54,28 @@ def changes(path):
                 yield k, lines[k][:m.start()] + str(n - 1) + lines[k][m.end():]
 
 
+def kind_of(status, out):
+    """What a check of a changed crate shows."""
+    if status == 0:
+        return 'NOT REFUSED'
+    said = [line for line in out.split('\n') if re.match(r'(note: )?\S+:\d+:\d+:', line)]
+    said = [line for line in said if ': error' in line or line.startswith('note: ')] or said
+    if status != 1:
+        return 'UNKNOWN'
+    if re.search(r'^logic=not-proved', out, re.M):
+        return 'shape' if said and all(NAMES.match(line) for line in said) else 'fact'
+    return 'compiler' if re.search(r'\berror\[[\w-]+\]', out) else 'UNKNOWN'
+
+
 def try_change(folder, crate, path, k, line):
     whole = os.path.join(folder, path)
     before = open(whole, encoding='utf-8').read()
     lines = before.split('\n')
     old, lines[k] = lines[k], line
     open(whole, 'w', encoding='utf-8').write('\n'.join(lines))
-    done = subprocess.run(['rt', 'check', crate], cwd=folder, capture_output=True, text=True)
+    done = subprocess.run(['rt', 'check'], cwd=os.path.join(folder, 'crates', crate), capture_output=True, text=True)
     open(whole, 'w', encoding='utf-8').write(before)
-    out = done.stdout + done.stderr
-    if done.returncode == 0:
-        kind = 'NOT REFUSED'
-    elif 'that can be named from here' in out:
-        kind = 'shape'
-    elif re.search(r'error\[', out) and 'antt' not in out and 'proofs/' not in out:
-        kind = 'compiler'
-    else:
-        kind = 'fact'
+    kind = kind_of(done.returncode, done.stdout + done.stderr)
     print(f'{kind:12} {path}:{k + 1}: {old.strip()}  ->  {line.strip()}', flush=True)
     return kind
 
@@ -89,19 +97,13 @@ def main():
     totals = {}
     with tempfile.TemporaryDirectory() as folder:
         subprocess.run(['git', 'init', '-q', folder], check=True)
-        for name in ('crates', 'crates.txt', 'target'):
-            source = os.path.join(ROOT, name)
-            if not os.path.exists(source):
-                continue
-            if os.path.isdir(source):
-                shutil.copytree(source, os.path.join(folder, name), ignore=shutil.ignore_patterns('must-fail', 'incremental'))
-            else:
-                shutil.copy(source, folder)
+        shutil.copytree(os.path.join(ROOT, 'crates'), os.path.join(folder, 'crates'), ignore=shutil.ignore_patterns('must-fail', 'out'))
+        shutil.copy(os.path.join(ROOT, 'crates.txt'), folder)
         for change in sorted(picked, key=lambda c: (-order.index(c[0]), c)):
             kind = try_change(folder, *change)
             totals[kind] = totals.get(kind, 0) + 1
     print(f'mutation, seed {args.seed}: {len(picked)} of {len(found)} changes tried: ' + ', '.join(f'{n} {kind}' for kind, n in sorted(totals.items())))
-    sys.exit('NOT REFUSED' in totals)
+    sys.exit('NOT REFUSED' in totals or 'UNKNOWN' in totals)
 
 
 if __name__ == '__main__':
