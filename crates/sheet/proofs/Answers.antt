@@ -99,7 +99,7 @@ module _ (file : List ℕ) where
         (record { rest = g.labels; number = 0; are = from_start.1; inside = header_inside file from_start.0 }, refl)
 
     into : sheet_into room file ≡ ok (answers g.labels)
-    into = labels_into room file g.labels g.are g.room-for
+    into = labels_into room file g.labels g.are g.room_for
 
   module _ {at : ℕ} (f : Rest file at) where
     rest_end : length file ≤ at → f.rest ≡ []
