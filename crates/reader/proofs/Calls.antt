@@ -140,8 +140,13 @@ module _ {t : List ℕ} {b : ℕ} {s : List ℕ} {m u c g : ℕ} (p : Fillable t
 -- the five clauses of a reading: its answer, how many fields were rounded, and what its three buffers hold
 abbrev pub Reads : Outcome Run → ℕ → Reading → List ℕ → List ℕ → List ℕ → List ℕ → List ℕ → List ℕ → Type 0
 Reads o k r units₀ units clusters₀ clusters glyphs₀ glyphs =
-    (reading_outcome r ≡ counted o) × ((reading_rounded r ≡ beside k
-    o) × ((units ≡ units_after o units₀) × ((clusters ≡ clusters_after o clusters₀) × (glyphs ≡ glyphs_after o glyphs₀))))
+    record {
+      result : reading_outcome r ≡ counted o;
+      rounded : reading_rounded r ≡ beside k o;
+      units : units ≡ units_after o units₀;
+      clusters : clusters ≡ clusters_after o clusters₀;
+      glyphs : glyphs ≡ glyphs_after o glyphs₀;
+    }
 
 module _ (t s : List ℕ) (m : Counts) where
   pub into_refused : (r : Reading) (x : Refusal) → reading_outcome r ≡ counted (read t s) → r ≡ Refused x → read_into m t s ≡ no x.number x.place
@@ -179,15 +184,18 @@ module _ (t s : List ℕ) (m : Counts) where
         )
 
 -- a refusal: the answer, and nothing changed
-pub nothing_read : (o : Outcome Run) (k : ℕ) (r : Reading) (n p : ℕ) (units : List ℕ) (clusters glyphs : List ℕ) → o ≡ no n p → r ≡ Refused (refusal n p)
+pub nothing_read : (o : Outcome Run) (k : ℕ) (r : Reading) (n p : ℕ) (units clusters glyphs : List ℕ) → o ≡ no n p → r ≡ Refused (refusal n p)
     → Reads o k r units units clusters clusters glyphs glyphs
-nothing_read o k r n p units clusters glyphs e h = rw (e, h) (refl, (refl, (refl, (refl, refl))))
+nothing_read o k r n p units clusters glyphs e h =
+    rw (e, h) (record { result = refl; rounded = refl; units = refl; clusters = refl; glyphs = refl })
 
 -- the run: its counts, and the buffers filled
-pub run_read : (t s : List ℕ) (o : Outcome Run) (k : ℕ) (r : Reading) (n : Counts) (m : ℕ) (units₀ units : List ℕ) (clusters₀ clusters glyphs₀ glyphs : List ℕ)
+pub run_read : (t s : List ℕ) (o : Outcome Run) (k : ℕ) (r : Reading) (n : Counts) (m : ℕ) (units₀ units clusters₀ clusters glyphs₀ glyphs : List ℕ)
     → o ≡ read t s
     → reading_outcome r ≡ counted (read t s) → reading_rounded r ≡ beside k (read t s) → r ≡ Read n m → units ≡ units_after (read t s) units₀
     → clusters ≡ clusters_after (read t s) clusters₀ → glyphs ≡ glyphs_after (read t s) glyphs₀
     → Reads o k (Read n m) units₀ units clusters₀ clusters glyphs₀ glyphs
 run_read t s o k r n m units₀ units clusters₀ clusters glyphs₀ glyphs e h l q a b d =
-    rw e (ap reading_outcome (sym q) ∙ h, (ap reading_rounded (sym q) ∙ l, (a, (b, d))))
+    rw e (
+    record { result = ap reading_outcome (sym q) ∙ h; rounded = ap reading_rounded (sym q) ∙ l; units = a; clusters = b; glyphs = d }
+    )

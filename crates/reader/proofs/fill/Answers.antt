@@ -1,62 +1,77 @@
 -- `reader::fill`: the loop keeps `Filled`: the walk stands at the cursor, and the parts before it are stored; an entry of either kind goes on by one law
 -- (`fills`), and behind the last the tail completes the run. Assumes nothing.
-use Prim.Native.Nat.{◌+◌, ◌-◌}
+use Prim.Native.Nat.{ℕ, ◌+◌, ◌-◌, ◌*◌, ◌≤◌, ◌<◌}
 use native.Mathlib.Omega.{arith}
 use mathlib.Core.Path.{◌≡◌, sym, ◌∙◌, ap}
-use lib.ListN.{length}
-use Rattle.label.specs.Wire.{from_words}
+use mathlib.Core.List.{List}
+use lib.ListN.{length, take, drop}
+use lib.Seq.{sets}
+use Rattle.label.specs.Run.{tail}
+use Rattle.label.specs.Checks.{read}
+use Rattle.label.specs.Wire.{from_halves, from_words}
+use Rattle.label.specs.Fetched.{halves}
 use Rattle.label.specs.Places.{flat_clusters, flat_glyphs}
+use Rattle.label.specs.Calls.{filled, clusters_after, glyphs_after}
+use Rattle.label.specs.declared.Cursor.{Cursor}
 use Rattle.text.specs.Moves.{units_from}
 use Rattle.entry.specs.declared.Item.{Item}
 use Rattle.entry.specs.declared.EntryRead.TheVariants.{Read}
 use Rattle.survey.specs.Steps.{entry_at}
-use Rattle.reader.specs.Stores.{cluster_bytes, glyph_bytes}
+use Rattle.reader.specs.Stores.{cluster_bytes, glyph_bytes, Fillable}
 use Rattle.reader.proofs.Calls.{filling, units_are, clusters_room, glyphs_room, units_filled, clusters_filled, glyphs_filled}
 use Rattle.reader.proofs.Filling.{Filled, Fills, place_behind, fill_never, fills, end_clusters, end_glyphs, clusters_end, glyphs_end}
 use Rattle.reader.proofs.Stores.{stored_start}
 use Rattle.reader.proofs.Tails.{units_left}
-use Rattle.survey.proofs.Walking.{nothing, stands_start, ready_start, read_here, digits_here}
-use borrow.Author.Rules.{rules}
-use Rattle.reader.proofs.fill.Goals.{In-loop-at}
-use Rattle.reader.proofs.fill.Goals.{In-loop-at}
+use Rattle.survey.proofs.Walking.{nothing, stands_start, ready_start, read_here}
 use Rattle.reader.proofs.fill.Goals.{After-index_item}
-use Rattle.reader.proofs.fill.Goals.{In-Read-2}
 use Rattle.reader.proofs.fill.Goals as goal
 
--- entry x at the cursor can be stored, and then the walk stands behind it
-abbrev Taking : In-loop-at → Item → Type 0
-Taking c x =
-    let a = c.args in
-    Fills (units_from a.text.now a.start) a.indices.now a.clusters.now a.glyphs.now c.loop-at.clusters c.loop-at.glyphs c.loop-at.at
-    a.count x
+module _ {t s c₀ g₀ cs gs : List ℕ} {b m u : ℕ} {c : Cursor} (p : Fillable t b s m u (length c₀) (length g₀))
+    (l : Filled (units_from t b) s c₀ g₀ cs gs c) where
+  -- entry x at the cursor can be stored, and then the walk stands behind it
+  taking : c.place ≤ length s → (x : Item) → entry_at s c ≡ Read x → Fills (units_from t b) s c₀ g₀ cs gs c m x
+  taking h x e =
+      let f = filling p in
+      fills _ _ f.all f.walked _ _ _ _ _ l h (clusters_room p) (glyphs_room p) _ (units_are p) x e
 
-taking : (c : In-loop-at) (x : Item)
-    → (let a = c.args in
-    entry_at a.indices.now c.loop-at.at ≡ Read x) → Taking c x
-taking c x h =
-    let p = c.requires in
-    let f = filling p in
-    fills _ _ f.all f.walked _ _ _ _ _ c.loop-at.invariant c.loop-at-test.true (clusters_room p) (glyphs_room p) _ (units_are p) x h
+  -- the units left, where all were stored
+  left : (old out : List ℕ) → out ≡ filled (from_halves (units_from t b)) old
+      → halves (take (2 * m - 2 * c.unit) (drop (2 * c.unit) out)) ≡ drop c.unit (units_from t b)
+  left old out e = units_left _ old _ _ c.unit (units_are p) (omega (arith, l.ready.inside, units_are p)) e
 
--- so an index alone, and any other entry that was read
-alone : (c : After-index_item) → Taking c.«In-loop-at» c.index_item.result
-alone c =
-    taking c.«In-loop-at» _
-    ((c.is_index.ensures.alone c.if-is_index.true).1 c.loop-at.at.entry ∙ ap Read (sym c.index_item.ensures))
+  -- behind the last entry, where the units `rest` are left: there is room for their tail, and with it the buffers hold the run
+  module _ (h : length s < c.place) {rest : List ℕ} (er : rest ≡ drop c.unit (units_from t b)) where
+    tail_room : (8 * (c.clusters + length (tail rest).clusters) ≤ length c₀) × (16 * (c.entry + length (tail rest).glyphs) ≤ length g₀)
+    tail_room =
+        let f = filling p in (
+          omega (arith, end_clusters _ _ f.all f.walked _ _ _ l.stands l.ready h _ er, clusters_room p),
+          omega (arith, end_glyphs _ _ f.all f.walked _ _ _ l.stands l.ready h _ er, glyphs_room p),
+        )
 
-other : (c : In-Read-2) → Taking c.«In-loop-at» c.in-Read.x
-other c =
-    taking c.«In-loop-at» _ (read_here _ c.loop-at.at _ c.read_entry.ensures _ c.in-Read.is)
+    run_clusters : {out : List ℕ} → out ≡ sets cs (8 * c.clusters) (cluster_bytes (tail rest).clusters) → out ≡ clusters_after (read t s) c₀
+    run_clusters e =
+        let f = filling p in
+        clusters_filled p c₀ (clusters_end _ _ f.all f.walked _ _ _ l.stands l.ready h _ er _ _ _ l.clusters e (clusters_room p))
+
+    run_glyphs : {out : List ℕ} → out ≡ sets gs (16 * c.entry) (glyph_bytes (tail rest).glyphs) → out ≡ glyphs_after (read t s) g₀
+    run_glyphs e =
+        let f = filling p in
+        glyphs_filled p g₀ (glyphs_end _ _ f.all f.walked _ _ _ l.stands l.ready h _ er _ _ _ l.glyphs e (glyphs_room p))
+
+-- an index alone is the entry at the cursor
+alone : (c : After-index_item) → entry_at c.args.indices.now c.loop-at.at ≡ Read c.index_item.result
+alone c = (c.is_index.ensures.alone c.if-is_index.true).1 c.loop-at.at.entry ∙ ap Read (sym c.index_item.ensures)
 
 pub fill_units-requires-clause-text_value : goal.fill_units-requires-clause-text_value
-fill_units-requires-clause-text_value c =     let f = filling c.requires in f.text.decodes
+fill_units-requires-clause-text_value c = (filling c.requires).text.decodes
 
 pub fill_units-requires-clause-from_in_bounds : goal.fill_units-requires-clause-from_in_bounds
-fill_units-requires-clause-from_in_bounds c =     let f = filling c.requires in omega (arith, f.text.count, c.requires.units-room)
+fill_units-requires-clause-from_in_bounds c = omega (arith, (filling c.requires).text.count, c.requires.units_room)
 
 pub loop-at-init : goal.loop-at-init
 unfolding flat_clusters flat_glyphs from_words cluster_bytes glyph_bytes
-loop-at-init c =     let f = filling c.requires in
+loop-at-init c =
+    let f = filling c.requires in
     let e = c.first_cursor-at.ensures in
     record {
       pre = nothing;
@@ -68,94 +83,58 @@ loop-at-init c =     let f = filling c.requires in
     }
 
 pub put_entry-at-requires : goal.put_entry-at-requires
-put_entry-at-requires c = (alone (goal.at.put_entry-at-requires c).After-index_item).fits
+put_entry-at-requires c =
+    let x = alone (goal.at.put_entry-at-requires c).After-index_item in
+    (taking c.requires c.loop-at.invariant c.loop-at-test.true _ x).fits
 
 pub loop-at-smaller-then-is_index : goal.loop-at-smaller-then-is_index
-loop-at-smaller-then-is_index c =     omega (arith, place_behind _ _ _ _ _ _ c.put_entry-at.ensures.value, c.loop-at-test.true)
+loop-at-smaller-then-is_index c = omega (arith, place_behind _ _ _ _ _ _ c.put_entry-at.ensures.value, c.loop-at-test.true)
 
 pub loop-at-preserved-then-is_index : goal.loop-at-preserved-then-is_index
-loop-at-preserved-then-is_index c =     (alone (goal.at.loop-at-preserved-then-is_index c).After-index_item).then _ _ _ c.put_entry-at.ensures.value c.put_entry-at.ensures.clusters c.put_entry-at.ensures.glyphs
+loop-at-preserved-then-is_index c =
+    let x = alone (goal.at.loop-at-preserved-then-is_index c).After-index_item in
+    let e = c.put_entry-at.ensures in
+    (taking c.requires c.loop-at.invariant c.loop-at-test.true _ x).then _ _ _ e.value e.clusters e.glyphs
 
 pub put_entry-at-requires-in-Read : goal.put_entry-at-requires-in-Read
-put_entry-at-requires-in-Read c = (other (goal.at.put_entry-at-requires-in-Read c).In-Read-2).fits
+put_entry-at-requires-in-Read c =
+    let x = read_here _ c.loop-at.at _ c.read_entry.ensures _ c.in-Read.is in
+    (taking c.requires c.loop-at.invariant c.loop-at-test.true _ x).fits
 
 pub loop-at-smaller : goal.loop-at-smaller
-loop-at-smaller c =     omega (arith, place_behind _ _ _ _ _ _ c.put_entry-at-in-Read.ensures.value, c.loop-at-test.true)
+loop-at-smaller c = omega (arith, place_behind _ _ _ _ _ _ c.put_entry-at-in-Read.ensures.value, c.loop-at-test.true)
 
 pub loop-at-preserved : goal.loop-at-preserved
-loop-at-preserved c =     (other (goal.at.loop-at-preserved c).In-Read-2).then _ _ _ c.put_entry-at-in-Read.ensures.value c.put_entry-at-in-Read.ensures.clusters c.put_entry-at-in-Read.ensures.glyphs
+loop-at-preserved c =
+    let x = read_here _ c.loop-at.at _ c.read_entry.ensures _ c.in-Read.is in
+    let e = c.put_entry-at-in-Read.ensures in
+    (taking c.requires c.loop-at.invariant c.loop-at-test.true _ x).then _ _ _ e.value e.clusters e.glyphs
 
-pub returns-in-Refused-clause-units : goal.returns-in-Refused-clause-units
-returns-in-Refused-clause-units c =     let f = filling c.requires in
-    let l = c.loop-at in
-    let x = read_here _ l.at _ c.read_entry.ensures _ c.in-Refused.is in (fill_never _ _ f.all f.walked _ _ _ l.invariant.stands l.invariant.ready c.loop-at-test.true _ x).0
-
-pub returns-in-Refused-clause-clusters : goal.returns-in-Refused-clause-clusters
-returns-in-Refused-clause-clusters c =     let f = filling c.requires in
-    let l = c.loop-at in
-    let x = read_here _ l.at _ c.read_entry.ensures _ c.in-Refused.is in (fill_never _ _ f.all f.walked _ _ _ l.invariant.stands l.invariant.ready c.loop-at-test.true _ x).1.0
-
-pub returns-in-Refused-clause-glyphs : goal.returns-in-Refused-clause-glyphs
-returns-in-Refused-clause-glyphs c =     let f = filling c.requires in
-    let l = c.loop-at in
-    let x = read_here _ l.at _ c.read_entry.ensures _ c.in-Refused.is in (fill_never _ _ f.all f.walked _ _ _ l.invariant.stands l.invariant.ready c.loop-at-test.true _ x).1.1
+pub returns-in-Refused : goal.returns-in-Refused
+returns-in-Refused c =
+    let f = filling c.requires in
+    let i = c.loop-at.invariant in
+    let x = read_here _ c.loop-at.at _ c.read_entry.ensures _ c.in-Refused.is in
+    fill_never _ _ f.all f.walked _ _ _ i.stands i.ready c.loop-at-test.true _ x
 
 pub slice_bounds-fill_tail-count : goal.slice_bounds-fill_tail-count
-slice_bounds-fill_tail-count c =     omega (arith, c.loop-at.invariant.ready.inside, units_are c.requires)
+slice_bounds-fill_tail-count c = omega (arith, c.loop-at.invariant.ready.inside, units_are c.requires)
 
 pub slice_bounds-fill_tail-start : goal.slice_bounds-fill_tail-start
-slice_bounds-fill_tail-start c =     let at-start = at-loop.before.before.before.before.before.before.before.before.before.before.before in
-    omega (arith, at-loop.loop.invariant.ready.inside, units_are at-start.requires)
+slice_bounds-fill_tail-start c = omega (arith, c.loop-at.invariant.ready.inside, units_are c.requires)
 
 pub fill_tail-requires : goal.fill_tail-requires
-fill_tail-requires c =     let at-start = at-fill-units.before.before.before.before.before.before.before in
-    let p = at-start.requires in
-    let f = filling p in
-    let i = at-loop.loop.invariant in
-    let us = at-start.args.units.now in
-    let e = units_left _ us _ _ at-loop.loop.at.unit (units_are p) (omega (arith, i.ready.inside, units_are p)) at-fill-units.fill-units.ensures in
-    let cs = end_clusters _ _ f.all f.walked _ _ _ i.stands i.ready at-if1.if1.false _ e in
-    let gs = end_glyphs _ _ f.all f.walked _ _ _ i.stands i.ready at-if1.if1.false _ e in
-    omega (arith, cs, gs, clusters_room p, glyphs_room p, i.clusters.same, i.glyphs.same)
+fill_tail-requires c =
+    let i = c.loop-at.invariant in
+    let r = tail_room c.requires i c.loop-at-test.false (left c.requires i _ _ c.fill_units.ensures) in
+    (omega (arith, r.0, i.clusters.same), omega (arith, r.1, i.glyphs.same))
 
-pub returns-clause-units : goal.returns-clause-units
-returns-clause-units c =     let at-start = at-fill-units.before.before.before.before.before.before.before in
-    let p = at-start.requires in
-    let f = filling p in
-    let i = at-loop.loop.invariant in
-    let us = at-start.args.units.now in
-    let cs = at-start.args.clusters.now in
-    let gs = at-start.args.glyphs.now in
-    let e = units_left _ us _ _ at-loop.loop.at.unit (units_are p) (omega (arith, i.ready.inside, units_are p)) at-fill-units.fill-units.ensures in
-    let ec = clusters_end _ _ f.all f.walked _ _ _ i.stands i.ready at-if1.if1.false _ e _ _ _ i.clusters
-    c.fill_tail.ensures.clusters_after (clusters_room p) in
-    let eg = glyphs_end _ _ f.all f.walked _ _ _ i.stands i.ready at-if1.if1.false _ e _ _ _ i.glyphs c.fill_tail.ensures.glyphs_after
-    (glyphs_room p) in units_filled p us at-fill-units.fill-units.ensures
-
-pub returns-clause-clusters : goal.returns-clause-clusters
-returns-clause-clusters c =     let at-start = at-fill-units.before.before.before.before.before.before.before in
-    let p = at-start.requires in
-    let f = filling p in
-    let i = at-loop.loop.invariant in
-    let us = at-start.args.units.now in
-    let cs = at-start.args.clusters.now in
-    let gs = at-start.args.glyphs.now in
-    let e = units_left _ us _ _ at-loop.loop.at.unit (units_are p) (omega (arith, i.ready.inside, units_are p)) at-fill-units.fill-units.ensures in
-    let ec = clusters_end _ _ f.all f.walked _ _ _ i.stands i.ready at-if1.if1.false _ e _ _ _ i.clusters
-    c.fill_tail.ensures.clusters_after (clusters_room p) in
-    let eg = glyphs_end _ _ f.all f.walked _ _ _ i.stands i.ready at-if1.if1.false _ e _ _ _ i.glyphs c.fill_tail.ensures.glyphs_after
-    (glyphs_room p) in clusters_filled p cs ec
-
-pub returns-clause-glyphs : goal.returns-clause-glyphs
-returns-clause-glyphs c =     let at-start = at-fill-units.before.before.before.before.before.before.before in
-    let p = at-start.requires in
-    let f = filling p in
-    let i = at-loop.loop.invariant in
-    let us = at-start.args.units.now in
-    let cs = at-start.args.clusters.now in
-    let gs = at-start.args.glyphs.now in
-    let e = units_left _ us _ _ at-loop.loop.at.unit (units_are p) (omega (arith, i.ready.inside, units_are p)) at-fill-units.fill-units.ensures in
-    let ec = clusters_end _ _ f.all f.walked _ _ _ i.stands i.ready at-if1.if1.false _ e _ _ _ i.clusters
-    c.fill_tail.ensures.clusters_after (clusters_room p) in
-    let eg = glyphs_end _ _ f.all f.walked _ _ _ i.stands i.ready at-if1.if1.false _ e _ _ _ i.glyphs c.fill_tail.ensures.glyphs_after
-    (glyphs_room p) in glyphs_filled p gs eg
+pub returns : goal.returns
+returns c =
+    let i = c.loop-at.invariant in
+    let e = left c.requires i _ _ c.fill_units.ensures in
+    record {
+      units = units_filled c.requires _ c.fill_units.ensures;
+      clusters = run_clusters c.requires i c.loop-at-test.false e c.fill_tail.ensures.clusters_after;
+      glyphs = run_glyphs c.requires i c.loop-at-test.false e c.fill_tail.ensures.glyphs_after;
+    }

@@ -1,14 +1,8 @@
 -- `reader::fill_tail`: the loop keeps `Storing`: what is left, stored from here on, gives the whole tail stored where it begins; a turn stores one cluster and
 -- its glyph. Assumes nothing.
-use Rattle.reader.proofs.Tails.{Storing, storing_start, Room, storing_room, storing_next, storing_end}
-use Rattle.reader.proofs.Stores.{opened_yes, room_pair}
-use lib.Seq.{sets}
-use lib.ListN.{length}
-use mathlib.Core.Path.{refl, ◌∙◌, ap}
-use native.Mathlib.Omega.{arith}
-use Prim.Native.Nat.{◌-◌, ◌*◌, ◌<◌}
+use Rattle.reader.proofs.Tails.{Storing}
+use Prim.Native.Nat.{◌-◌}
 use Rattle.label.specs.Fetched.{halves}
-use borrow.Author.Rules.{rules}
 use Rattle.reader.proofs.fill_tail.Given as goal
 
 abbrev pub invariant-loop-j : goal.invariant-loop-j

@@ -4,7 +4,6 @@ use Rattle.reader.proofs.Stores.{pair_room, pair_stored, opened_no}
 use native.Mathlib.Omega.{arith}
 use Prim.Native.Nat.{◌+◌, ◌*◌, ◌<◌}
 use lib.ListN.{length}
-use borrow.Author.Rules.{rules}
 use Rattle.reader.proofs.put_cluster.Goals.{Then-lack-eq0}
 use Rattle.reader.proofs.put_cluster.Goals as goal
 
@@ -22,7 +21,7 @@ pub put_bits-requires-then-lack-eq0 : goal.put_bits-requires-then-lack-eq0
 put_bits-requires-then-lack-eq0 c = omega (arith, (opened (goal.at.put_bits-requires-then-lack-eq0 c).Then-lack-eq0).2)
 
 pub returns-then-lack-eq0 : goal.returns-then-lack-eq0
-returns-then-lack-eq0 c =     pair_stored _ _ _ _ _ _ _ c.if-lack-eq0.true c.put_bits.ensures c.put_bits-then-lack-eq0.ensures
+returns-then-lack-eq0 c = pair_stored _ _ _ _ _ _ _ c.if-lack-eq0.true c.put_bits.ensures c.put_bits-then-lack-eq0.ensures
 
 pub returns-else-lack-eq0 : goal.returns-else-lack-eq0
 returns-else-lack-eq0 c = rw (opened_no c.args.lack c.args.a c.args.b c.if-lack-eq0.false)
