@@ -1,4 +1,6 @@
 // Raw XML attribute values: references resolved and white space replaced, as XML 1.0 says.
+#![tactic(auto)]
+
 ghost use Rattle.std.specs.Prelude.{◌≡◌, ◌+◌, ◌*◌, ◌≤◌, ◌<◌, min, length};
 ghost use Rattle.label.specs.Calls.{filling_outcome, filled_count, filled_after};
 ghost use Rattle.label.specs.Requests.Attribute.{predefined, digit_value, numbered, referred, spaced, resolve_into};

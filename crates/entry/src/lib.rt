@@ -1,4 +1,6 @@
 // One entry of the indices, read in one pass over its bytes.
+#![tactic(auto)]
+
 ghost use Rattle.std.specs.Prelude.{◌≡◌, true, ◌&&◌, ◌+◌, ◌≤◌, leb, ltb, length, drop, get_or};
 ghost use Rattle.label.specs.Limits.{max_index, max_thousandths};
 ghost use Rattle.label.specs.Calls.{refusal};

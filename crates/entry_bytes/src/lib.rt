@@ -1,4 +1,6 @@
 // One entry of the indices, written in its normal form.
+#![tactic(auto)]
+
 ghost use Rattle.std.specs.Prelude.{◌≡◌, cond, [], ◌∷◌, ◌+◌, ◌≤◌, ◌<◌, eqb};
 ghost use Rattle.label.specs.Bytes.{empty, trim, decimal};
 ghost use Rattle.label.specs.Fetched.{signed};

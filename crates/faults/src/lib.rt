@@ -1,4 +1,6 @@
 // Showing a fault: the part of a label that a refusal speaks of, as a place and as the caller's own bytes.
+#![tactic(auto)]
+
 ghost use Rattle.std.specs.Prelude.{◌+◌, ◌-◌, ◌≤◌, ◌≡◌, length, drop};
 ghost use Rattle.label.specs.Fault.{of_text, of_entry, portion, fault_part, part_bytes, part_ptr};
 ghost use Rattle.entry.specs.Items.{here};

@@ -1,4 +1,6 @@
 // The calls for programs in C. A run's numbers are bytes here: a unit is 2 and every other number 4, two's complement, low byte first.
+#![tactic(auto)]
+
 ghost use Rattle.label.specs.Places.{places};
 ghost use Rattle.label.specs.Pick.{pick_glyphs, pick_units};
 ghost use Rattle.std.specs.Prelude.{◌≡◌, true, false};

@@ -1,5 +1,7 @@
 // The types that document 01's definitions and the code share, and its limits.
 // The definitions are in specs/, their laws and the demands' proofs in proofs/.
+#![tactic(auto)]
+
 ghost use Rattle.std.specs.Prelude.{◌≡◌};
 ghost use Rattle.label.specs.Limits.{max_text_bytes, max_indices_bytes, max_units, max_glyphs, max_index, max_digits, max_exponent_digits, max_thousandths, max_line_bytes};
 ghost use Rattle.label.specs.Calls.{refusal};

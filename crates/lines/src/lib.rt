@@ -1,4 +1,6 @@
 // A label on two lines, read and written again: what the programs `relabel` and `trials` print.
+#![tactic(auto)]
+
 ghost use Rattle.std.specs.Prelude.{◌≡◌, ◌+◌, ◌*◌, ◌≤◌, ◌<◌, min, length};
 ghost use Rattle.label.specs.Limits.{max_text_bytes, max_indices_bytes, max_units, max_glyphs, max_line_bytes};
 ghost use Rattle.label.specs.Relabel.{relabel_read};

@@ -1,4 +1,6 @@
 // The digits that stand at a place, and the number that stands there, rounded to whole thousandths.
+#![tactic(auto)]
+
 ghost use Rattle.std.specs.Prelude.{◌≡◌, true, cond, ◌+◌, ◌*◌, ◌%◌, ◌^◌, ◌≤◌, ◌<◌, eqb, length, drop};
 ghost use Rattle.label.specs.Bytes.{is_digit};
 ghost use Rattle.label.specs.Entry.{is_e, nearest, scaled};

@@ -1,4 +1,6 @@
 // Bytes in memory: numbers low byte first, bytes looked at, and bytes stored as far as there is room.
+#![tactic(auto)]
+
 ghost use Rattle.std.specs.Prelude.{◌≡◌, [], ◌∷◌, ◌+◌, ◌-◌, ◌*◌, ◌/◌, ◌%◌, ◌<◌, ◌≤◌, eqb, length, get_or, drop};
 ghost use Rattle.label.specs.Bytes.{begins, cut};
 ghost use Rattle.label.specs.Text.{within};

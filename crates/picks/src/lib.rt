@@ -1,4 +1,6 @@
 // Picks: from a stretch of glyphs to the stretch of code units of all clusters touched, and from code units to glyphs.
+#![tactic(auto)]
+
 ghost use Rattle.label.specs.Places.{places};
 ghost use Rattle.std.specs.Prelude.{◌≡◌, cond, ◌+◌, ◌<◌, leb, length};
 ghost use Rattle.label.specs.Fetched.{halves, words};

@@ -1,4 +1,6 @@
 // Truth values and plain numbers, which need no memory: joined, in more bits, one less.
+#![tactic(auto)]
+
 ghost use Rattle.std.specs.Prelude.{◌≡◌, ◌&&◌, ◌||◌, ◌-◌, ◌<◌};
 
 // ── truth values ──

@@ -1,5 +1,7 @@
 // The reading of a label into lent buffers: the crate `survey` judges 1 to 15 of document 01's checks and counts, and a second pass here fills the buffers.
 // Nothing is stored before 18 has been judged.
+#![tactic(auto)]
+
 ghost use Rattle.std.specs.Prelude.{◌+◌, ◌*◌, ◌/◌, ◌≤◌, ◌<◌, ◌≡◌, cond, length, drop};
 ghost use Rattle.std.proofs.lemmas.List.Edits.{sets};
 ghost use Rattle.label.specs.Text.{is_pair};

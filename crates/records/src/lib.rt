@@ -1,4 +1,6 @@
 // The glyphs of a sound run as a list of glyph records.
+#![tactic(auto)]
+
 ghost use Rattle.label.specs.Places.{places};
 ghost use Rattle.std.specs.Prelude.{◌≡◌, ◌++◌, ◌≤◌, ◌<◌, ◌/◌, length, drop};
 ghost use Rattle.label.specs.Sound.{number_advance};

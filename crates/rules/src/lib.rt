@@ -1,4 +1,6 @@
 // The rules of a sound run, each by itself: how many, a glyph, a cluster over its units. The walk over a whole run is the crate `sound`.
+#![tactic(auto)]
+
 ghost use Rattle.std.specs.Prelude.{◌≡◌, ◌||◌, ◌/◌, ◌<◌, ◌≤◌, length};
 ghost use Rattle.label.specs.Fetched.{halves, signed};
 ghost use Rattle.label.specs.Sound.{glyph_fits};

@@ -1,4 +1,6 @@
 // A sheet's labels in one call: the records of its file are found, and each label is judged where it stands in the file.
+#![tactic(auto)]
+
 ghost use Rattle.std.specs.Prelude.{◌≡◌, [], ◌∷◌, ◌≤◌, length};
 ghost use Rattle.label.specs.Calls.{filling_outcome, filled_count, numbers_after};
 ghost use Rattle.label.specs.Requests.Sheet.{answer as answerTo, list_room, sheet_into};

@@ -1,4 +1,6 @@
 // Whether the bytes of three buffers are a sound run: one that some accepted label reads as.
+#![tactic(auto)]
+
 ghost use Rattle.label.specs.Fetched.{halves, words};
 ghost use Rattle.label.specs.Places.{places};
 ghost use Rattle.label.specs.Sound.{sound};

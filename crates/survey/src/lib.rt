@@ -1,4 +1,6 @@
 // The first pass over a label's text and indices: it judges 1 to 15 of document 01's checks and counts; nothing is stored.
+#![tactic(auto)]
+
 ghost use Rattle.label.specs.declared.Reading.TheVariants.{Refused};
 ghost use Rattle.std.specs.Prelude.{◌+◌, ◌≤◌, ◌≡◌, not, ◌&&◌, eqb, length, drop};
 ghost use Rattle.label.specs.Limits.{max_indices_bytes, max_units};

@@ -1,4 +1,6 @@
 // The text of a run's units: its bytes in UTF-8, escaped where that is asked for.
+#![tactic(auto)]
+
 ghost use Rattle.label.specs.Text.{braced};
 ghost use Rattle.std.specs.Prelude.{◌≡◌, [], ◌∷◌, ◌+◌, ◌-◌, ◌%◌, ◌≤◌, ◌<◌, length};
 ghost use Rattle.label.specs.Fetched.{halves};

@@ -1,4 +1,6 @@
 // Code units, by themselves and where they stand in a run's bytes: the halves of pairs, and whether they are well-formed XML characters.
+#![tactic(auto)]
+
 ghost use Rattle.std.specs.Prelude.{◌≡◌, false, ◌/◌, ◌≤◌, length, drop};
 ghost use Rattle.label.specs.Text.{is_high, is_low, is_pair};
 ghost use Rattle.label.specs.Fetched.{halves};

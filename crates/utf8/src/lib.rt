@@ -1,4 +1,6 @@
 // The character at a place of UTF-8: the rows of Unicode's Table 3-7, the bits of Table 3-6, XML 1.0's Char.
+#![tactic(auto)]
+
 ghost use Rattle.std.specs.Prelude.{◌≡◌, true, cond, ◌+◌, ◌*◌, ◌%◌, ◌≤◌, ◌<◌, length, get_or, drop};
 ghost use Rattle.label.specs.Text.{scalar, xml_char};
 ghost use Rattle.utf8.specs.Rows.{lead, trail};

@@ -1,4 +1,6 @@
 // The writer: a sound run's normal writing, text and indices, escaped where that is asked for. The run is read where it stands, in its bytes.
+#![tactic(auto)]
+
 ghost use Rattle.label.specs.Places.{places};
 ghost use Rattle.std.specs.Prelude.{◌≡◌, cond, ◌+◌, ◌<◌, ◌≤◌, length};
 ghost use Rattle.label.specs.Fetched.{words};

@@ -29,6 +29,6 @@ returns-then-stands_at-5 c = hit _ _ (ascii "apos") refl c.stands_at-5.ensures 3
 
 pub returns : goal.returns
 unfolding ascii
-returns c =     missed _ _ c.stands_at.ensures c.stands_at-2.ensures c.stands_at-3.ensures
+returns c = missed _ _ c.stands_at.ensures c.stands_at-2.ensures c.stands_at-3.ensures
     c.stands_at-4.ensures c.stands_at-5.ensures c.if-stands_at.false c.if-stands_at-2.false c.if-stands_at-3.false c.if-stands_at-4.false
     c.if-stands_at-5.false

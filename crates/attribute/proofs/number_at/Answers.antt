@@ -11,7 +11,7 @@ pub returns-then-base-d-clause-value : goal.returns-then-base-d-clause-value
 returns-then-base-d-clause-value c = scan_other c.loop-i.invariant c.digit_value-d.ensures.value c.loop-i-test.true c.if-base-d.true
 
 pub loop-i-preserved : goal.loop-i-preserved
-loop-i-preserved c =     scan_step c.loop-i.invariant c.digit_value-d.ensures.value c.with_digit-n.ensures c.requires.1 c.loop-i-test.true
+loop-i-preserved c = scan_step c.loop-i.invariant c.digit_value-d.ensures.value c.with_digit-n.ensures c.requires.1 c.loop-i-test.true
     c.if-base-d.false
 
 pub returns-clause-value : goal.returns-clause-value

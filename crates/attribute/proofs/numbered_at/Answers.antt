@@ -6,12 +6,12 @@ use borrow.Author.Rules.{rules}
 use Rattle.attribute.proofs.numbered_at.Goals as goal
 
 pub returns-then-byte_or_zero-ne59 : goal.returns-then-byte_or_zero-ne59
-returns-then-byte_or_zero-ne59 c =     number_open _ c.requires.2 _ _ c.number_at-n.ensures.value c.byte_or_zero.ensures.value c.if-byte_or_zero-ne59.true
+returns-then-byte_or_zero-ne59 c = number_open _ c.requires.2 _ _ c.number_at-n.ensures.value c.byte_or_zero.ensures.value c.if-byte_or_zero-ne59.true
 
 pub returns-then-not-is_xml : goal.returns-then-not-is_xml
-returns-then-not-is_xml c =     number_outside _ c.requires.2 _ _ c.number_at-n.ensures.value c.byte_or_zero.ensures.value c.if-byte_or_zero-ne59.false
+returns-then-not-is_xml c = number_outside _ c.requires.2 _ _ c.number_at-n.ensures.value c.byte_or_zero.ensures.value c.if-byte_or_zero-ne59.false
     c.is_xml.ensures c.if-not-is_xml.true
 
 pub returns : goal.returns
-returns c =     number_good _ c.requires.2 _ _ c.number_at-n.ensures.value c.byte_or_zero.ensures.value c.if-byte_or_zero-ne59.false
+returns c = number_good _ c.requires.2 _ _ c.number_at-n.ensures.value c.byte_or_zero.ensures.value c.if-byte_or_zero-ne59.false
     c.is_xml.ensures c.if-not-is_xml.false

@@ -9,9 +9,9 @@ pub returns-then-byte_or_zero-ne35 : goal.returns-then-byte_or_zero-ne35
 returns-then-byte_or_zero-ne35 c = c.named_at.ensures ∙ by_name _ _ c.byte_or_zero.ensures.value c.if-byte_or_zero-ne35.true
 
 pub returns-then-byte_or_zero-ne120 : goal.returns-then-byte_or_zero-ne120
-returns-then-byte_or_zero-ne120 c =     c.numbered_at.ensures ∙ by_ten _ _ c.byte_or_zero.ensures.value c.if-byte_or_zero-ne35.false c.byte_or_zero-2.ensures.value
+returns-then-byte_or_zero-ne120 c = c.numbered_at.ensures ∙ by_ten _ _ c.byte_or_zero.ensures.value c.if-byte_or_zero-ne35.false c.byte_or_zero-2.ensures.value
     c.if-byte_or_zero-ne120.true
 
 pub returns : goal.returns
-returns c =     c.numbered_at-2.ensures ∙ by_sixteen _ _ c.byte_or_zero.ensures.value c.if-byte_or_zero-ne35.false c.byte_or_zero-2.ensures.value
+returns c = c.numbered_at-2.ensures ∙ by_sixteen _ _ c.byte_or_zero.ensures.value c.if-byte_or_zero-ne35.false c.byte_or_zero-2.ensures.value
     c.if-byte_or_zero-ne120.false

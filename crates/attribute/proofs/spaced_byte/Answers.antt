@@ -9,8 +9,8 @@ use Rattle.attribute.proofs.spaced_byte.Goals as goal
 
 pub returns-then-either : goal.returns-then-either
 unfolding spaced
-returns-then-either c =     rw (ap (λ (x : Bool). x || eqb c.args.b 13) (sym c.either.ensures) ∙ sym c.either-2.ensures ∙ c.if-either.true)
+returns-then-either c = rw (ap (λ (x : Bool). x || eqb c.args.b 13) (sym c.either.ensures) ∙ sym c.either-2.ensures ∙ c.if-either.true)
 
 pub returns : goal.returns
 unfolding spaced
-returns c =     rw (ap (λ (x : Bool). x || eqb c.args.b 13) (sym c.either.ensures) ∙ sym c.either-2.ensures ∙ c.if-either.false)
+returns c = rw (ap (λ (x : Bool). x || eqb c.args.b 13) (sym c.either.ensures) ∙ sym c.either-2.ensures ∙ c.if-either.false)

@@ -15,5 +15,5 @@ returns-clause-put t c = put_as (decimal_step c.args.n c.if-n-lt10.false) (then 
 pub returns-clause-bounds : goal.returns-clause-bounds
 returns-clause-bounds t c =
     let p : Put c.args.out.now c.args.at (decimal c.args.n) c.put_digit-2.result c.put_digit-2.new.out =
-        put_as (decimal_step c.args.n c.if-n-lt10.false) (then c.put_decimal-p.ensures.put c.put_digit-2.ensures.put) in
+    put_as (decimal_step c.args.n c.if-n-lt10.false) (then c.put_decimal-p.ensures.put c.put_digit-2.ensures.put) in
     omega (arith, p.behind, decimal_short c.args.n c.ranges.n.fits)

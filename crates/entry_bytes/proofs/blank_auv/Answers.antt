@@ -5,5 +5,5 @@ use borrow.Author.Rules.{rules}
 use Rattle.entry_bytes.proofs.blank_auv.Goals as goal
 
 pub returns : goal.returns
-returns c =     blank_auv_is (signed c.args.a) (signed c.args.u) (signed c.args.v) c.is_natural-n.ensures
+returns c = blank_auv_is (signed c.args.a) (signed c.args.u) (signed c.args.v) c.is_natural-n.ensures
     c.blank_uv.ensures c.both.ensures

@@ -5,4 +5,4 @@ use borrow.Author.Rules.{rules}
 use Rattle.entry_bytes.proofs.blank_uv.Goals as goal
 
 pub returns : goal.returns
-returns c =     blank_uv_is (signed c.args.u) (signed c.args.v) c.size-n.ensures c.blank_v.ensures c.both.ensures
+returns c = blank_uv_is (signed c.args.u) (signed c.args.v) c.size-n.ensures c.blank_v.ensures c.both.ensures

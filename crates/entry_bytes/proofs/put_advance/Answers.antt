@@ -9,7 +9,7 @@ use Rattle.entry_bytes.proofs.put_advance.Goals as goal
 
 pub returns-then-is_natural-clause-put : goal.returns-then-is_natural-clause-put
 returns-then-is_natural-clause-put c = put_as (chosen_some advance_is (signed c.args.n) c.is_natural.ensures c.size.ensures c.if-is_natural.true)
-          c.put_value.ensures.put
+    c.put_value.ensures.put
 
 pub returns-clause-put : goal.returns-clause-put
 returns-clause-put c = put_as (chosen_none advance_is (signed c.args.n) c.is_natural.ensures c.if-is_natural.false) none

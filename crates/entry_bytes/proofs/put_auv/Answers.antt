@@ -12,5 +12,5 @@ returns-then-blank_auv-clause-put c = put_as (fields_blank _ c.blank_auv.ensures
 
 pub returns-clause-put : goal.returns-clause-put
 returns-clause-put c = put_as (fields_auv (signed c.args.a) (signed c.args.u) (signed c.args.v) c.blank_auv.ensures
-          c.if-blank_auv.false)
-          (then c.put_byte-p.ensures.put (then c.put_advance-q.ensures.put c.put_uv.ensures.put))
+    c.if-blank_auv.false)
+    (then c.put_byte-p.ensures.put (then c.put_advance-q.ensures.put c.put_uv.ensures.put))

@@ -8,5 +8,5 @@ use borrow.Author.Rules.{rules}
 use Rattle.entry_bytes.proofs.put_entry.Goals as goal
 
 pub returns-clause-put : goal.returns-clause-put
-returns-clause-put c =     let a = c.args in put_as (entry_is a.a a.b (signed a.index) (signed a.advance) (signed a.u) (signed a.v))
-          (then c.put_index-p.ensures.put c.put_auv.ensures.put)
+returns-clause-put c = let a = c.args in put_as (entry_is a.a a.b (signed a.index) (signed a.advance) (signed a.u) (signed a.v))
+    (then c.put_index-p.ensures.put c.put_auv.ensures.put)

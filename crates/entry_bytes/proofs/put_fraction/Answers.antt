@@ -11,8 +11,8 @@ returns-then-f-eq0-clause-put c = put_as (frac_one c.args.f c.if-f-eq0.true) c.p
 
 pub returns-then-f-eq0-2-clause-put : goal.returns-then-f-eq0-2-clause-put
 returns-then-f-eq0-2-clause-put c = put_as (frac_two c.args.f c.if-f-eq0.false c.if-f-eq0-2.true) (then c.put_digit-p.ensures.put
-          c.put_digit-q.ensures.put)
+    c.put_digit-q.ensures.put)
 
 pub returns-clause-put : goal.returns-clause-put
 returns-clause-put c = put_as (frac_three c.args.f c.if-f-eq0.false c.if-f-eq0-2.false)
-          (then (then c.put_digit-p.ensures.put c.put_digit-q.ensures.put) c.put_digit.ensures.put)
+    (then (then c.put_digit-p.ensures.put c.put_digit-q.ensures.put) c.put_digit.ensures.put)

@@ -11,5 +11,5 @@ returns-then-both-clause-put c = put_as (map_none c.args.a c.args.b c.both.ensur
 
 pub returns-clause-put : goal.returns-clause-put
 returns-clause-put c = put_as (map_some c.args.a c.args.b c.both.ensures c.if-both.false)
-          (then c.put_byte-p.ensures.put (then (then c.put_decimal-q.ensures.put c.put_colon-t.ensures.put)
-          c.put_byte.ensures.put))
+    (then c.put_byte-p.ensures.put (then (then c.put_decimal-q.ensures.put c.put_colon-t.ensures.put)
+    c.put_byte.ensures.put))

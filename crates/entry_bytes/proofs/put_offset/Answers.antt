@@ -12,8 +12,8 @@ returns-then-size-eq0-clause-put c = put_as (offset_none (signed c.args.n) c.siz
 
 pub returns-then-is_natural-clause-put : goal.returns-then-is_natural-clause-put
 returns-then-is_natural-clause-put c = put_as (offset_plus (signed c.args.n) c.size-size.ensures c.if-size-eq0.false c.is_natural.ensures c.if-is_natural.true)
-          c.put_value.ensures.put
+    c.put_value.ensures.put
 
 pub returns-clause-put : goal.returns-clause-put
 returns-clause-put c = put_as (offset_minus (signed c.args.n) c.size-size.ensures c.if-size-eq0.false c.is_natural.ensures c.if-is_natural.false)
-          (then c.put_byte-p.ensures.put c.put_value-2.ensures.put)
+    (then c.put_byte-p.ensures.put c.put_value-2.ensures.put)

@@ -12,4 +12,4 @@ returns-then-blank_uv-clause-put c = put_as (fields_blank _ c.blank_uv.ensures c
 
 pub returns-clause-put : goal.returns-clause-put
 returns-clause-put c = put_as (fields_uv (signed c.args.u) (signed c.args.v) c.blank_uv.ensures c.if-blank_uv.false)
-          (then c.put_byte-p.ensures.put (then c.put_offset-q.ensures.put c.put_v.ensures.put))
+    (then c.put_byte-p.ensures.put (then c.put_offset-q.ensures.put c.put_v.ensures.put))

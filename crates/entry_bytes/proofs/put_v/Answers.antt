@@ -12,4 +12,4 @@ returns-then-blank_v-clause-put c = put_as (fields_blank _ c.blank_v.ensures c.i
 
 pub returns-clause-put : goal.returns-clause-put
 returns-clause-put c = put_as (fields_v (signed c.args.v) c.blank_v.ensures c.if-blank_v.false)
-          (then c.put_byte-p.ensures.put c.put_offset.ensures.put)
+    (then c.put_byte-p.ensures.put c.put_offset.ensures.put)

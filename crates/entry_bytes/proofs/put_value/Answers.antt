@@ -11,4 +11,4 @@ returns-then-n-eq0-clause-put c = put_as (value_whole c.args.n c.if-n-eq0.true) 
 
 pub returns-clause-put : goal.returns-clause-put
 returns-clause-put c = put_as (value_point c.args.n c.if-n-eq0.false)
-          (then c.put_whole-p.ensures.put (then c.put_byte-q.ensures.put c.put_fraction.ensures.put))
+    (then c.put_whole-p.ensures.put (then c.put_byte-q.ensures.put c.put_fraction.ensures.put))

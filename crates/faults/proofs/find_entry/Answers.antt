@@ -12,7 +12,7 @@ pub loop-place-init : goal.loop-place-init
 loop-place-init c = from_start _ _ _ c.first_place-place.ensures
 
 pub returns-then-rest-eq0 : goal.returns-then-rest-eq0
-returns-then-rest-eq0 c =     c.part_of.ensures ∙ from_here _ _ _ c.loop-place-test.true c.entry_end-end.ensures.value _ c.if-rest-eq0.true
+returns-then-rest-eq0 c = c.part_of.ensures ∙ from_here _ _ _ c.loop-place-test.true c.entry_end-end.ensures.value _ c.if-rest-eq0.true
     ∙ sym c.loop-place.invariant
 
 pub loop-place-preserved : goal.loop-place-preserved

@@ -20,9 +20,9 @@ pub returns-then-both : goal.returns-then-both
 returns-then-both c = c.part_of.ensures ∙ part_text _ _ _ _ _ (tested (goal.at.returns-then-both c).After-both) c.if-both.true
 
 pub returns-then-is_of_entry : goal.returns-then-is_of_entry
-returns-then-is_of_entry c =     c.find_entry.ensures
+returns-then-is_of_entry c = c.find_entry.ensures
     ∙ part_entry _ _ _ _ _ (tested (goal.at.returns-then-is_of_entry c).After-both) c.if-both.false (sym c.is_of_entry.ensures ∙ c.if-is_of_entry.true)
 
 pub returns : goal.returns
-returns c =     c.part_of-2.ensures
+returns c = c.part_of-2.ensures
     ∙ part_none _ _ _ _ _ (tested (goal.at.returns c).After-both) c.if-both.false (sym c.is_of_entry.ensures ∙ c.if-is_of_entry.false)

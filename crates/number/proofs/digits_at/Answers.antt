@@ -13,7 +13,7 @@ pub returns-then-not-is_digit-clause-value : goal.returns-then-not-is_digit-clau
 returns-then-not-is_digit-clause-value c = scan_stop c.loop-i.invariant (lead_stop _ _ c.loop-i-test.true (sym c.is_digit.ensures ∙ c.if-not-is_digit.true))
 
 pub loop-i-preserved : goal.loop-i-preserved
-loop-i-preserved c =     rw c.push_digit-v.ensures (scan_step c.loop-i.invariant (omega arith) (sym c.is_digit.ensures ∙ c.if-not-is_digit.false))
+loop-i-preserved c = rw c.push_digit-v.ensures (scan_step c.loop-i.invariant (omega arith) (sym c.is_digit.ensures ∙ c.if-not-is_digit.false))
 
 pub returns-clause-value : goal.returns-clause-value
 returns-clause-value c = scan_stop c.loop-i.invariant (lead_end _ _ c.loop-i-test.false)

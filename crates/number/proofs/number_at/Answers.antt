@@ -10,15 +10,15 @@ returns-then-m-gt-DIGITS-clause-value c = code_long _ _ _ c.mantissa_at-m.ensure
 
 pub returns-then-x-gt-EXPONENT_DIGITS-clause-value : goal.returns-then-x-gt-EXPONENT_DIGITS-clause-value
 returns-then-x-gt-EXPONENT_DIGITS-clause-value c = code_far _ _ _ c.mantissa_at-m.ensures.value _ c.exponent_at-x.ensures.value _ c.both-ok.ensures c.if-m-gt-DIGITS.false
-          c.if-x-gt-EXPONENT_DIGITS.true
+    c.if-x-gt-EXPONENT_DIGITS.true
 
 pub to_thousandths-size-requires : goal.to_thousandths-size-requires
-to_thousandths-size-requires c =     (
-      (mant_asked _ _ c.mantissa_at-m.ensures.value c.if-m-gt-DIGITS.false).0,
-      (mant_asked _ _ c.mantissa_at-m.ensures.value c.if-m-gt-DIGITS.false).1,
-      expo_asked _ _ c.exponent_at-x.ensures.value c.if-x-gt-EXPONENT_DIGITS.false,
-    )
+to_thousandths-size-requires c = (
+  (mant_asked _ _ c.mantissa_at-m.ensures.value c.if-m-gt-DIGITS.false).0,
+  (mant_asked _ _ c.mantissa_at-m.ensures.value c.if-m-gt-DIGITS.false).1,
+  expo_asked _ _ c.exponent_at-x.ensures.value c.if-x-gt-EXPONENT_DIGITS.false,
+)
 
 pub returns-clause-value : goal.returns-clause-value
 returns-clause-value c = code_sized _ _ _ c.mantissa_at-m.ensures.value _ c.exponent_at-x.ensures.value _ c.both-ok.ensures c.if-m-gt-DIGITS.false
-          c.if-x-gt-EXPONENT_DIGITS.false _ c.to_thousandths-size.ensures
+    c.if-x-gt-EXPONENT_DIGITS.false _ c.to_thousandths-size.ensures

@@ -7,7 +7,7 @@ use Rattle.number.proofs.ValueLaws.{shrink_none, none_whole, round_up, round_dow
 use Rattle.number.proofs.shrunk.Goals as goal
 
 pub returns-then-k-gt18 : goal.returns-then-k-gt18
-returns-then-k-gt18 c =     rw (c.zero.ensures, shrink_none _ _ c.requires c.if-k-gt18.true, none_whole _ _ c.requires c.if-k-gt18.true)
+returns-then-k-gt18 c = rw (c.zero.ensures, shrink_none _ _ c.requires c.if-k-gt18.true, none_whole _ _ c.requires c.if-k-gt18.true)
 
 pub nonzero_div-q : goal.nonzero_div-q
 nonzero_div-q c = rw c.power-d.ensures (ten_pos _)
@@ -16,7 +16,7 @@ pub nonzero_rem-r : goal.nonzero_rem-r
 nonzero_rem-r c = rw c.power-d.ensures (ten_pos _)
 
 pub returns-then-d-r : goal.returns-then-d-r
-returns-then-d-r c =     rw (← c.power-d.ensures, round_up c.args.m c.power-d.result (omega (arith, c.if-d-r.true))) c.limited.ensures
+returns-then-d-r c = rw (← c.power-d.ensures, round_up c.args.m c.power-d.result (omega (arith, c.if-d-r.true))) c.limited.ensures
 
 pub returns-else-d-r : goal.returns-else-d-r
-returns-else-d-r c =     rw (← c.power-d.ensures, round_down c.args.m c.power-d.result (omega (arith, c.if-d-r.false))) c.limited-else-d-r.ensures
+returns-else-d-r c = rw (← c.power-d.ensures, round_down c.args.m c.power-d.result (omega (arith, c.if-d-r.false))) c.limited-else-d-r.ensures

@@ -6,7 +6,7 @@ use Rattle.number.proofs.ValueLaws.{scaled_is, whole_is}
 use Rattle.number.proofs.to_thousandths.Goals as goal
 
 pub returns : goal.returns
-returns c =     let a = c.args in
+returns c = let a = c.args in
     c.shifted.ensures
     ∙ rw (
       c.unless-up.ensures.value,

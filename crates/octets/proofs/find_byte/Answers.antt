@@ -12,12 +12,12 @@ pub returns-then-s-i-clause-value : goal.returns-then-s-i-clause-value
 returns-then-s-i-clause-value c = found_here _ _ _ c.loop-i-test.true c.if-s-i.true ∙ c.loop-i.invariant.2
 
 pub loop-i-preserved : goal.loop-i-preserved
-loop-i-preserved c =     (
-      omega (arith, c.loop-i.invariant.0),
-      omega (arith, c.loop-i-test.true),
-      found_next _ _ _ c.loop-i-test.true c.if-s-i.false
-          ∙ c.loop-i.invariant.2,
-    )
+loop-i-preserved c = (
+  omega (arith, c.loop-i.invariant.0),
+  omega (arith, c.loop-i-test.true),
+  found_next _ _ _ c.loop-i-test.true c.if-s-i.false
+      ∙ c.loop-i.invariant.2,
+)
 
 pub returns-clause-value : goal.returns-clause-value
 returns-clause-value c = found_end _ _ _ c.loop-i-test.false ∙ c.loop-i.invariant.2

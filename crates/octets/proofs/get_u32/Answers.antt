@@ -6,4 +6,4 @@ use Rattle.octets.proofs.get_u32.Goals as goal
 
 pub returns : goal.returns
 unfolding word_at
-returns c =     rw (c.wide-b0.ensures.0, c.wide-b1.ensures.0, c.wide-b2.ensures.0, c.wide-b3.ensures.0)
+returns c = rw (c.wide-b0.ensures.0, c.wide-b1.ensures.0, c.wide-b2.ensures.0, c.wide-b3.ensures.0)

@@ -11,6 +11,6 @@ use Rattle.octets.proofs.put_u32.Goals as goal
 
 pub returns : goal.returns
 unfolding puts
-returns c =     let n = c.args.n in
+returns c = let n = c.args.n in
     let at = c.args.at in
     rw (and_mask n 8, and_mask (n / 256) 8, and_mask (n / 65536) 8, add-one at, add-two at, add-three at)

@@ -7,4 +7,4 @@ use borrow.Author.Rules.{rules}
 use Rattle.picks.proofs.count_of.Goals as goal
 
 pub returns-else-turn : goal.returns-else-turn
-returns-else-turn c =     rw c.if-turn.false (ap (λ (n : ℕ). n / 4) c.number_count.ensures.value ∙ sym (glyph_count (words c.args.glyphs.now)))
+returns-else-turn c = rw c.if-turn.false (ap (λ (n : ℕ). n / 4) c.number_count.ensures.value ∙ sym (glyph_count (words c.args.glyphs.now)))

@@ -15,7 +15,7 @@ asked c =
     asks _ _ _ _ _ _ c.is_sound.ensures (ap not c.if-not-is_sound.false) c.count_of-count.ensures c.both.ensures
 
 pub returns-then-not-is_sound : goal.returns-then-not-is_sound
-returns-then-not-is_sound c =     let a = c.args in
+returns-then-not-is_sound c = let a = c.args in
     ap pick_outcome c.refused.ensures ∙ refuses_19 a.turn a.units.now a.clusters.now a.glyphs.now a.first a.end
     c.is_sound.ensures (ap not c.if-not-is_sound.true)
 

@@ -14,18 +14,18 @@ use borrow.Author.Rules.{rules}
 use Rattle.picks.proofs.touched_by.Goals as goal
 
 pub loop-i-init : goal.loop-i-init
-loop-i-init c =     let a = c.args in
+loop-i-init c = let a = c.args in
     (omega arith, omega arith, omega arith, walk_start a.turn (words a.cs.now) a.first a.end 0)
 
 pub returns-then-end-passed : goal.returns-then-end-passed
-returns-then-end-passed c =     let a = c.args in
+returns-then-end-passed c = let a = c.args in
     let l = c.loop-i in
     walk_stop a.turn (words a.cs.now) a.first a.end l.passed l.at l.start l.i l.invariant.3 c.start_at-start.ensures
     c.count_at-passed.ensures.value c.count_at-at.ensures.value (omega (arith, c.number_count-n.ensures.value))
     (omega arith) l.invariant.1 c.if-end-passed.true
 
 pub loop-i-preserved : goal.loop-i-preserved
-loop-i-preserved c =     let a = c.args in
+loop-i-preserved c = let a = c.args in
     let l = c.loop-i in
     let s = sum_at a.turn (words a.cs.now) a.first a.end l.i c.count_at-at.ensures.value
     (omega (arith, c.number_count-n.ensures.value)) in (
@@ -37,7 +37,7 @@ loop-i-preserved c =     let a = c.args in
     )
 
 pub returns : goal.returns
-returns c =     let a = c.args in
+returns c = let a = c.args in
     let l = c.loop-i in
     walk_end a.turn (words a.cs.now) a.first a.end l.passed l.at l.start l.i l.invariant.3 c.start_at.ensures
     (omega (arith, c.number_count-n.ensures.value))

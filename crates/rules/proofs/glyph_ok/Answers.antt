@@ -5,13 +5,13 @@ use Rattle.rules.proofs.glyph_ok.Goals as goal
 
 pub returns : goal.returns
 unfolding glyph_ok
-returns c =     rw (
-      c.both-2.ensures,
-      c.both.ensures,
-      c.either-font.ensures,
-      c.is_font.ensures,
-      c.keeps_limits-limits.ensures,
-      c.both-whole.ensures,
-      c.is_choice-2.ensures,
-      c.is_choice.ensures,
-    )
+returns c = rw (
+  c.both-2.ensures,
+  c.both.ensures,
+  c.either-font.ensures,
+  c.is_font.ensures,
+  c.keeps_limits-limits.ensures,
+  c.both-whole.ensures,
+  c.is_choice-2.ensures,
+  c.is_choice.ensures,
+)

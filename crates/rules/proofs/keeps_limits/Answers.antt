@@ -5,6 +5,6 @@ use borrow.Author.Rules.{rules}
 use Rattle.rules.proofs.keeps_limits.Goals as goal
 
 pub returns : goal.returns
-returns c =     limits_are (signed c.args.index) (signed c.args.advance) (signed c.args.u) (signed c.args.v) c.count.ensures.value
+returns c = limits_are (signed c.args.index) (signed c.args.advance) (signed c.args.u) (signed c.args.v) c.count.ensures.value
     c.count-2.ensures.value c.size.ensures c.size-2.ensures c.both.ensures c.both-2.ensures
     c.both-3.ensures

@@ -10,36 +10,36 @@ returns-then-bare c = rw (c.both-then-bare.ensures, c.both.ensures, c.if-bare.tr
 
 pub returns-then-either : goal.returns-then-either
 unfolding opens_at
-returns-then-either c =     rw (
-      c.both-stands.ensures,
-      c.is_low-split.ensures,
-      c.unit_at.ensures,
-      c.both-inside.ensures,
-      c.unit_count.ensures.value,
-      c.both-counts.ensures,
-      c.if-bare.false,
-      ← c.both-2.ensures,
-      ← c.either.ensures,
-      c.if-either.true,
-      and-true,
-    )
+returns-then-either c = rw (
+  c.both-stands.ensures,
+  c.is_low-split.ensures,
+  c.unit_at.ensures,
+  c.both-inside.ensures,
+  c.unit_count.ensures.value,
+  c.both-counts.ensures,
+  c.if-bare.false,
+  ← c.both-2.ensures,
+  ← c.either.ensures,
+  c.if-either.true,
+  and-true,
+)
 
 pub returns : goal.returns
 unfolding opens_at
-returns c =     rw (
-      c.both-5.ensures,
-      c.both-4.ensures,
-      c.both-pair.ensures,
-      c.is_pair_at.ensures,
-      c.both-3.ensures,
-      c.both-stands.ensures,
-      c.is_low-split.ensures,
-      c.unit_at.ensures,
-      c.both-inside.ensures,
-      c.unit_count.ensures.value,
-      c.both-counts.ensures,
-      c.if-bare.false,
-      ← c.both-2.ensures,
-      ← c.either.ensures,
-      c.if-either.false,
-    )
+returns c = rw (
+  c.both-5.ensures,
+  c.both-4.ensures,
+  c.both-pair.ensures,
+  c.is_pair_at.ensures,
+  c.both-3.ensures,
+  c.both-stands.ensures,
+  c.is_low-split.ensures,
+  c.unit_at.ensures,
+  c.both-inside.ensures,
+  c.unit_count.ensures.value,
+  c.both-counts.ensures,
+  c.if-bare.false,
+  ← c.both-2.ensures,
+  ← c.either.ensures,
+  c.if-either.false,
+)

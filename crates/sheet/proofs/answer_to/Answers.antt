@@ -6,10 +6,10 @@ use borrow.Author.Rules.{rules}
 use Rattle.sheet.proofs.answer_to.Goals as goal
 
 pub overflow_cast-number : goal.overflow_cast-number
-overflow_cast-number c =     record { sfits = number_small _ _ c.survey-found.ensures.reading_value c.in-Refused.is }
+overflow_cast-number c = record { sfits = number_small _ _ c.survey-found.ensures.reading_value c.in-Refused.is }
 
 pub overflow_cast-place : goal.overflow_cast-place
-overflow_cast-place c =     record { sfits = place_small _ _ c.survey-found.ensures.reading_value c.in-Refused.is }
+overflow_cast-place c = record { sfits = place_small _ _ c.survey-found.ensures.reading_value c.in-Refused.is }
 
 pub returns-in-Read : goal.returns-in-Read
 unfolding label_in
@@ -17,4 +17,4 @@ returns-in-Read c = accepted _ _ c.survey-found.ensures.reading_value c.in-Read.
 
 pub returns-in-Refused : goal.returns-in-Refused
 unfolding label_in
-returns-in-Refused c =     told _ _ c.survey-found.ensures.reading_value c.in-Refused.is
+returns-in-Refused c = told _ _ c.survey-found.ensures.reading_value c.in-Refused.is

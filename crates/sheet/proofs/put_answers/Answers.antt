@@ -33,21 +33,21 @@ pub overflow_add-k : goal.overflow_add-k
 overflow_add-k c = record { fits = omega (arith, room (goal.at.overflow_add-k c).After-answer_to-a (found (goal.at.overflow_add-k c).In-Whole)) }
 
 pub put_number-requires-in-Whole : goal.put_number-requires-in-Whole
-put_number-requires-in-Whole c =     omega (arith, room (goal.at.put_number-requires-in-Whole c).After-answer_to-a (found (goal.at.put_number-requires-in-Whole c).In-Whole), c.put_number.auto.out)
+put_number-requires-in-Whole c = omega (arith, room (goal.at.put_number-requires-in-Whole c).After-answer_to-a (found (goal.at.put_number-requires-in-Whole c).In-Whole), c.put_number.auto.out)
 
 pub overflow_add-k-in-Whole : goal.overflow_add-k-in-Whole
 overflow_add-k-in-Whole c =
     record { fits = omega (arith, room (goal.at.overflow_add-k-in-Whole c).After-answer_to-a (found (goal.at.overflow_add-k-in-Whole c).In-Whole)) }
 
 pub loop-at-smaller : goal.loop-at-smaller
-loop-at-smaller c =     let s = found (goal.at.loop-at-smaller c).In-Whole in omega (arith, s.further, s.inside)
+loop-at-smaller c = let s = found (goal.at.loop-at-smaller c).In-Whole in omega (arith, s.further, s.inside)
 
 pub loop-at-preserved : goal.loop-at-preserved
-loop-at-preserved c =     stored_next _ c.loop-at.invariant c.loop-at-test.true (found (goal.at.loop-at-preserved c).In-Whole) (as_stored _ c.answer_to-a.ensures)
+loop-at-preserved c = stored_next _ c.loop-at.invariant c.loop-at-test.true (found (goal.at.loop-at-preserved c).In-Whole) (as_stored _ c.answer_to-a.ensures)
     c.put_number.ensures c.put_number-in-Whole.ensures
 
 pub returns-in-Cut : goal.returns-in-Cut
-returns-in-Cut c =     let l = c.loop-at.invariant.left in
+returns-in-Cut c = let l = c.loop-at.invariant.left in
     absurd (not_cut _ l c.loop-at-test.true (cut _ _ (sym c.in-Cut.is ∙ c.record_at.ensures)))
 
 pub returns : goal.returns

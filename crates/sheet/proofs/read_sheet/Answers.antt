@@ -5,4 +5,4 @@ use borrow.Author.Rules.{rules}
 use Rattle.sheet.proofs.read_sheet.Goals as goal
 
 pub put_answers-requires : goal.put_answers-requires
-put_answers-requires c =     rw (← c.number_count.ensures.bounds) (accepts _ _ c.judge.ensures c.in-Filled.is)
+put_answers-requires c = rw (← c.number_count.ensures.bounds) (accepts _ _ c.judge.ensures c.in-Filled.is)

@@ -8,7 +8,7 @@ pub returns-then-file-at-lt6 : goal.returns-then-file-at-lt6
 returns-then-file-at-lt6 c = record_short _ _ c.requires c.if-file-at-lt6.true
 
 pub returns-then-file-end : goal.returns-then-file-end
-returns-then-file-end c =     record_cut _ _ c.get_u16.ensures (c.widened.ensures.0 ∙ c.get_u32.ensures) c.requires c.if-file-end.true
+returns-then-file-end c = record_cut _ _ c.get_u16.ensures (c.widened.ensures.0 ∙ c.get_u32.ensures) c.requires c.if-file-end.true
 
 pub returns : goal.returns
-returns c =     record_whole _ _ c.get_u16.ensures (c.widened.ensures.0 ∙ c.get_u32.ensures) c.if-file-end.false
+returns c = record_whole _ _ c.get_u16.ensures (c.widened.ensures.0 ∙ c.get_u32.ensures) c.if-file-end.false

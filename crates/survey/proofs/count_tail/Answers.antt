@@ -14,24 +14,24 @@ pub overflow_add-n : goal.overflow_add-n
 overflow_add-n c = omega (arith, counting_few c.loop-b.invariant c.requires.bounds)
 
 pub loop-b-preserved-then-is_within : goal.loop-b-preserved-then-is_within
-loop-b-preserved-then-is_within c =     let g = char_plain _ _ (sym c.is_within.ensures ∙ c.if-is_within.true) in
+loop-b-preserved-then-is_within c = let g = char_plain _ _ (sym c.is_within.ensures ∙ c.if-is_within.true) in
     counting_next c.loop-b.invariant c.loop-b-test.true g
 
 pub overflow_add-n-in-Good : goal.overflow_add-n-in-Good
-overflow_add-n-in-Good c =     omega (arith, counting_few c.loop-b.invariant c.requires.bounds)
+overflow_add-n-in-Good c = omega (arith, counting_few c.loop-b.invariant c.requires.bounds)
 
 pub loop-b-smaller : goal.loop-b-smaller
-loop-b-smaller c =     let d = char_inside _ _ _ _ c.loop-b-test.true (sym c.char_at.ensures ∙ c.in-Good.is) in omega
+loop-b-smaller c = let d = char_inside _ _ _ _ c.loop-b-test.true (sym c.char_at.ensures ∙ c.in-Good.is) in omega
     (arith, d, c.loop-b-test.true)
 
 pub loop-b-preserved : goal.loop-b-preserved
-loop-b-preserved c =     counting_next c.loop-b.invariant c.loop-b-test.true (sym c.char_at.ensures ∙ c.in-Good.is)
+loop-b-preserved c = counting_next c.loop-b.invariant c.loop-b-test.true (sym c.char_at.ensures ∙ c.in-Good.is)
 
 pub returns-in-Ill : goal.returns-in-Ill
-returns-in-Ill c =     no_ill _ _ _ c.loop-b.invariant.here c.loop-b-test.true (sym c.char_at.ensures ∙ c.in-Ill.is)
+returns-in-Ill c = no_ill _ _ _ c.loop-b.invariant.here c.loop-b-test.true (sym c.char_at.ensures ∙ c.in-Ill.is)
 
 pub returns-in-Outside : goal.returns-in-Outside
-returns-in-Outside c =     no_outside _ _ _ c.loop-b.invariant.here c.loop-b-test.true (sym c.char_at.ensures ∙ c.in-Outside.is)
+returns-in-Outside c = no_outside _ _ _ c.loop-b.invariant.here c.loop-b-test.true (sym c.char_at.ensures ∙ c.in-Outside.is)
 
 pub returns : goal.returns
 returns c = counting_end c.loop-b.invariant c.loop-b-test.false

@@ -16,24 +16,24 @@ easy : (c : Then-both)
 easy c = plain_is _ _ _ c.both-easy.ensures c.both.ensures c.if-both.true
 
 pub returns-then-both : goal.returns-then-both
-returns-then-both c =     let q = easy (goal.at.returns-then-both c).Then-both in
+returns-then-both c = let q = easy (goal.at.returns-then-both c).Then-both in
     let m = c.is_plain.ensures.moves q.1 in
     let i = c.is_index.ensures.alone q.2 in
     steps_read _ _ _ _ _ _ (i.1 c.args.c.entry) (turn_plain _ _ _ _ _ (sym c.opens_here.ensures ∙ q.0) m.1
     c.advance.ensures) refl
 
 pub take_entry-requires-clause-bounds : goal.take_entry-requires-clause-bounds
-take_entry-requires-clause-bounds c =     let h = read_here c.args.indices.now c.args.c _ c.read_entry.ensures _ c.in-Read.is in
+take_entry-requires-clause-bounds c = let h = read_here c.args.indices.now c.args.c _ c.read_entry.ensures _ c.in-Read.is in
     let i = read_inside c.args.indices.now c.args.c _ h c.requires.bounds.3 in (
-        c.requires.bounds.0,
-        omega (arith, c.requires.bounds.1, c.requires.bounds.3, c.requires.bounds.4),
-        c.requires.bounds.2,
-        omega (arith, i, c.requires.bounds.4),
-      )
+      c.requires.bounds.0,
+      omega (arith, c.requires.bounds.1, c.requires.bounds.3, c.requires.bounds.4),
+      c.requires.bounds.2,
+      omega (arith, i, c.requires.bounds.4),
+    )
 
 pub returns-in-Read : goal.returns-in-Read
-returns-in-Read c =     steps_read _ _ _ _ _ _ (read_here c.args.indices.now c.args.c _ c.read_entry.ensures _ c.in-Read.is)
+returns-in-Read c = steps_read _ _ _ _ _ _ (read_here c.args.indices.now c.args.c _ c.read_entry.ensures _ c.in-Read.is)
     c.take_entry.ensures.turns c.take_entry.ensures.rounded
 
 pub returns-in-Refused : goal.returns-in-Refused
-returns-in-Refused c =     steps_refused _ _ _ _ _ (read_here c.args.indices.now c.args.c _ c.read_entry.ensures _ c.in-Refused.is)
+returns-in-Refused c = steps_refused _ _ _ _ _ (read_here c.args.indices.now c.args.c _ c.read_entry.ensures _ c.in-Refused.is)

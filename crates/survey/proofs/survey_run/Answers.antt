@@ -25,11 +25,11 @@ taken c =
     c.survey_entry.ensures _ _ c.in-Took.is
 
 pub returns-then-both-clause-result_value : goal.returns-then-both-clause-result_value
-returns-then-both-clause-result_value c =     let us = units_from c.args.text.now c.args.start in run_nothing us _ _ c.refused.ensures (sym (nothing_is us c.args.indices.now _ _ c.both.ensures c.requires.bounds.0)
-          ∙ c.if-both.true)
+returns-then-both-clause-result_value c = let us = units_from c.args.text.now c.args.start in run_nothing us _ _ c.refused.ensures (sym (nothing_is us c.args.indices.now _ _ c.both.ensures c.requires.bounds.0)
+    ∙ c.if-both.true)
 
 pub loop-c-init : goal.loop-c-init
-loop-c-init c =     let us = units_from c.args.text.now c.args.start in
+loop-c-init c = let us = units_from c.args.text.now c.args.start in
     let s = c.args.indices.now in
     let e = c.first_cursor-c.ensures in
     record {
@@ -43,20 +43,20 @@ loop-c-init c =     let us = units_from c.args.text.now c.args.start in
     }
 
 pub survey_entry-requires-clause-text_value : goal.survey_entry-requires-clause-text_value
-survey_entry-requires-clause-text_value c =     let l = c.loop-c in
+survey_entry-requires-clause-text_value c = let l = c.loop-c in
     let us = units_from c.args.text.now c.args.start in
     let n = at_length _ us l.c l.invariant.at in at_decodes _ us l.c l.invariant.at
 
 pub survey_entry-requires-clause-bounds : goal.survey_entry-requires-clause-bounds
-survey_entry-requires-clause-bounds c =     let l = c.loop-c in
+survey_entry-requires-clause-bounds c = let l = c.loop-c in
     let us = units_from c.args.text.now c.args.start in
     let n = at_length _ us l.c l.invariant.at in (
-        omega (arith, n, l.invariant.ready.few_units, l.invariant.ready.inside),
-        l.invariant.ready.number,
-        l.invariant.ready.some,
-        c.loop-c-test.true,
-        l.invariant.ready.few_bytes,
-      )
+      omega (arith, n, l.invariant.ready.few_units, l.invariant.ready.inside),
+      l.invariant.ready.number,
+      l.invariant.ready.some,
+      c.loop-c-test.true,
+      l.invariant.ready.few_bytes,
+    )
 
 pub overflow_add-rounded_sum : goal.overflow_add-rounded_sum
 overflow_add-rounded_sum c = let w = (taken (goal.at.overflow_add-rounded_sum c).In-Took).0 in record { fits = omega (arith, rounding_few _ _ _ w.rounds w.ready.few_bytes) }
@@ -68,37 +68,37 @@ pub loop-c-preserved : goal.loop-c-preserved
 loop-c-preserved c = (taken (goal.at.loop-c-preserved c).In-Took).0
 
 pub returns-in-Stopped-clause-result_value : goal.returns-in-Stopped-clause-result_value
-returns-in-Stopped-clause-result_value c =     let l = c.loop-c.invariant in run_stop (units_from c.args.text.now c.args.start) c.args.indices.now _ _ l.some
-          (code_stopped _ _ _ _ _ _ l.stands l.ready l.at c.loop-c-test.true _ c.requires.bounds.0 _ c.survey_entry.ensures _
-          c.in-Stopped.is)
+returns-in-Stopped-clause-result_value c = let l = c.loop-c.invariant in run_stop (units_from c.args.text.now c.args.start) c.args.indices.now _ _ l.some
+    (code_stopped _ _ _ _ _ _ l.stands l.ready l.at c.loop-c-test.true _ c.requires.bounds.0 _ c.survey_entry.ensures _
+    c.in-Stopped.is)
 
 pub returns-then-c-ne0-clause-result_value : goal.returns-then-c-ne0-clause-result_value
-returns-then-c-ne0-clause-result_value c =     let us = units_from c.args.text.now c.args.start in
+returns-then-c-ne0-clause-result_value c = let us = units_from c.args.text.now c.args.start in
     let l = c.loop-c.invariant in refused_outcome c.refused-then-c-ne0.result _ _ c.refused-then-c-ne0.ensures
-          ∙ run_stop us c.args.indices.now _ _ l.some (ends_open _ _ _ _ _ l.stands l.ready c.loop-c-test.false c.if-c-ne0.true)
+    ∙ run_stop us c.args.indices.now _ _ l.some (ends_open _ _ _ _ _ l.stands l.ready c.loop-c-test.false c.if-c-ne0.true)
 
 pub survey_tail-requires-clause-text_value : goal.survey_tail-requires-clause-text_value
-survey_tail-requires-clause-text_value c =     let us = units_from c.args.text.now c.args.start in
+survey_tail-requires-clause-text_value c = let us = units_from c.args.text.now c.args.start in
     let l = c.loop-c.invariant in
     let n = at_length _ us c.loop-c.c l.at in at_decodes _ us c.loop-c.c l.at
 
 pub survey_tail-requires-clause-bounds : goal.survey_tail-requires-clause-bounds
-survey_tail-requires-clause-bounds c =     let us = units_from c.args.text.now c.args.start in
+survey_tail-requires-clause-bounds c = let us = units_from c.args.text.now c.args.start in
     let l = c.loop-c.invariant in
     let n = at_length _ us c.loop-c.c l.at in (
-        omega (arith, n, l.ready.inside, c.requires.bounds.0),
-        c.requires.bounds.1,
-        omega (arith, l.ready.number, l.ready.place, l.ready.few_bytes),
-        l.ready.some,
-      )
+      omega (arith, n, l.ready.inside, c.requires.bounds.0),
+      c.requires.bounds.1,
+      omega (arith, l.ready.number, l.ready.place, l.ready.few_bytes),
+      l.ready.some,
+    )
 
 pub returns-clause-result_value : goal.returns-clause-result_value
-returns-clause-result_value c =     let us = units_from c.args.text.now c.args.start in
+returns-clause-result_value c = let us = units_from c.args.text.now c.args.start in
     let l = c.loop-c.invariant in
     let e = rounding_end _ _ _ l.rounds c.loop-c-test.false in c.survey_tail.ensures.result_value ∙ run_tail us c.args.indices.now _ c.requires.bounds.0 _ _ c.loop-c.c _ l.stands l.ready l.at
-          c.loop-c-test.false c.if-c-ne0.false l.some
+    c.loop-c-test.false c.if-c-ne0.false l.some
 
 pub returns-clause-rounded : goal.returns-clause-rounded
-returns-clause-rounded c =     let us = units_from c.args.text.now c.args.start in
+returns-clause-rounded c = let us = units_from c.args.text.now c.args.start in
     let l = c.loop-c.invariant in
     let e = rounding_end _ _ _ l.rounds c.loop-c-test.false in c.survey_tail.ensures.rounded ∙ ap (λ (n : ℕ). beside n (reading_outcome c.survey_tail.result)) e

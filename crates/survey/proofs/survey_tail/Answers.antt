@@ -11,7 +11,7 @@ pub overflow_add-c : goal.overflow_add-c
 overflow_add-c c = omega (arith, tail_few (units_from c.args.text.now c.args.c.byte))
 
 pub overflow_add-c-2 : goal.overflow_add-c-2
-overflow_add-c-2 c =     omega (arith, tail_few (units_from c.args.text.now c.args.c.byte))
+overflow_add-c-2 c = omega (arith, tail_few (units_from c.args.text.now c.args.c.byte))
 
 pub returns-clause-result_value : goal.returns-clause-result_value
 returns-clause-result_value c = c.limit.ensures.result_value ∙ tail_counted _ _ _ _ _ c.count_tail-rest.ensures

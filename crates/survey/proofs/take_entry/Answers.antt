@@ -35,4 +35,4 @@ returns-then-opens-clause-turns c = turn_opens _ _ _ _ _ c.open_cluster.ensures.
 
 pub returns-clause-turns : goal.returns-clause-turns
 returns-clause-turns c = turn_further _ _ _ _ _ _ c.advance.ensures c.requires.text_value (enough (goal.at.returns-clause-turns c).Else-not-both) (sym (allowed (goal.at.returns-clause-turns c).After-either) ∙ c.if-not-either.false)
-          (sym c.opens_here-opens.ensures ∙ c.if-opens.false)
+    (sym c.opens_here-opens.ensures ∙ c.if-opens.false)

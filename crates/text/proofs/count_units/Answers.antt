@@ -10,22 +10,22 @@ use Rattle.text.proofs.Counts.{Reached, plain_one, reached_start, reached_next, 
 use Rattle.text.proofs.count_units.Goals as goal
 
 pub loop-i-preserved-then-is_within : goal.loop-i-preserved-then-is_within
-loop-i-preserved-then-is_within c =     let w = sym c.is_within.ensures ∙ c.if-is_within.true in
+loop-i-preserved-then-is_within c = let w = sym c.is_within.ensures ∙ c.if-is_within.true in
     (search rules, search rules, reached_next _ _ _ _ _ _ c.loop-i-test.true c.loop-i.invariant.2 (char_plain _ _ w) (plain_one _ w))
 
 pub loop-i-smaller : goal.loop-i-smaller
-loop-i-smaller c =     let d = char_inside _ _ _ _ c.loop-i-test.true (sym c.char_at.ensures ∙ c.in-Good.is) in omega (arith, d)
+loop-i-smaller c = let d = char_inside _ _ _ _ c.loop-i-test.true (sym c.char_at.ensures ∙ c.in-Good.is) in omega (arith, d)
 
 pub loop-i-preserved : goal.loop-i-preserved
-loop-i-preserved c =     let g = sym c.char_at.ensures ∙ c.in-Good.is in
+loop-i-preserved c = let g = sym c.char_at.ensures ∙ c.in-Good.is in
     let d = char_inside _ _ _ _ c.loop-i-test.true g in
     (d.1, omega (arith, d), reached_next _ _ _ _ _ _ c.loop-i-test.true c.loop-i.invariant.2 g c.unit_count-n.ensures.value)
 
 pub returns-in-Ill : goal.returns-in-Ill
-returns-in-Ill c =     reached_ill _ _ _ c.loop-i-test.true c.loop-i.invariant.2 (sym c.char_at.ensures ∙ c.in-Ill.is)
+returns-in-Ill c = reached_ill _ _ _ c.loop-i-test.true c.loop-i.invariant.2 (sym c.char_at.ensures ∙ c.in-Ill.is)
 
 pub returns-in-Outside : goal.returns-in-Outside
-returns-in-Outside c =     reached_outside _ _ _ c.loop-i-test.true c.loop-i.invariant.2 (sym c.char_at.ensures ∙ c.in-Outside.is)
+returns-in-Outside c = reached_outside _ _ _ c.loop-i-test.true c.loop-i.invariant.2 (sym c.char_at.ensures ∙ c.in-Outside.is)
 
 pub returns : goal.returns
 returns c = reached_end _ _ _ c.loop-i-test.false c.loop-i.invariant.2

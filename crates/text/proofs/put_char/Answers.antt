@@ -12,14 +12,14 @@ pub put_unit-requires : goal.put_unit-requires
 put_unit-requires c = omega (arith, ap length (one_is _ c.if-c-le65535.true))
 
 pub returns-then-c-le65535 : goal.returns-then-c-le65535
-returns-then-c-le65535 c =     rw (one_is _ c.if-c-le65535.true) (refl, c.put_unit.ensures ∙ one_char _ _ _)
+returns-then-c-le65535 c = rw (one_is _ c.if-c-le65535.true) (refl, c.put_unit.ensures ∙ one_char _ _ _)
 
 pub put_unit-requires-2 : goal.put_unit-requires-2
 put_unit-requires-2 c = omega (arith, ap length (two_are _ c.if-c-le65535.false))
 
 pub put_unit-requires-3 : goal.put_unit-requires-3
-put_unit-requires-3 c =     omega (arith, ap length (two_are _ c.if-c-le65535.false))
+put_unit-requires-3 c = omega (arith, ap length (two_are _ c.if-c-le65535.false))
 
 pub returns : goal.returns
-returns c =     two_chars _ _ _ _ _ _ _ _ _ (two_are _ c.if-c-le65535.false) c.high_half.ensures c.low_half.ensures
+returns c = two_chars _ _ _ _ _ _ _ _ _ (two_are _ c.if-c-le65535.false) c.high_half.ensures c.low_half.ensures
     c.put_unit-2.ensures c.put_unit-3.ensures

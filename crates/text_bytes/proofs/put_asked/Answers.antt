@@ -8,7 +8,7 @@ use borrow.Author.Rules.{rules}
 use Rattle.text_bytes.proofs.put_asked.Goals as goal
 
 pub returns-then-both-clause-put : goal.returns-then-both-clause-put
-returns-then-both-clause-put c =     let a = c.args in put_as (asked_ascii a.escape a.u a.v (sym c.both.ensures ∙ c.if-both.true)) c.put_escaped.ensures.put
+returns-then-both-clause-put c = let a = c.args in put_as (asked_ascii a.escape a.u a.v (sym c.both.ensures ∙ c.if-both.true)) c.put_escaped.ensures.put
 
 pub returns-clause-put : goal.returns-clause-put
-returns-clause-put c =     let a = c.args in put_as (asked_plain a.escape a.u a.v (sym c.both.ensures ∙ c.if-both.false)) c.put_unit.ensures.put
+returns-clause-put c = let a = c.args in put_as (asked_plain a.escape a.u a.v (sym c.both.ensures ∙ c.if-both.false)) c.put_unit.ensures.put

@@ -7,9 +7,9 @@ use borrow.Author.Rules.{rules}
 use Rattle.text_bytes.proofs.put_text.Goals as goal
 
 pub returns-then-is_braced : goal.returns-then-is_braced
-returns-then-is_braced c =     put_as (text_braced (halves c.args.us.now) c.is_braced.ensures c.args.escape c.if-is_braced.true)
+returns-then-is_braced c = put_as (text_braced (halves c.args.us.now) c.is_braced.ensures c.args.escape c.if-is_braced.true)
     (then c.put_bytes-p.ensures.put c.put_units.ensures)
 
 pub returns : goal.returns
-returns c =     put_as (text_plain (halves c.args.us.now) c.is_braced.ensures c.args.escape c.if-is_braced.false)
+returns c = put_as (text_plain (halves c.args.us.now) c.is_braced.ensures c.args.escape c.if-is_braced.false)
     c.put_units-2.ensures

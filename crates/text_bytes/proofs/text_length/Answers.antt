@@ -13,16 +13,16 @@ use borrow.Author.Rules.{rules}
 use Rattle.text_bytes.proofs.text_length.Goals as goal
 
 pub loop-i-init : goal.loop-i-init
-loop-i-init c =     (omega arith, length_start c.args.escape (halves c.args.us.now) c.mark_length-n.ensures.value)
+loop-i-init c = (omega arith, length_start c.args.escape (halves c.args.us.now) c.mark_length-n.ensures.value)
 
 pub loop-i-preserved : goal.loop-i-preserved
-loop-i-preserved c =     let a = c.args in (
-      omega arith,
-      length_next a.escape (halves a.us.now) c.loop-i.i _ _ _ (omega (arith, c.unit_count-count.ensures.value))
-          (rw (sym c.unit_at.ensures) (omega arith)) (c.asked_length-n.ensures.value ∙ ap (asked_length a.escape) c.unit_at.ensures)
-          c.loop-i.invariant.1,
-    )
+loop-i-preserved c = let a = c.args in (
+  omega arith,
+  length_next a.escape (halves a.us.now) c.loop-i.i _ _ _ (omega (arith, c.unit_count-count.ensures.value))
+      (rw (sym c.unit_at.ensures) (omega arith)) (c.asked_length-n.ensures.value ∙ ap (asked_length a.escape) c.unit_at.ensures)
+      c.loop-i.invariant.1,
+)
 
 pub returns : goal.returns
-returns c =     length_end c.args.escape (halves c.args.us.now) c.loop-i.i _ _ (omega (arith, c.unit_count-count.ensures.value))
+returns c = length_end c.args.escape (halves c.args.us.now) c.loop-i.i _ _ (omega (arith, c.unit_count-count.ensures.value))
     c.loop-i.invariant.1

@@ -17,13 +17,13 @@ there c =
     trail_fits c.args.s.now c.args.at _ _ _ c.requires (sym c.follows.ensures ∙ c.if-not-follows.false)
 
 pub returns-then-s-at-lt128 : goal.returns-then-s-at-lt128
-returns-then-s-at-lt128 c =     char_one c.args.s.now c.args.at c.wide.ensures.0 c.judged.ensures c.if-s-at-lt128.true
+returns-then-s-at-lt128 c = char_one c.args.s.now c.args.at c.wide.ensures.0 c.judged.ensures c.if-s-at-lt128.true
 
 pub returns-then-not-fits : goal.returns-then-not-fits
-returns-then-not-fits c =     char_unfit c.args.s.now c.args.at c.row_of-row.result c.row_of-row.ensures c.if-not-fits.true
+returns-then-not-fits c = char_unfit c.args.s.now c.args.at c.row_of-row.result c.row_of-row.ensures c.if-not-fits.true
 
 pub returns-then-not-follows : goal.returns-then-not-follows
-returns-then-not-follows c =     char_cut c.args.s.now c.args.at c.row_of-row.result c.row_of-row.ensures
+returns-then-not-follows c = char_cut c.args.s.now c.args.at c.row_of-row.result c.row_of-row.ensures
     (sym c.follows.ensures ∙ c.if-not-follows.true)
 
 pub scalar_at-requires : goal.scalar_at-requires
@@ -33,5 +33,5 @@ pub overflow_add-at-4 : goal.overflow_add-at-4
 overflow_add-at-4 c = omega (arith, there (goal.at.overflow_add-at-4 c).Else-not-follows)
 
 pub returns : goal.returns
-returns c =     char_whole c.args.s.now c.args.at c.row_of-row.result c.row_of-row.ensures _ c.if-not-fits.false
+returns c = char_whole c.args.s.now c.args.at c.row_of-row.result c.row_of-row.ensures _ c.if-not-fits.false
     (sym c.follows.ensures ∙ c.if-not-follows.false) c.scalar_at.ensures c.judged-2.ensures

@@ -14,10 +14,10 @@ pub returns-then-c-lt57344 : goal.returns-then-c-lt57344
 returns-then-c-lt57344 c = sym (xml_gap c.args.c c.if-c-lt32.false c.if-c-le55295.false c.if-c-lt57344.true)
 
 pub returns-then-c-le65533 : goal.returns-then-c-le65533
-returns-then-c-le65533 c =     sym (xml_plane c.args.c c.if-c-lt32.false c.if-c-lt57344.false c.if-c-le65533.true)
+returns-then-c-le65533 c = sym (xml_plane c.args.c c.if-c-lt32.false c.if-c-lt57344.false c.if-c-le65533.true)
 
 pub returns-then-c-lt65536 : goal.returns-then-c-lt65536
-returns-then-c-lt65536 c =     sym (xml_non c.args.c c.if-c-lt32.false c.if-c-le65533.false c.if-c-lt65536.true)
+returns-then-c-lt65536 c = sym (xml_non c.args.c c.if-c-lt32.false c.if-c-le65533.false c.if-c-lt65536.true)
 
 pub returns : goal.returns
-returns c =     sym (xml_high c.args.c c.if-c-lt32.false c.if-c-lt65536.false)
+returns c = sym (xml_high c.args.c c.if-c-lt32.false c.if-c-lt65536.false)

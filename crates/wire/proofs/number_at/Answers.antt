@@ -14,5 +14,5 @@ pub get_u32-requires : goal.get_u32-requires
 get_u32-requires c = omega (arith, words_length c.args.s.now)
 
 pub returns : goal.returns
-returns c =     ap signed c.get_u32.ensures ∙ number_is c.args.s.now c.args.k
+returns c = ap signed c.get_u32.ensures ∙ number_is c.args.s.now c.args.k
     (omega (arith, words_length c.args.s.now))

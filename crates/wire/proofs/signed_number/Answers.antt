@@ -14,6 +14,6 @@ pub returns-then-n-lt2147483648 : goal.returns-then-n-lt2147483648
 returns-then-n-lt2147483648 c = signed_is c.args.n
 
 pub returns-else-n-lt2147483648 : goal.returns-else-n-lt2147483648
-returns-else-n-lt2147483648 c =     let n = c.args.n in
+returns-else-n-lt2147483648 c = let n = c.args.n in
     let e : bit_or (n - 2147483648) 2147483648 ≡ n = omega (arith, or_shifted_r 1 31 (n - 2147483648) (omega arith))
     in ap (to_z w32) e ∙ signed_is n

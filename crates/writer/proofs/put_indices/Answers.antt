@@ -12,11 +12,11 @@ use borrow.Author.Rules.{rules}
 use Rattle.writer.proofs.put_indices.Goals as goal
 
 pub loop-k-init : goal.loop-k-init
-loop-k-init c =     let a = c.args in
+loop-k-init c = let a = c.args in
     (left_as (indices_start (words a.cs.now) (words a.gs.now)) left_start, search rules, search rules, search rules)
 
 pub loop-k-preserved-then-lack-gt0 : goal.loop-k-preserved-then-lack-gt0
-loop-k-preserved-then-lack-gt0 c =     let a = c.args in
+loop-k-preserved-then-lack-gt0 c = let a = c.args in
     let l = c.loop-k in
     let e = rest_further (words a.cs.now) (words a.gs.now) l.owed l.lack l.i l.k
     (omega (arith, c.number_count-numbers.ensures.value, c.loop-k-test.true)) c.if-lack-gt0.true in
@@ -24,14 +24,14 @@ loop-k-preserved-then-lack-gt0 c =     let a = c.args in
     (w.0, w.1, omega arith, omega arith)
 
 pub returns-then-counts-i-lt2 : goal.returns-then-counts-i-lt2
-returns-then-counts-i-lt2 c =     let a = c.args in
+returns-then-counts-i-lt2 c = let a = c.args in
     let l = c.loop-k in
     left_end (left_as (rest_none (words a.cs.now) (words a.gs.now) l.owed l.lack l.i l.k
     (omega (arith, c.number_count-numbers.ensures.value, c.loop-k-test.true)) (omega arith)
     (omega (arith, c.number_count-counts.ensures.value, c.if-counts-i-lt2.true))) l.invariant.0)
 
 pub loop-k-preserved : goal.loop-k-preserved
-loop-k-preserved c =     let a = c.args in
+loop-k-preserved c = let a = c.args in
     let l = c.loop-k in
     let d = c.less_one-lack.ensures ∙ ap (λ (z : ℕ). z - 1) c.widened.ensures.0 in
     let e = rest_opens (words a.cs.now) (words a.gs.now) l.owed l.lack l.i l.k
@@ -42,7 +42,7 @@ loop-k-preserved c =     let a = c.args in
     (w.0, w.1, omega arith, omega arith)
 
 pub returns : goal.returns
-returns c =     let a = c.args in
+returns c = let a = c.args in
     let l = c.loop-k in
     left_end (left_as (rest_end (words a.cs.now) (words a.gs.now) l.owed l.lack l.i l.k
     (omega (arith, c.number_count-numbers.ensures.value, c.loop-k-test.false))) l.invariant.0)

@@ -38,14 +38,14 @@ pub overflow_add-k : goal.overflow_add-k
 overflow_add-k c = record { fits = omega (arith, words_length c.args.gs.now) }
 
 pub overflow_add-k-2 : goal.overflow_add-k-2
-overflow_add-k-2 c =     record { fits = omega (arith, words_length c.args.gs.now) }
+overflow_add-k-2 c = record { fits = omega (arith, words_length c.args.gs.now) }
 
 pub overflow_add-k-3 : goal.overflow_add-k-3
-overflow_add-k-3 c =     record { fits = omega (arith, words_length c.args.gs.now) }
+overflow_add-k-3 c = record { fits = omega (arith, words_length c.args.gs.now) }
 
 pub returns-then-is_font-clause-put : goal.returns-then-is_font-clause-put
 returns-then-is_font-clause-put c = put_as (led_none _ _ (blank (goal.at.returns-then-is_font-clause-put c).After-is_font) c.if-is_font.true) none
 
 pub returns-clause-put : goal.returns-clause-put
 returns-clause-put c = put_as (led_some _ _ (blank (goal.at.returns-clause-put c).After-is_font) c.if-is_font.false) (then c.put_semis-p.ensures.put
-          (put_as (ap (entry_by value_bytes _ _) (glyph (goal.at.returns-clause-put c).After-is_font)) c.put_entry.ensures.put))
+    (put_as (ap (entry_by value_bytes _ _) (glyph (goal.at.returns-clause-put c).After-is_font)) c.put_entry.ensures.put))
