@@ -27,6 +27,12 @@ use Rattle.label.proofs.Sizes.{largest, longest, sound_roomy, sound_short, read_
 use Rattle.lines.specs.Lines.{answered, places_written, relabelled, text_line, indices_line}
 use Rattle.lines.specs.declared.Relabelled.{Relabelled}
 
+-- the three clauses of a label's lines: the answer, and what the two outputs hold
+abbrev pub Relabels : Outcome Run → Outcome Relabelled → List ℕ → List ℕ → List ℕ → List ℕ → Type 0
+Relabels read o text₀ text indices₀ indices =
+    record { result : o ≡ relabelled read; text : text ≡ text_line read text₀; indices : indices ≡ indices_line read indices₀ }
+
+-- a line of indices that is too long
 pub long_line : (t i : List ℕ) → max_line_bytes < length i → no 1 0 ≡ relabel_read t i
 long_line t i h = sym (relabel_steps t i ∙ rw (lt-leb (length i) max_line_bytes h))
 
@@ -71,8 +77,8 @@ module _ (t i us cs gs tx ix : List ℕ) (few : length i ≤ max_line_bytes)
   reading_is = rw (sizes.0, sizes.1, sizes.2)
 
   pub line_refused : (n p : ℕ) → no n p ≡ counted reading
-      → (no n p ≡ relabelled (relabel_read t i)) × ((tx ≡ text_line (relabel_read t i) tx) × (ix ≡ indices_line (relabel_read t i) ix))
-  line_refused n p h = rw (refused t i few n p (h ∙ ap counted reading_is)) (refl, (refl, refl))
+      → Relabels (relabel_read t i) (no n p) tx tx ix ix
+  line_refused n p h = rw (refused t i few n p (h ∙ ap counted reading_is)) (record { result = refl; text = refl; indices = refl })
 
   abbrev written : Counts → List ℕ → List ℕ → List ℕ → Outcome Label
   written c us' cs' gs' = places_written c us' cs' gs' (outputs tx ix)
@@ -105,8 +111,12 @@ module _ (t i us cs gs tx ix : List ℕ) (few : length i ≤ max_line_bytes)
     pub line_written : (us' cs' gs' : List ℕ) (o : Outcome Relabelled) (tx' ix' : List ℕ) → max_text_bytes ≤ length tx → max_indices_bytes ≤ length ix
         → us' ≡ units_after reading us → cs' ≡ clusters_after reading cs → gs' ≡ glyphs_after reading gs
         → o ≡ answered c (lengths (written c us' cs' gs')) → tx' ≡ text_after (written c us' cs' gs') tx → ix' ≡ indices_after (written c us' cs' gs') ix
-        → (o ≡ relabelled (relabel_read t i)) × ((tx' ≡ text_line (relabel_read t i) tx) × (ix' ≡ indices_line (relabel_read t i) ix))
+        → Relabels (relabel_read t i) o tx tx' ix ix'
     line_written us' cs' gs' o tx' ix' hx hy hu hc hg ho ht hi =
         let w = written_as read_as.run read_as.is hx hy c us' cs' gs' read_as.counts_are hu hc hg in
         let b = read_as.relabelled_is in
-        (ho ∙ rw (w.lengths_are, b, ← read_as.counts_are), (ht ∙ rw b w.text, hi ∙ rw b w.indices))
+        record {
+          result = ho ∙ rw (w.lengths_are, b, ← read_as.counts_are);
+          text = ht ∙ rw b w.text;
+          indices = hi ∙ rw b w.indices;
+        }

@@ -3,58 +3,25 @@ use mathlib.Core.List.{[]}
 use mathlib.Core.Path.{sym, ◌∙◌, ap}
 use Rattle.label.specs.Calls.{reading_outcome}
 use Rattle.lines.proofs.Relabels.{line_refused, line_room, line_written}
-use borrow.Author.Rules.{rules}
-use Rattle.lines.proofs.relabel_in.Goals.{After-read}
-use Rattle.lines.proofs.relabel_in.Goals.{In-Read-2}
 use Rattle.lines.proofs.relabel_in.Goals as goal
 
--- the places: the start, and the reading before either arm
-abbrev start : After-read → tie.Start
-start c = c.«Start»
-
-abbrev at_read : In-Read-2 → tie.After-read
-at_read c = c.«After-read»
-
 pub write_places-requires : goal.write_places-requires
-write_places-requires c =     let s = start (at_read (goal.at.write_places-requires c).After-glyphs-1) in
-    let a = s.args in
-    let read = (at_read (goal.at.write_places-requires c).After-glyphs-1).read in
-    line_room a.text.now a.indices.now a.units.now a.clusters.now a.glyphs.now [] [] s.pre.0 s.pre.1.0 _
-    (sym (ap reading_outcome at-counts.counts.given.1) ∙ read.ensures.0)
-    read.last.1.1.0 read.last.1.1.1.0 read.last.1.1.1.1.0 read.kept.1.1.0 read.kept.1.1.1.0 read.kept.1.1.1.1.0
+write_places-requires c =
+    let a = c.args in
+    line_room a.text.now a.indices.now a.units.now a.clusters.now a.glyphs.now [] [] c.requires.indices_len_bound c.requires.buffers _
+    (sym (ap reading_outcome c.in-Read.is) ∙ c.read.ensures.result) _ _ _ c.read.auto.units c.read.auto.clusters c.read.auto.glyphs
 
-pub returns-in-Refused-clause-result : goal.returns-in-Refused-clause-result
-returns-in-Refused-clause-result c =     let s = start (goal.at.returns-in-Refused-clause-result c).After-read in
-    let a = s.args in (line_refused a.text.now a.indices.now a.units.now a.clusters.now a.glyphs.now a.first.now a.second.now
-    s.pre.0 s.pre.1.0 _ _ (sym (ap reading_outcome c.in-Refused.is) ∙ c.read.ensures.result)).0
+pub returns-in-Refused : goal.returns-in-Refused
+returns-in-Refused c =
+    let a = c.args in
+    line_refused a.text.now a.indices.now a.units.now a.clusters.now a.glyphs.now a.first.now a.second.now
+    c.requires.indices_len_bound c.requires.buffers _ _ (sym (ap reading_outcome c.in-Refused.is) ∙ c.read.ensures.result)
 
-pub returns-in-Refused-clause-text : goal.returns-in-Refused-clause-text
-returns-in-Refused-clause-text c =     let s = start (goal.at.returns-in-Refused-clause-text c).After-read in
-    let a = s.args in (line_refused a.text.now a.indices.now a.units.now a.clusters.now a.glyphs.now a.first.now a.second.now
-    s.pre.0 s.pre.1.0 _ _ (sym (ap reading_outcome c.in-Refused.is) ∙ c.read.ensures.result)).1.0
-
-pub returns-in-Refused-clause-indices : goal.returns-in-Refused-clause-indices
-returns-in-Refused-clause-indices c =     let s = start (goal.at.returns-in-Refused-clause-indices c).After-read in
-    let a = s.args in (line_refused a.text.now a.indices.now a.units.now a.clusters.now a.glyphs.now a.first.now a.second.now
-    s.pre.0 s.pre.1.0 _ _ (sym (ap reading_outcome c.in-Refused.is) ∙ c.read.ensures.result)).1.1
-
-pub returns-in-Read-clause-result : goal.returns-in-Read-clause-result
-returns-in-Read-clause-result c =     let s = start (at_read (goal.at.returns-in-Read-clause-result c).After-glyphs-1) in
-    let a = s.args in
-    let read = (at_read (goal.at.returns-in-Read-clause-result c).After-glyphs-1).read.ensures in (line_written a.text.now a.indices.now a.units.now a.clusters.now a.glyphs.now a.first.now a.second.now
-    s.pre.0 s.pre.1.0 _ (sym (ap reading_outcome at-counts.counts.given.1) ∙ read.0) _ _ _ _ _ _
-    s.pre.1.1.0 s.pre.1.1.1 read.1.1.0 read.1.1.1.0 read.1.1.1.1 c.write_places.ensures.result c.write_places.ensures.text c.write_places.ensures.indices).0
-
-pub returns-in-Read-clause-text : goal.returns-in-Read-clause-text
-returns-in-Read-clause-text c =     let s = start (at_read (goal.at.returns-in-Read-clause-text c).After-glyphs-1) in
-    let a = s.args in
-    let read = (at_read (goal.at.returns-in-Read-clause-text c).After-glyphs-1).read.ensures in (line_written a.text.now a.indices.now a.units.now a.clusters.now a.glyphs.now a.first.now a.second.now
-    s.pre.0 s.pre.1.0 _ (sym (ap reading_outcome at-counts.counts.given.1) ∙ read.0) _ _ _ _ _ _
-    s.pre.1.1.0 s.pre.1.1.1 read.1.1.0 read.1.1.1.0 read.1.1.1.1 c.write_places.ensures.result c.write_places.ensures.text c.write_places.ensures.indices).1.0
-
-pub returns-in-Read-clause-indices : goal.returns-in-Read-clause-indices
-returns-in-Read-clause-indices c =     let s = start (at_read (goal.at.returns-in-Read-clause-indices c).After-glyphs-1) in
-    let a = s.args in
-    let read = (at_read (goal.at.returns-in-Read-clause-indices c).After-glyphs-1).read.ensures in (line_written a.text.now a.indices.now a.units.now a.clusters.now a.glyphs.now a.first.now a.second.now
-    s.pre.0 s.pre.1.0 _ (sym (ap reading_outcome at-counts.counts.given.1) ∙ read.0) _ _ _ _ _ _
-    s.pre.1.1.0 s.pre.1.1.1 read.1.1.0 read.1.1.1.0 read.1.1.1.1 c.write_places.ensures.result c.write_places.ensures.text c.write_places.ensures.indices).1.1
+pub returns-in-Read : goal.returns-in-Read
+returns-in-Read c =
+    let a = c.args in
+    let read = c.read.ensures in
+    let written = c.write_places.ensures in
+    line_written a.text.now a.indices.now a.units.now a.clusters.now a.glyphs.now a.first.now a.second.now
+    c.requires.indices_len_bound c.requires.buffers _ (sym (ap reading_outcome c.in-Read.is) ∙ read.result) _ _ _ _ _ _
+    c.requires.outputs.0 c.requires.outputs.1 read.units read.clusters read.glyphs written.result written.text written.indices
