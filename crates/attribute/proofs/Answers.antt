@@ -23,10 +23,10 @@ use Rattle.label.specs.Steps.{resolve}
 
 -- the two clauses of the call, where resolving comes to w
 abbrev Answer : Outcome (List ℕ) → Filling → List ℕ → List ℕ → Type 0
-Answer w r T T' = (filling_outcome r ≡ filled_count w) × (T' ≡ filled_after w T)
+Answer w r T T' = record { result : filling_outcome r ≡ filled_count w; out : T' ≡ filled_after w T }
 
 refuses : {w : Outcome (List ℕ)} {r : Filling} (n p : ℕ) (T : List ℕ) → r ≡ Refused (refusal n p) → w ≡ no n p → Answer w r T T
-refuses n p T f e = rw (e, f) (refl, refl)
+refuses n p T f e = rw (e, f) (record { result = refl; out = refl })
 
 -- the raw value resolves to w
 module _ (raw T w : List ℕ) (e : resolve raw ≡ ok w) where
@@ -41,7 +41,7 @@ module _ (raw T w : List ℕ) (e : resolve raw ≡ ok w) where
   stored h (Bytes m) k =
       let a : resolve_into (length T) raw ≡ ok w = resolve_into_steps (length T) raw ∙ rw (e, le-leb (length w) (length T) h) in
       let q : k.0 ≡ w = ok_path k.0 w (sym k.1 ∙ e) in
-      rw (a, ← q) (refl, put_room k.2 (omega (arith, ap length q)))
+      rw (a, ← q) (record { result = refl; out = put_room k.2 (omega (arith, ap length q)) })
 
 -- the first pass, into a buffer of its own, answered s
 module _ (raw T old new : List ℕ) (s : Stored) (f : Stores raw old s new) where

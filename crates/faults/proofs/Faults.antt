@@ -116,7 +116,8 @@ part_inside t s n p =
     cases (of_text n && ltb p (length t))
     (λ a. let l : p < length t = ltb-true p (length t) (and_r (of_text n) (ltb p (length t)) a) in rw a (omega arith))
     (λ a. cases (of_entry n && ltb p (length (entries s)))
-    (λ b. let l : p < length (entries s) = ltb-true p (length (entries s)) (and_r (of_entry n) (ltb p (length (entries s))) b) in rw (a, b) (entry_inside s p l))
+    (λ b. let l : p < length (entries s) = ltb-true p (length (entries s)) (and_r (of_entry n) (ltb p (length (entries s))) b) in rw (a, b)
+    (entry_inside s p l))
     (λ b. rw (a, b) (omega arith)))
 
 -- the part as the code found it

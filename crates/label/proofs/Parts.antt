@@ -69,7 +69,8 @@ divided n ns e =
 
 -- ── the counts add up ──
 
-pub fits_units : (gs : List Glyph) (bare : Bool) (cs : List Cluster) (us : List ℕ) (lack : ℕ) → fits bare lack us cs gs ≡ true → sum (unit_counts cs) ≡ length us
+pub fits_units : (gs : List Glyph) (bare : Bool) (cs : List Cluster) (us : List ℕ) (lack : ℕ) → fits bare lack us cs gs ≡ true
+    → sum (unit_counts cs) ≡ length us
 fits_units [] bare cs us lack h = let (a, b, c) = fits_nil bare lack us cs h in rw (b, c)
 fits_units (g ∷ gs) bare cs us (suc n) h = fits_units gs bare cs us n (fits_further bare n us cs g gs h).rest
 fits_units (g ∷ gs) bare [] us zero h = clash (fits bare zero us [] (g ∷ gs)) h (unfold fits in refl)

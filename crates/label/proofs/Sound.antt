@@ -126,7 +126,8 @@ fits_further_is : (bare : Bool) (n : ℕ) (us : List ℕ) (cs : List Cluster) (g
 unfolding fits
 fits_further_is bare n us cs g gs a b c = rw (a, b, c)
 
-fits_open_is : (bare : Bool) (us : List ℕ) (c : Cluster) (cs : List Cluster) (g : Glyph) (gs : List Glyph) → glyph_fits g ≡ true → may_open bare us c g gs ≡ true
+fits_open_is : (bare : Bool) (us : List ℕ) (c : Cluster) (cs : List Cluster) (g : Glyph) (gs : List Glyph) → glyph_fits g ≡ true
+    → may_open bare us c g gs ≡ true
     → fits bare (c.glyphs - 1) (drop c.units us) cs gs ≡ true → fits bare 0 us (c ∷ cs) (g ∷ gs) ≡ true
 unfolding fits
 fits_open_is bare us c cs g gs a b d = rw (a, b, d)

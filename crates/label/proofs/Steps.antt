@@ -227,7 +227,8 @@ run_steps us indices =
     ∙ sym (seq_bind (verdict w) p (λ q. fifteen us q)))
 
 pub read_steps : (text indices : List ℕ)
-    → read text indices ≡ (need (leb (length text) max_text_bytes && leb (length indices) max_indices_bytes) 1 0 >> (text_units text >>= (λ us. run_from us indices)))
+    → read text indices ≡ (need (leb (length text) max_text_bytes && leb (length indices) max_indices_bytes) 1 0 >>
+    (text_units text >>= (λ us. run_from us indices)))
 unfolding read label_checks said_run text_units run_from
 read_steps text indices =
     let us : List ℕ = said_units text in

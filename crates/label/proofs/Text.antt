@@ -134,8 +134,10 @@ one_unit u h = rw (le-leb u 65535 h)
 proper_false : (u : ℕ) (us : List ℕ) → proper_units false (u ∷ us) ≡ true
     → ((is_high u || (leb u 65535 && xml_char u)) ≡ true) × (proper_units (is_high u) us ≡ true)
 unfolding proper_units
-proper_false u us h =
-    (and_l (is_high u || (leb u 65535 && xml_char u)) (proper_units (is_high u) us) h, and_r (is_high u || (leb u 65535 && xml_char u)) (proper_units (is_high u) us) h)
+proper_false u us h = (
+  and_l (is_high u || (leb u 65535 && xml_char u)) (proper_units (is_high u) us) h,
+  and_r (is_high u || (leb u 65535 && xml_char u)) (proper_units (is_high u) us) h,
+)
 
 proper_true : (v : ℕ) (us : List ℕ) → proper_units true (v ∷ us) ≡ true → (is_low v ≡ true) × (proper_units false us ≡ true)
 unfolding proper_units

@@ -128,7 +128,8 @@ is_offset s = empty s || is_number (unsigned s)
 
 -- 7 does not hold: "an optional index part, then up to three fields, each behind a comma"
 unfoldable pub well_formed : List ℕ → Bool
-well_formed s = leb (length (split 44 s)) 4 && is_index_part (entry_part 0 s) && is_advance (entry_part 1 s) && is_offset (entry_part 2 s) && is_offset (entry_part 3 s)
+well_formed s = leb (length (split 44 s)) 4 && is_index_part (entry_part 0 s) && is_advance (entry_part 1 s) && is_offset (entry_part 2 s) &&
+    is_offset (entry_part 3 s)
 
 -- 9 does not hold of a field
 unfoldable pub field_fits : List ℕ → Bool
@@ -160,7 +161,12 @@ entry_of s =
       mapped = has_map (entry_part 0 s);
       units = map_units (entry_part 0 s);
       glyphs = map_glyphs (entry_part 0 s);
-      glyph = record { index = index_of (entry_part 0 s); advance = advance_of (entry_part 1 s); u = offset_of (entry_part 2 s); v = offset_of (entry_part 3 s) };
+      glyph = record {
+        index = index_of (entry_part 0 s);
+        advance = advance_of (entry_part 1 s);
+        u = offset_of (entry_part 2 s);
+        v = offset_of (entry_part 3 s);
+      };
     }
 
 -- "Zero bytes of indices are no entries. Otherwise entries are split at each `;`, so n semicolons make n + 1 entries, numbered from 0."

@@ -183,7 +183,8 @@ mant_wrong t h = go (mantissa_of t).ok refl (drop (mantissa_of t).used t) refl
         (λ c. cases (is_e b) (λ g. clash (is_tail b) (e_tail b g) k)
         (λ g. rw (f, expo_none (b ∷ y) g, add-zero (mantissa_of t).used, f, c, and-false)))
 
-number_whole : (x r : List ℕ) → none is_break x ≡ true → ends is_break r ≡ true → none is_e x ≡ true → cut is_e x ≡ record { before = x; found = false; after = [] }
+number_whole : (x r : List ℕ) → none is_break x ≡ true → ends is_break r ≡ true → none is_e x ≡ true
+    → cut is_e x ≡ record { before = x; found = false; after = [] }
     → Numbered x r (x ++ r)
 unfolding is_number number_of mantissa_digits exponent_digits unsigned fraction_digits
 number_whole x r n h e c = go (mant x r (none_or is_break is_e x n e) (comma_tail r h))
@@ -195,7 +196,8 @@ number_whole x r n h e c = go (mant x r (none_or is_break is_e x n e) (comma_tai
         good (rw (c, d)) (rw (m, f, o)) (rw (m, f, o, add-zero k) f) (rw (m, f, o)
         (size_same x (cut_mant x k) unraised (rw c) (rw (fraction_digits, c)) (rw c) (rw c)))
 
-number_parted : (u w : List ℕ) (e : ℕ) (r : List ℕ) → none is_break u ≡ true → none is_break w ≡ true → ends is_break r ≡ true → none is_e u ≡ true → is_e e ≡ true
+number_parted : (u w : List ℕ) (e : ℕ) (r : List ℕ) → none is_break u ≡ true → none is_break w ≡ true → ends is_break r ≡ true → none is_e u ≡ true
+    → is_e e ≡ true
     → (x : List ℕ) → cut is_e x ≡ record { before = u; found = true; after = w } → Numbered x r (u ++ (e ∷ (w ++ r)))
 unfolding is_number number_of mantissa_digits exponent_digits fraction_digits
 number_parted u w e r nu nw h ne k x c = go (mant u (e ∷ (w ++ r)) (none_or is_break is_e u nu ne) (e_tail e k))

@@ -45,5 +45,6 @@ module _ (us cs gs : List ℕ) (h : sound (places us cs gs) ≡ true) where
 
   pub glyphs_add_up : unit_sum (turned (clusters_of (words cs))) ≡ length (glyphs_of (words gs))
   glyphs_add_up =
-      unit_sum_holds (turned (clusters_of (words cs))) ∙ ap sum (turned_units (clusters_of (words cs))) ∙ sym (zero-add (sum (glyph_counts (clusters_of (words cs)))))
+      unit_sum_holds (turned (clusters_of (words cs))) ∙ ap sum (turned_units (clusters_of (words cs)))
+      ∙ sym (zero-add (sum (glyph_counts (clusters_of (words cs)))))
       ∙ fits_glyphs (glyphs_of (words gs)) _ (clusters_of (words cs)) (halves us) 0 parts.fit

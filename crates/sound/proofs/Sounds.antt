@@ -59,7 +59,8 @@ module _ (b₀ : Bool) (us : List ℕ) (cs gs : List ℤ) where
   unfoldable pub well_at : Bool → ℕ → ℕ → ℕ → ℕ → Bool
   well_at t lack at i k =
       whole_clusters (drop i cs)
-      && (whole_glyphs (drop k gs) && ((not t || all_font (glyphs_of (drop k gs))) && fits b₀ lack (drop at us) (clusters_of (drop i cs)) (glyphs_of (drop k gs))))
+      && (whole_glyphs (drop k gs) && ((not t || all_font (glyphs_of (drop k gs))) &&
+      fits b₀ lack (drop at us) (clusters_of (drop i cs)) (glyphs_of (drop k gs))))
 
   -- the glyph at a place
   unfoldable ok_at : Bool → ℕ → Bool

@@ -100,16 +100,17 @@ none_rounded r x n e = rw e
 
 -- the three clauses of a survey: its answer, how many fields were rounded, and where the units start
 abbrev Surveys : List ℕ → List ℕ → Reading → ℕ → Type 0
-Surveys t s r at = (reading_outcome r ≡ counted (read t s)) × ((reading_rounded r ≡ beside (rounded s) (read t s)) × Starts t r at)
+Surveys t s r at =
+    record { reading_value : reading_outcome r ≡ counted (read t s); rounded : reading_rounded r ≡ beside (rounded s) (read t s); start : Starts t r at }
 
 -- a refusal, and an answer that is handed on
 pub refuses : (t s : List ℕ) {r : Reading} (at : ℕ) {x : Refusal} → r ≡ Refused x → no x.number x.place ≡ counted (read t s) → Surveys t s r at
-refuses t s at {x} e h = rw e (h, (rw (counted_no (read t s) x.number x.place (sym h)), tt))
+refuses t s at {x} e h = rw e (record { reading_value = h; rounded = rw (counted_no (read t s) x.number x.place (sym h)); start = tt })
 
 pub judges : (t s : List ℕ) (r : Reading) {at : ℕ} → reading_outcome r ≡ counted (read t s) → reading_rounded r ≡ beside (rounded s) (reading_outcome r)
     → at ≡ units_start t
     → Surveys t s r at
-judges t s r {at} e h a = (e, (h ∙ ap (beside (rounded s)) e ∙ go (read t s), starts r))
+judges t s r {at} e h a = record { reading_value = e; rounded = h ∙ ap (beside (rounded s)) e ∙ go (read t s); start = starts r }
   where
     go : (o : Outcome Run) → beside (rounded s) (counted o) ≡ beside (rounded s) o
     go (ok x) = refl

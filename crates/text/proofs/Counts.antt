@@ -30,7 +30,8 @@ unfoldable pub reached_start : (s : List ℕ) → Reached s 0 0
 reached_start s = record { us = []; so_far = onto_nil (decode 0 0 s); count = refl }
 
 -- past a character of k units
-unfoldable pub reached_next : (s : List ℕ) (i n k c j : ℕ) → i < length s → Reached s i n → char_at s i ≡ Good c j → k ≡ length (units_of c) → Reached s j (n + k)
+unfoldable pub reached_next : (s : List ℕ) (i n k c j : ℕ) → i < length s → Reached s i n → char_at s i ≡ Good c j → k ≡ length (units_of c)
+    → Reached s j (n + k)
 reached_next s i n k c j l r h e =
     record {
       us = r.us ++ units_of c;

@@ -76,7 +76,8 @@ marked false s = refl
 
 -- ── the units from a place on ──
 
-units_at_holds : (us : List ℕ) (i : ℕ) → i < length us → units_bytes (drop i us) ≡ unit_bytes (get_or us i 0) (get_or us (i + 1) 0) ++ units_bytes (drop (i + 1) us)
+units_at_holds : (us : List ℕ) (i : ℕ) → i < length us → units_bytes (drop i us) ≡ unit_bytes (get_or us i 0) (get_or us (i + 1) 0) ++
+    units_bytes (drop (i + 1) us)
 unfolding units_bytes
 units_at_holds us i h = rw (drop-cons us i 0 h, units_bytes, get_or-drop, add-zero, add-one)
 

@@ -114,7 +114,8 @@ module _ (s : List ℕ) (i m : ℕ) {b : ℕ} (f : b ≡ get_or s i 0) where
 -- ── the character at a place ──
 
 -- one of one byte, b
-pub char_one : (s : List ℕ) (i : ℕ) {b : ℕ} {x : Char} → b ≡ get_or s i 0 → x ≡ cond (xml_char b) (Good b (i + 1)) Outside → get_or s i 0 < 128 → x ≡ char_at s i
+pub char_one : (s : List ℕ) (i : ℕ) {b : ℕ} {x : Char} → b ≡ get_or s i 0 → x ≡ cond (xml_char b) (Good b (i + 1)) Outside → get_or s i 0 < 128
+    → x ≡ char_at s i
 unfolding char_at scalar
 char_one s i f e h = let (t, n) = starts_one (get_or s i 0) (drop (i + 1) s) (omega arith) in rw (t, n, add-zero (i + 1), ← f) e
 

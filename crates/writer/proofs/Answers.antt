@@ -24,10 +24,10 @@ use Rattle.sound.proofs.Facts.{few_units, few_numbers}
 
 -- the three clauses of the call, where the writing comes to w
 abbrev Answer : Outcome Label → Writing → List ℕ → List ℕ → List ℕ → List ℕ → Type 0
-Answer w r T T' I I' = (writing_outcome r ≡ lengths w) × ((T' ≡ text_after w T) × (I' ≡ indices_after w I))
+Answer w r T T' I I' = record { result : writing_outcome r ≡ lengths w; text : T' ≡ text_after w T; indices : I' ≡ indices_after w I }
 
 refuses : {w : Outcome Label} {r : Writing} (n p : ℕ) (T I : List ℕ) → r ≡ Refused (refusal n p) → w ≡ no n p → Answer w r T T I I
-refuses n p T I f e = rw (e, f) (refl, (refl, refl))
+refuses n p T I f e = rw (e, f) (record { result = refl; text = refl; indices = refl })
 
 -- a sound run is small
 pub few : (us cs gs : List ℕ) {x : Bool} → x ≡ sound (places us cs gs) → not x ≡ false
@@ -85,4 +85,4 @@ module _ (a : Bool) (us cs gs T I : List ℕ) {x : Bool} (e : x ≡ sound (place
           pub writes : {T' I' : List ℕ} {p q : ℕ} → Put T 0 (as_asked a (text_of (halves us))) p T'
               → Put I 0 (indices_of (clusters_of (words cs)) (glyphs_of (words gs))) q I'
               → Answer W (Written (record { text = n; indices = m })) T T' I I'
-          writes b d = rw (accepts, et, ei) (refl, (put_room b (omega arith), put_room d (omega arith)))
+          writes b d = rw (accepts, et, ei) (record { result = refl; text = put_room b (omega arith); indices = put_room d (omega arith) })

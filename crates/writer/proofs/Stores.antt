@@ -106,7 +106,8 @@ module _ (cs gs : List ℤ) (n lack i k : ℕ) where
   rest_none h l e = rw (glyphs_at gs k h, clusters_end cs i e, l, entries_by)
 
   pub rest_further : 4 ≤ length gs - k → 0 < lack
-      → rest ≡ led n (entry_by value_bytes 1 1 (glyph_at gs k)) ++ owed (owing n (entry_by value_bytes 1 1 (glyph_at gs k))) (written_at cs gs (lack - 1) i (k + 4))
+      → rest ≡ led n (entry_by value_bytes 1 1 (glyph_at gs k)) ++
+      owed (owing n (entry_by value_bytes 1 1 (glyph_at gs k))) (written_at cs gs (lack - 1) i (k + 4))
   unfolding written_at entries_by owed
   rest_further h l = rw (glyphs_at gs k h) (by lack l)
     where
@@ -117,7 +118,8 @@ module _ (cs gs : List ℤ) (n lack i k : ℕ) where
       by (suc m) l = let e : suc m - 1 ≡ m = omega arith in rw e
 
   pub rest_opens : {a b d : ℕ} → a ≡ nat (place cs i) → b ≡ nat (place cs (i + 1)) → d ≡ b - 1 → 4 ≤ length gs - k → lack ≡ 0 → 2 ≤ length cs - i
-      → rest ≡ led n (entry_by value_bytes a b (glyph_at gs k)) ++ owed (owing n (entry_by value_bytes a b (glyph_at gs k))) (written_at cs gs d (i + 2) (k + 4))
+      → rest ≡ led n (entry_by value_bytes a b (glyph_at gs k)) ++
+      owed (owing n (entry_by value_bytes a b (glyph_at gs k))) (written_at cs gs d (i + 2) (k + 4))
   unfolding written_at entries_by owed cluster_at
   rest_opens p q d h l e = rw (d, p, q, glyphs_at gs k h, clusters_at cs i e, l, entries_by)
 

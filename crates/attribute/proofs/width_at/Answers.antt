@@ -13,7 +13,10 @@ returns-then-s-at-ne13-clause-value c = rw (ne_eqb _ 13 c.if-s-at-ne13.true)
 
 pub returns-then-byte_or_zero-ne10-clause-value : goal.returns-then-byte_or_zero-ne10-clause-value
 unfolding width_at
-returns-then-byte_or_zero-ne10-clause-value c = rw (eq-eqb _ 13 c.if-s-at-ne13.false, ne_eqb _ 10 (λ k. c.if-byte_or_zero-ne10.true (c.byte_or_zero.ensures.value ∙ k)))
+returns-then-byte_or_zero-ne10-clause-value c = rw (
+  eq-eqb _ 13 c.if-s-at-ne13.false,
+  ne_eqb _ 10 (λ k. c.if-byte_or_zero-ne10.true (c.byte_or_zero.ensures.value ∙ k)),
+)
 
 pub returns-clause-value : goal.returns-clause-value
 unfolding width_at

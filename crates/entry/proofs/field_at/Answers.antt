@@ -7,10 +7,12 @@ use Rattle.entry.proofs.EntryLaws.{code_absent, code_empty, code_given}
 use Rattle.entry.proofs.field_at.Goals as goal
 
 pub returns-then-byte_or_zero-ne44-clause-value : goal.returns-then-byte_or_zero-ne44-clause-value
-returns-then-byte_or_zero-ne44-clause-value c = let a = c.args in c.not_given.ensures ∙ code_absent a.s.now a.at c.byte_or_zero.ensures.value c.if-byte_or_zero-ne44.true
+returns-then-byte_or_zero-ne44-clause-value c = let a = c.args in c.not_given.ensures
+    ∙ code_absent a.s.now a.at c.byte_or_zero.ensures.value c.if-byte_or_zero-ne44.true
 
 pub returns-then-breaks_at-clause-value : goal.returns-then-breaks_at-clause-value
-returns-then-breaks_at-clause-value c = let a = c.args in c.not_given-then-breaks_at.ensures ∙ code_empty a.s.now a.at c.byte_or_zero.ensures.value c.if-byte_or_zero-ne44.false
+returns-then-breaks_at-clause-value c = let a = c.args in c.not_given-then-breaks_at.ensures
+    ∙ code_empty a.s.now a.at c.byte_or_zero.ensures.value c.if-byte_or_zero-ne44.false
     (sym c.breaks_at.ensures ∙ c.if-breaks_at.true)
 
 pub returns-clause-value : goal.returns-clause-value

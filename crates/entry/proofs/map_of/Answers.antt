@@ -10,7 +10,8 @@ pub returns-then-byte_or_zero-ne40-clause-value : goal.returns-then-byte_or_zero
 returns-then-byte_or_zero-ne40-clause-value c = let s = c.args.s.now in c.no_map.ensures ∙ code_none s c.byte_or_zero.ensures.value c.if-byte_or_zero-ne40.true
 
 pub returns-then-byte_or_zero-ne41-clause-value : goal.returns-then-byte_or_zero-ne41-clause-value
-returns-then-byte_or_zero-ne41-clause-value c = c.bad_map.ensures ∙ code_open _ c.byte_or_zero.ensures.value c.if-byte_or_zero-ne40.false _ c.digits_at-x.ensures.value
+returns-then-byte_or_zero-ne41-clause-value c = c.bad_map.ensures
+    ∙ code_open _ c.byte_or_zero.ensures.value c.if-byte_or_zero-ne40.false _ c.digits_at-x.ensures.value
     c.byte_or_zero-2.ensures.value c.in-58.is _ c.digits_at-y.ensures.value
     c.byte_or_zero-in-58.ensures.value c.if-byte_or_zero-ne41.true
 
@@ -24,5 +25,6 @@ returns-else-byte_or_zero-ne41-clause-value c = code_two _ c.byte_or_zero.ensure
     c.byte_or_zero-in-58.ensures.value c.if-byte_or_zero-ne41.false _ c.both.ensures
 
 pub returns-in_default-clause-value : goal.returns-in_default-clause-value
-returns-in_default-clause-value c = c.bad_map-in_default.ensures ∙ code_odd _ c.byte_or_zero.ensures.value c.if-byte_or_zero-ne40.false _ c.digits_at-x.ensures.value
+returns-in_default-clause-value c = c.bad_map-in_default.ensures
+    ∙ code_odd _ c.byte_or_zero.ensures.value c.if-byte_or_zero-ne40.false _ c.digits_at-x.ensures.value
     c.byte_or_zero-2.ensures.value (search rules) (search rules)

@@ -36,14 +36,18 @@ fit c = within_chain _ _ _ c.is_within.ensures c.is_within-2.ensures
     c.is_within-3.ensures c.both-4.ensures c.both-5.ensures
 
 pub returns-then-not-ok : goal.returns-then-not-ok
-returns-then-not-ok c = c.refuse.ensures ∙ code_wrong _ _ _ _ _ _ (parted ((goal.at.returns-then-not-ok c).After-field_at-z)) (sym (well ((goal.at.returns-then-not-ok c).After-both-ok)) ∙ c.if-not-ok.true)
+returns-then-not-ok c = c.refuse.ensures ∙ code_wrong _ _ _ _ _ _ (parted ((goal.at.returns-then-not-ok c).After-field_at-z))
+    (sym (well ((goal.at.returns-then-not-ok c).After-both-ok)) ∙ c.if-not-ok.true)
 
 pub returns-then-f-gt-INDEX : goal.returns-then-f-gt-INDEX
-returns-then-f-gt-INDEX c = c.refuse-then-f-gt-INDEX.ensures ∙ code_index _ _ _ _ _ _ (parted ((goal.at.returns-then-f-gt-INDEX c).After-field_at-z)) (sym (well ((goal.at.returns-then-f-gt-INDEX c).After-both-ok)) ∙ c.if-not-ok.false) c.if-f-gt-INDEX.true
+returns-then-f-gt-INDEX c = c.refuse-then-f-gt-INDEX.ensures
+    ∙ code_index _ _ _ _ _ _ (parted ((goal.at.returns-then-f-gt-INDEX c).After-field_at-z))
+    (sym (well ((goal.at.returns-then-f-gt-INDEX c).After-both-ok)) ∙ c.if-not-ok.false) c.if-f-gt-INDEX.true
 
 pub returns-then-not-both : goal.returns-then-not-both
 returns-then-not-both c = c.refuse-then-not-both.ensures
-    ∙ code_limits _ _ _ _ _ _ (parted ((goal.at.returns-then-not-both c).After-field_at-z)) (sym (well ((goal.at.returns-then-not-both c).After-both-ok)) ∙ c.if-not-ok.false) c.if-f-gt-INDEX.false
+    ∙ code_limits _ _ _ _ _ _ (parted ((goal.at.returns-then-not-both c).After-field_at-z))
+    (sym (well ((goal.at.returns-then-not-both c).After-both-ok)) ∙ c.if-not-ok.false) c.if-f-gt-INDEX.false
     (sym (fit ((goal.at.returns-then-not-both c).After-both-5)) ∙ c.if-not-both.true)
 
 pub offset_of-requires : goal.offset_of-requires
@@ -53,7 +57,8 @@ pub offset_of-requires-2 : goal.offset_of-requires-2
 offset_of-requires-2 c = rw c.field_at-z.ensures.value (field_small _)
 
 pub returns : goal.returns
-returns c = code_read _ _ _ _ _ _ (parted ((goal.at.returns c).After-field_at-z)) (sym (well ((goal.at.returns c).After-both-ok)) ∙ c.if-not-ok.false) c.if-f-gt-INDEX.false
+returns c = code_read _ _ _ _ _ _ (parted ((goal.at.returns c).After-field_at-z)) (sym (well ((goal.at.returns c).After-both-ok)) ∙ c.if-not-ok.false)
+    c.if-f-gt-INDEX.false
     (sym (fit ((goal.at.returns c).After-both-5)) ∙ c.if-not-both.false) _ c.index_of.ensures _ c.advance_of.ensures
     _ _ (to_z-of_z {w = w32} (sfits_of c.offset_of.type_inv) ∙ c.offset_of.ensures)
     (to_z-of_z {w = w32} (sfits_of c.offset_of-2.type_inv) ∙ c.offset_of-2.ensures)

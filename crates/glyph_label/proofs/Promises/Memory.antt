@@ -78,7 +78,8 @@ has_room (c ∷ cs) n room k p h = has_room cs n room k p (or_r c.holds (refuses
 
 -- ── one lent buffer that is filled ──
 
-filled_said : {A : Type 0} (o : Outcome (List A)) → ((filled_answer (filled_count o)).number ≡ number_in o) × ((filled_answer (filled_count o)).place ≡ place_in o)
+filled_said : {A : Type 0} (o : Outcome (List A))
+    → ((filled_answer (filled_count o)).number ≡ number_in o) × ((filled_answer (filled_count o)).place ≡ place_in o)
 filled_said (ok vs) = (refl, refl)
 filled_said (no n p) = (refl, refl)
 

@@ -8,5 +8,5 @@ use borrow.Author.Rules.{rules}
 use Rattle.glyph_label.proofs.glyph_label_glyphs_of.Goals as goal
 
 pub stretch_answer-requires : goal.stretch_answer-requires
-stretch_answer-requires c =     let a = c.args in
+stretch_answer-requires c = let a = c.args in
     subst StretchFits (sym c.glyphs_of.ensures) (stretch_fits true a.units.now a.clusters.now a.glyphs.now a.first a.end)

@@ -9,5 +9,5 @@ use borrow.Author.Rules.{rules}
 use Rattle.glyph_label.proofs.glyph_label_read.Goals as goal
 
 pub reading_answer-requires : goal.reading_answer-requires
-reading_answer-requires c =     let a = c.args in
+reading_answer-requires c = let a = c.args in
     (subst ReadingFits (sym c.read.ensures.result) (reading_fits _ _ _), subst Small32 (sym c.read.ensures.rounded) (rounded_fits _ a.text.now a.indices.now))

@@ -8,4 +8,4 @@ use borrow.Author.Rules.{rules}
 use Rattle.glyph_label.proofs.glyph_label_write_escaped.Goals as goal
 
 pub writing_answer-requires : goal.writing_answer-requires
-writing_answer-requires c =     subst WritingFits (sym c.write_as.ensures.result) (writing_fits _ _ _)
+writing_answer-requires c = subst WritingFits (sym c.write_as.ensures.result) (writing_fits _ _ _)

@@ -43,7 +43,8 @@ names = (
 )
 
 numbers : Restores (ascii "&#9;") 9 × Restores (ascii "&#10;") 10 × Restores (ascii "&#13;") 13
-unfolding resolve_from each pieces verdict is_good is_reference body is_closed further gives referred numbered all_of digit_value value_behind cut ascii xml_char utf8
+unfolding resolve_from each pieces verdict is_good is_reference body is_closed further gives referred numbered all_of digit_value value_behind cut ascii
+    xml_char utf8
 numbers = (
   λ at x. resolve_first at 38 (ascii "#9;" ++ x),
   λ at x. resolve_first at 38 (ascii "#10;" ++ x),

@@ -53,7 +53,8 @@ module _ (k : ℕ) where
       → labels_from 0 k s ≡ (labels_from 0 (suc k) (drop (record_length s) s) >>= (λ (ls : List Label). ok (record_label s ∷ ls)))
   labels_whole [] h e = absurd (omega arith)
   labels_whole (b ∷ s) h e =
-      labels_first b s e ∙ ap (λ (m : ℕ). labels_from 0 (suc k) (drop m (b ∷ s)) >>= (λ (ls : List Label). ok (record_label (b ∷ s) ∷ ls))) (length_some (b ∷ s))
+      labels_first b s e ∙ ap (λ (m : ℕ). labels_from 0 (suc k) (drop m (b ∷ s)) >>= (λ (ls : List Label). ok (record_label (b ∷ s) ∷ ls)))
+      (length_some (b ∷ s))
 
 -- ── a record that was written is read back ──
 

@@ -119,7 +119,8 @@ restoring =
       written_as = written_as;
       fixed = fixed;
       raw_is = raw_steps;
-      raw_fixed = λ room text indices n p. unfold read_raw in (given_is (raw_label_checks room text indices) n p (said_run (raw_gives text) (raw_gives indices)));
+      raw_fixed = λ room text indices n p. unfold read_raw in (given_is (raw_label_checks room text indices) n p
+          (said_run (raw_gives text) (raw_gives indices)));
       writer_fixed = writer_fixed;
       count = λ room raw s h. ap filled_count h;
       memory = memory;

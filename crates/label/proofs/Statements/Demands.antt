@@ -309,7 +309,12 @@ module _ (r : Run) (o : Outcome Run) (w : Outcome Label) (tx ix : List ℕ) (p :
 same_passed : (A B : Run) (oA oB : Outcome Run) (wA wB : Outcome Label) (txA ixA txB ixB : List ℕ) → Passed A oA wA txA ixA → Passed B oB wB txB ixB
     → (A ≡ B) ↔ ((text_written A wA txA ≡ text_written B wB txB) × (indices_written A wA ixA ≡ indices_written B wB ixB))
 same_passed A B oA oB wA wB txA ixA txB ixB p q =
-    rw (text_written_holds A oA wA txA ixA p, indices_written_holds A oA wA txA ixA p, text_written_holds B oB wB txB ixB q, indices_written_holds B oB wB txB ixB q)
+    rw (
+      text_written_holds A oA wA txA ixA p,
+      indices_written_holds A oA wA txA ixA p,
+      text_written_holds B oB wB txB ixB q,
+      indices_written_holds B oB wB txB ixB q,
+    )
     (same A B (normal A) (normal B) (passed_sound A oA wA txA ixA p) (passed_sound B oB wB txB ixB q) refl refl)
 
 pub demand_3 : Demand3

@@ -24,7 +24,8 @@ lists room z w h =
     list_steps room z ∙ rw (readable_sound z w, le-leb (length (run_of z).glyphs) room k) (ap (λ (r : Run). ok r.glyphs) q)
 
 memory : (z : Places) (old : List Glyph)
-    → Kept (list_checks (length old) z) (run_of z).glyphs (λ gs. gs ∷ []) (list_into (length old) z) (old ∷ []) (filled_after (list_into (length old) z) old ∷ [])
+    → Kept (list_checks (length old) z) (run_of z).glyphs (λ gs. gs ∷ []) (list_into (length old) z) (old ∷ [])
+    (filled_after (list_into (length old) z) old ∷ [])
 unfolding list_into filled_all
 memory z old = kept (list_checks (length old) z) (run_of z).glyphs (λ gs. gs ∷ []) (old ∷ []) (λ o. filled_after o old ∷ []) refl (λ n p. refl)
 

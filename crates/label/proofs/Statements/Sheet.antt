@@ -115,7 +115,8 @@ memory : (file old : List ℕ)
     → Kept (sheet_checks (length old / 4) file) (answers (file_labels file)) (λ zs. from_words zs ∷ []) (sheet_into (length old / 4) file) (old ∷ [])
     (numbers_after (sheet_into (length old / 4) file) old ∷ [])
 unfolding sheet_into filled_all
-memory file old = kept (sheet_checks (length old / 4) file) (answers (file_labels file)) (λ zs. from_words zs ∷ []) (old ∷ []) (λ o. numbers_after o old ∷ []) refl
+memory file old = kept (sheet_checks (length old / 4) file) (answers (file_labels file)) (λ zs. from_words zs ∷ []) (old ∷ []) (λ o. numbers_after o old ∷ [])
+    refl
     (λ n p. refl)
 
 -- ── the answer at a place ──

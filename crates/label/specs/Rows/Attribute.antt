@@ -99,19 +99,19 @@ pub raw_readings : (read_raw (record { text = 9; indices = 9 }) (ascii "&#123;a"
     × (read_raw (record { text = 9; indices = 9 }) (ascii "a<") (ascii "<") ≡ no 23 1)
     × (read_raw (record { text = 1; indices = 9 }) (ascii "ab") (ascii "<") ≡ no 24 2)
     × (read_raw (record { text = 9; indices = 0 }) (0xff ∷ []) (ascii "5") ≡ no 24 1)
-unfolding read_raw resolve_into ascii split cut all_digits value_from same_bytes predefined digit_value all_of value_behind numbered referred body is_closed is_reference
-    is_good spaced gives further resolve_from utf8 table row_fits fitting starts_char more_bytes following scalar xml_char units_of each pieces text_checks verdict
-    unsigned is_decimals is_number mantissa_digits fraction_digits exponent_digits nearest scaled thousandths number_fits is_index_part index_digits map_units map_glyphs
-    is_advance is_offset well_formed field_fits index_of advance_of offset_of entry_of entries tail entry_checks place_checks walk_checks walk_parts said_run run_checks
-    label_checks read resolve_checks raw_label_checks
+unfolding read_raw resolve_into ascii split cut all_digits value_from same_bytes predefined digit_value all_of value_behind numbered referred body is_closed
+    is_reference is_good spaced gives further resolve_from utf8 table row_fits fitting starts_char more_bytes following scalar xml_char units_of each pieces
+    text_checks verdict unsigned is_decimals is_number mantissa_digits fraction_digits exponent_digits nearest scaled thousandths number_fits is_index_part
+    index_digits map_units map_glyphs is_advance is_offset well_formed field_fits index_of advance_of offset_of entry_of entries tail entry_checks place_checks
+    walk_checks walk_parts said_run run_checks label_checks read resolve_checks raw_label_checks
 raw_readings = (refl, refl, refl, refl, refl, refl)
 
 -- resolving into a buffer: exact room, a byte too few, 23 before 24; bytes behind stay, and a refusal changes nothing
 pub resolvings : (filled_count (resolve_into 2 (ascii "&lt;a")) ≡ ok 2) × (filled_count (resolve_into 1 (ascii "&lt;a")) ≡ no 24 2)
     × (filled_count (resolve_into 0 (ascii "aaa<")) ≡ no 23 3) × (filled_after (resolve_into 3 (ascii "&lt;a")) (7 ∷ 8 ∷ 9 ∷ []) ≡ 60 ∷ 97 ∷ 9 ∷ [])
     × (filled_after (resolve_into 1 (ascii "&lt;a")) (7 ∷ []) ≡ 7 ∷ [])
-unfolding ascii cut same_bytes predefined digit_value all_of value_behind numbered referred body is_closed is_reference is_good spaced gives further resolve_from
-    resolve_into xml_char utf8 resolve_checks each pieces verdict
+unfolding ascii cut same_bytes predefined digit_value all_of value_behind numbered referred body is_closed is_reference is_good spaced gives further
+    resolve_from resolve_into xml_char utf8 resolve_checks each pieces verdict
 resolvings = (refl, refl, refl, refl, refl)
 
 -- the units `{`, `"` and tab in clusters 1:1, the first with the index 5, written escaped: "counted in 20 and 21"; 19 comes first
@@ -124,18 +124,18 @@ pub escapings : (write_asked true (sizes 13 1) quoted ≡ label (ascii "{}{&quot
     × (lengths (write_asked true (sizes 13 0) quoted) ≡ no 21 1)
     × (lengths (write_asked true (sizes 0 0) (places quoted.units [] quoted.glyphs)) ≡ no 19 0)
     × (write_asked false (sizes 5 1) quoted ≡ label (123 ∷ 125 ∷ 123 ∷ 34 ∷ 9 ∷ []) (ascii "5"))
-unfolding ascii whole_clusters whole_glyphs clusters_of glyphs_of proper_units fits sound_run sound xml_char join join_rest trim decimal_from decimal utf8 unit_bytes
-    units_bytes text_of fraction value_bytes advance_by offset_by map_bytes index_bytes entry_by entries_by indices_by write_asked escape_byte escape from_halves from_words
-    halves words signed even_bytes word_bytes write_checks verdict
+unfolding ascii whole_clusters whole_glyphs clusters_of glyphs_of proper_units fits sound_run sound xml_char join join_rest trim decimal_from decimal utf8
+    unit_bytes units_bytes text_of fraction value_bytes advance_by offset_by map_bytes index_bytes entry_by entries_by indices_by write_asked escape_byte escape
+    from_halves from_words halves words signed even_bytes word_bytes write_checks verdict
 escapings = (refl, refl, refl, refl, refl)
 
 -- the same of bytes: `"` with the index 5 and the u offset −1; a byte left over is 19
 pub byte_escapings : (lengths (write_asked true (sizes 6 5) (places (34 ∷ 0 ∷ []) cluster_bytes glyph_bytes)) ≡ ok (record { text = 6; indices = 5 }))
     × (lengths (write_asked true (sizes 5 5) (places (34 ∷ 0 ∷ []) cluster_bytes glyph_bytes)) ≡ no 20 6)
     × (lengths (write_asked true (sizes 9 9) (places (34 ∷ 0 ∷ 0 ∷ []) cluster_bytes glyph_bytes)) ≡ no 19 0)
-unfolding ascii whole_clusters whole_glyphs clusters_of glyphs_of proper_units fits sound_run sound xml_char join join_rest trim decimal_from decimal utf8 unit_bytes
-    units_bytes text_of fraction value_bytes advance_by offset_by map_bytes index_bytes entry_by entries_by indices_by write_asked escape_byte escape even_bytes word_bytes
-    halves words signed from_halves from_words write_checks verdict
+unfolding ascii whole_clusters whole_glyphs clusters_of glyphs_of proper_units fits sound_run sound xml_char join join_rest trim decimal_from decimal utf8
+    unit_bytes units_bytes text_of fraction value_bytes advance_by offset_by map_bytes index_bytes entry_by entries_by indices_by write_asked escape_byte escape
+    even_bytes word_bytes halves words signed from_halves from_words write_checks verdict
 byte_escapings = (refl, refl, refl)
 
 -- 4,096 times `"` make the longest escaped text

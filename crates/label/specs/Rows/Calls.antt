@@ -107,10 +107,10 @@ pub calls_agree : (map (λ (w : Writes). write_into (sizes 99 99) w.run) writing
     × (map (λ (p : Picked). pick_units four p.first p.end) picks ≡ map (λ (p : Picked). p.units) picks)
     × (map (λ (p : Picked). pick_glyphs four p.first p.end) picks ≡ map (λ (p : Picked). p.glyphs) picks)
     × (map (λ (s : Shown). fault_part (ascii "{a") (ascii "(1:2)5;") s.number s.place) faults ≡ map (λ (s : Shown). s.shows) faults)
-unfolding writings picks faults ascii whole_clusters whole_glyphs clusters_of glyphs_of proper_units all_font fits sound_run sound xml_char split join join_rest trim
-    decimal_from decimal utf8 unit_bytes units_bytes text_of fraction value_bytes advance_by offset_by map_bytes index_bytes entry_by entries_by indices_by write_asked
-    holding touched turned pick_units pick_glyphs entry_start fault_part entries from_halves from_words halves words signed even_bytes word_bytes pick_checks verdict
-    write_checks
+unfolding writings picks faults ascii whole_clusters whole_glyphs clusters_of glyphs_of proper_units all_font fits sound_run sound xml_char split join join_rest
+    trim decimal_from decimal utf8 unit_bytes units_bytes text_of fraction value_bytes advance_by offset_by map_bytes index_bytes entry_by entries_by indices_by
+    write_asked holding touched turned pick_units pick_glyphs entry_start fault_part entries from_halves from_words halves words signed even_bytes word_bytes
+    pick_checks verdict write_checks
 calls_agree = (refl, refl, refl, refl)
 
 -- an unsound run is 19 even where the stretch is bad; without units a good stretch gives 0 to 0
@@ -119,8 +119,8 @@ pub edge_picks : (pick_units (handed (ascii "A") [] []) 1 1 ≡ no 19 0) × (pic
     -- a pair of the tail is picked whole
     × (pick_units (handed (65 ∷ pair) (pos 1 ∷ pos 1 ∷ pos 2 ∷ pos 1 ∷ []) (plain 5 (font []))) 1 2 ≡ ok (stretch 1 3))
     × (pick_glyphs (handed (65 ∷ pair) (pos 1 ∷ pos 1 ∷ pos 2 ∷ pos 1 ∷ []) (plain 5 (font []))) 2 3 ≡ ok (stretch 1 2))
-unfolding ascii whole_clusters whole_glyphs clusters_of glyphs_of proper_units all_font fits sound_run sound xml_char holding touched turned pick_units pick_glyphs
-    from_halves from_words halves words signed even_bytes word_bytes pick_checks verdict
+unfolding ascii whole_clusters whole_glyphs clusters_of glyphs_of proper_units all_font fits sound_run sound xml_char holding touched turned pick_units
+    pick_glyphs from_halves from_words halves words signed even_bytes word_bytes pick_checks verdict
 edge_picks = (refl, refl, refl, refl, refl)
 
 -- the list of records: 19, then 18 with the glyphs needed, then the count
@@ -129,8 +129,8 @@ pub listings : (filled_count (list_into 5 four) ≡ ok 5) × (filled_count (list
     -- a pair of the tail has one record; before a named glyph it is 19
     × (list_into 1 (handed pair (pos 2 ∷ pos 1 ∷ []) (font [])) ≡ ok (font_glyph ∷ []))
     × (filled_count (list_into 2 (handed (pair ++ (65 ∷ [])) (pos 2 ∷ pos 1 ∷ pos 1 ∷ pos 1 ∷ []) (font (plain 5 [])))) ≡ no 19 0)
-unfolding ascii whole_clusters whole_glyphs clusters_of glyphs_of proper_units all_font fits sound_run sound xml_char list_into from_halves from_words halves words signed
-    even_bytes word_bytes list_checks verdict
+unfolding ascii whole_clusters whole_glyphs clusters_of glyphs_of proper_units all_font fits sound_run sound xml_char list_into from_halves from_words halves
+    words signed even_bytes word_bytes list_checks verdict
 listings = (refl, refl, refl, refl, refl)
 
 -- the label `A` with `5,,-1`: a byte too few is 16, 17 or 18; bytes left over and bytes behind stay
@@ -142,10 +142,11 @@ pub byte_readings : (counted (read_into (buffers 1 8 16) (ascii "A") (ascii "5,,
     × (clusters_after (read_into (buffers 3 8 17) (ascii "A") (ascii "5,,-1")) (replicate 8 7) ≡ 1 ∷ 0 ∷ 0 ∷ 0 ∷ 1 ∷ 0 ∷ 0 ∷ 0 ∷ [])
     × (glyphs_after (read_into (buffers 3 8 17) (ascii "A") (ascii "5,,-1")) (replicate 17 7)
     ≡ 5 ∷ 0 ∷ 0 ∷ 0 ∷ 255 ∷ 255 ∷ 255 ∷ 255 ∷ 24 ∷ 252 ∷ 255 ∷ 255 ∷ 0 ∷ 0 ∷ 0 ∷ 0 ∷ 7 ∷ [])
-unfolding ascii split cut all_digits value_from join_rest join trim decimal_from decimal table row_fits fitting starts_char more_bytes following scalar xml_char units_of
-    each pieces text_checks verdict unsigned is_decimals is_number mantissa_digits fraction_digits exponent_digits nearest scaled thousandths number_fits is_index_part
-    index_digits map_units map_glyphs is_advance is_offset well_formed field_fits index_of advance_of offset_of entry_of entries tail entry_checks place_checks walk_checks
-    walk_parts said_run run_checks label_checks read read_into flat_clusters flat_glyphs from_halves from_words read_checks
+unfolding ascii split cut all_digits value_from join_rest join trim decimal_from decimal table row_fits fitting starts_char more_bytes following scalar xml_char
+    units_of each pieces text_checks verdict unsigned is_decimals is_number mantissa_digits fraction_digits exponent_digits nearest scaled thousandths
+    number_fits is_index_part index_digits map_units map_glyphs is_advance is_offset well_formed field_fits index_of advance_of offset_of entry_of entries tail
+    entry_checks place_checks walk_checks walk_parts said_run run_checks label_checks read read_into flat_clusters flat_glyphs from_halves from_words
+    read_checks
 byte_readings = (refl, refl, refl, refl, refl, refl, refl)
 
 -- a writing from bytes: accepted, 20, 21; a byte left over in any buffer is 19
@@ -156,9 +157,9 @@ pub byte_writings : (lengths (write_into (sizes 1 5) (places (65 ∷ 0 ∷ []) c
     × (lengths (write_into (sizes 9 9) (places (65 ∷ 0 ∷ []) (1 ∷ 0 ∷ 0 ∷ 0 ∷ 1 ∷ 0 ∷ 0 ∷ 0 ∷ 0 ∷ []) glyph_bytes)) ≡ no 19 0)
     × (lengths (write_into (sizes 9 9) (places (65 ∷ 0 ∷ []) cluster_bytes
     (5 ∷ 0 ∷ 0 ∷ 0 ∷ 255 ∷ 255 ∷ 255 ∷ 255 ∷ 24 ∷ 252 ∷ 255 ∷ 255 ∷ 0 ∷ 0 ∷ 0 ∷ 0 ∷ 0 ∷ []))) ≡ no 19 0)
-unfolding ascii whole_clusters whole_glyphs clusters_of glyphs_of proper_units fits sound_run sound xml_char join join_rest trim decimal_from decimal utf8 unit_bytes
-    units_bytes text_of fraction value_bytes advance_by offset_by map_bytes index_bytes entry_by entries_by indices_by write_asked even_bytes word_bytes halves words signed
-    from_halves from_words write_checks verdict
+unfolding ascii whole_clusters whole_glyphs clusters_of glyphs_of proper_units fits sound_run sound xml_char join join_rest trim decimal_from decimal utf8
+    unit_bytes units_bytes text_of fraction value_bytes advance_by offset_by map_bytes index_bytes entry_by entries_by indices_by write_asked even_bytes
+    word_bytes halves words signed from_halves from_words write_checks verdict
 byte_writings = (refl, refl, refl, refl, refl, refl)
 
 -- `relabel`'s second line: 32,769 bytes are as for 1

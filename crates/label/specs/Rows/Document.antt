@@ -91,16 +91,16 @@ pub labels : map (λ (r : LabelRow). said (read r.text r.indices)) (document_row
     ≡ map (λ (r : LabelRow). r.answer) (document_rows ++ (standard_rows ++ (tail_rows ++ half_rows)))
 unfolding document_rows standard_rows tail_rows half_rows ascii split cut all_digits value_from join_rest join trim decimal_from decimal table row_fits fitting
     starts_char more_bytes following scalar xml_char units_of each pieces text_checks verdict unsigned is_decimals is_number mantissa_digits fraction_digits
-    exponent_digits nearest scaled thousandths number_fits is_index_part index_digits map_units map_glyphs is_advance is_offset well_formed field_fits index_of advance_of
-    offset_of entry_of entries tail entry_checks place_checks walk_checks walk_parts said_run run_checks label_checks read utf8 unit_bytes units_bytes text_of fraction
-    value_bytes advance_by offset_by map_bytes index_bytes entry_by entries_by indices_by
+    exponent_digits nearest scaled thousandths number_fits is_index_part index_digits map_units map_glyphs is_advance is_offset well_formed field_fits index_of
+    advance_of offset_of entry_of entries tail entry_checks place_checks walk_checks walk_parts said_run run_checks label_checks read utf8 unit_bytes
+    units_bytes text_of fraction value_bytes advance_by offset_by map_bytes index_bytes entry_by entries_by indices_by
 labels = refl
 
 -- "From `{}flow` and `(2:1)192;07,+55.50,,0` it prints:"
 pub relabelled : relabel (ascii "{}flow\n(2:1)192;07,+55.50,,0\n") ≡ ascii "ok 4 3 3\nflow\n(2)192;7,55.5\n"
-unfolding relabel relabel_read ascii split cut all_digits value_from join_rest join trim decimal_from decimal table row_fits fitting starts_char more_bytes following
-    scalar xml_char units_of each pieces text_checks verdict unsigned is_decimals is_number mantissa_digits fraction_digits exponent_digits nearest scaled thousandths
-    number_fits is_index_part index_digits map_units map_glyphs is_advance is_offset well_formed field_fits index_of advance_of offset_of entry_of entries tail entry_checks
-    place_checks walk_checks walk_parts said_run run_checks label_checks read utf8 unit_bytes units_bytes text_of fraction value_bytes advance_by offset_by map_bytes
-    index_bytes entry_by entries_by indices_by
+unfolding relabel relabel_read ascii split cut all_digits value_from join_rest join trim decimal_from decimal table row_fits fitting starts_char more_bytes
+    following scalar xml_char units_of each pieces text_checks verdict unsigned is_decimals is_number mantissa_digits fraction_digits exponent_digits nearest
+    scaled thousandths number_fits is_index_part index_digits map_units map_glyphs is_advance is_offset well_formed field_fits index_of advance_of offset_of
+    entry_of entries tail entry_checks place_checks walk_checks walk_parts said_run run_checks label_checks read utf8 unit_bytes units_bytes text_of fraction
+    value_bytes advance_by offset_by map_bytes index_bytes entry_by entries_by indices_by
 relabelled = refl

@@ -39,18 +39,18 @@ rounded_rows =
 -- each row's label has the count that the row says
 pub rounded_labels : map (λ (r : RoundedRow). beside (rounded r.indices) (read r.text r.indices)) rounded_rows
     ≡ map (λ (r : RoundedRow). r.count) rounded_rows
-unfolding rounded_rows is_whole is_exact rounded_field rounded_entry rounded_entries rounded ascii split cut all_digits value_from table row_fits fitting starts_char
-    more_bytes following scalar xml_char units_of each pieces text_checks verdict unsigned is_decimals is_number mantissa_digits fraction_digits exponent_digits nearest
-    scaled thousandths number_fits is_index_part index_digits map_units map_glyphs is_advance is_offset well_formed field_fits index_of advance_of offset_of entry_of entries
-    tail entry_checks place_checks walk_checks walk_parts said_run run_checks label_checks read
+unfolding rounded_rows is_whole is_exact rounded_field rounded_entry rounded_entries rounded ascii split cut all_digits value_from table row_fits fitting
+    starts_char more_bytes following scalar xml_char units_of each pieces text_checks verdict unsigned is_decimals is_number mantissa_digits fraction_digits
+    exponent_digits nearest scaled thousandths number_fits is_index_part index_digits map_units map_glyphs is_advance is_offset well_formed field_fits index_of
+    advance_of offset_of entry_of entries tail entry_checks place_checks walk_checks walk_parts said_run run_checks label_checks read
 rounded_labels = refl
 
 -- "no part of the run, so two clients' runs compare as before": these two, with the counts 1 and 0, are one run
 pub same_run : read (ascii "A") (ascii "5,.0006") ≡ read (ascii "A") (ascii "5,.001")
 unfolding ascii split cut all_digits value_from table row_fits fitting starts_char more_bytes following scalar xml_char units_of each pieces text_checks verdict
-    unsigned is_decimals is_number mantissa_digits fraction_digits exponent_digits nearest scaled thousandths number_fits is_index_part index_digits map_units map_glyphs
-    is_advance is_offset well_formed field_fits index_of advance_of offset_of entry_of entries tail entry_checks place_checks walk_checks walk_parts said_run run_checks
-    label_checks read
+    unsigned is_decimals is_number mantissa_digits fraction_digits exponent_digits nearest scaled thousandths number_fits is_index_part index_digits map_units
+    map_glyphs is_advance is_offset well_formed field_fits index_of advance_of offset_of entry_of entries tail entry_checks place_checks walk_checks walk_parts
+    said_run run_checks label_checks read
 same_run = refl
 
 -- the count of rounded fields beside `A` with `5,.0005`, "a refusal as 0" for 16, 17 and 18 too
@@ -62,7 +62,7 @@ pub byte_counts : (beside (rounded finer) (read_into (buffers 1 8 16) (ascii "A"
     × (beside (rounded finer) (read_into (buffers 2 7 16) (ascii "A") finer) ≡ 0)
     × (beside (rounded finer) (read_into (buffers 2 8 15) (ascii "A") finer) ≡ 0) × (beside (rounded finer) (read_into (buffers 2 8 16) (ascii "A") finer) ≡ 1)
 unfolding ascii split cut all_digits value_from table row_fits fitting starts_char more_bytes following scalar xml_char units_of each pieces text_checks verdict
-    unsigned is_decimals is_number mantissa_digits fraction_digits exponent_digits nearest scaled thousandths number_fits is_index_part index_digits map_units map_glyphs
-    is_advance is_offset well_formed field_fits index_of advance_of offset_of entry_of entries is_whole is_exact rounded_field rounded_entry rounded_entries rounded tail
-    entry_checks place_checks walk_checks walk_parts said_run run_checks label_checks read read_into read_checks
+    unsigned is_decimals is_number mantissa_digits fraction_digits exponent_digits nearest scaled thousandths number_fits is_index_part index_digits map_units
+    map_glyphs is_advance is_offset well_formed field_fits index_of advance_of offset_of entry_of entries is_whole is_exact rounded_field rounded_entry
+    rounded_entries rounded tail entry_checks place_checks walk_checks walk_parts said_run run_checks label_checks read read_into read_checks
 byte_counts = (refl, refl, refl, refl)

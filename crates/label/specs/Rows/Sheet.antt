@@ -42,7 +42,8 @@ sheet_rows =
     sheet_row (sheet_of (empty_record [])) 9 (ok (pos 6 ∷ pos 0 ∷ [])) ∷
     -- "A refused label changes no other's answer", at every position
     sheet_row (sheet_of (above_record (good_record (broken_record [])))) 6 (ok (pos 8 ∷ pos 0 ∷ pos 0 ∷ pos 0 ∷ pos 2 ∷ pos 2 ∷ [])) ∷
-    sheet_row (sheet_of (good_record (empty_record (above_record (good_record []))))) 8 (ok (pos 0 ∷ pos 0 ∷ pos 6 ∷ pos 0 ∷ pos 8 ∷ pos 0 ∷ pos 0 ∷ pos 0 ∷ [])) ∷
+    sheet_row (sheet_of (good_record (empty_record (above_record (good_record []))))) 8
+    (ok (pos 0 ∷ pos 0 ∷ pos 6 ∷ pos 0 ∷ pos 8 ∷ pos 0 ∷ pos 0 ∷ pos 0 ∷ [])) ∷
     -- "low byte first": a text of 256 bytes, indices of 256
     sheet_row (sheet_of (0 ∷ 1 ∷ 0 ∷ 0 ∷ 0 ∷ 0 ∷ replicate 256 65)) 2 (ok (pos 0 ∷ pos 0 ∷ [])) ∷
     sheet_row (sheet_of (1 ∷ 0 ∷ 0 ∷ 1 ∷ 0 ∷ 0 ∷ 65 ∷ replicate 256 48)) 2 (ok (pos 0 ∷ pos 0 ∷ [])) ∷
@@ -80,11 +81,11 @@ sheet_rows =
 
 -- each row's file is answered as the row says
 pub sheets : map (λ (r : SheetRow). sheet_into r.room r.file) sheet_rows ≡ map (λ (r : SheetRow). r.answer) sheet_rows
-unfolding sheet_rows header from_halves text_length indices_length record_length is_record record_label labels_of answers sheet_into begins ascii split cut all_digits
-    value_from table row_fits fitting starts_char more_bytes following scalar xml_char units_of each pieces text_checks verdict unsigned is_decimals is_number
-    mantissa_digits fraction_digits exponent_digits nearest scaled thousandths number_fits is_index_part index_digits map_units map_glyphs is_advance is_offset well_formed
-    field_fits index_of advance_of offset_of entry_of entries tail entry_checks place_checks walk_checks walk_parts said_run run_checks label_checks read each_numbered
-    sheet_checks
+unfolding sheet_rows header from_halves text_length indices_length record_length is_record record_label labels_of answers sheet_into begins ascii split cut
+    all_digits value_from table row_fits fitting starts_char more_bytes following scalar xml_char units_of each pieces text_checks verdict unsigned is_decimals
+    is_number mantissa_digits fraction_digits exponent_digits nearest scaled thousandths number_fits is_index_part index_digits map_units map_glyphs is_advance
+    is_offset well_formed field_fits index_of advance_of offset_of entry_of entries tail entry_checks place_checks walk_checks walk_parts said_run run_checks
+    label_checks read each_numbered sheet_checks
 sheets = refl
 
 -- a list of labels to bytes, "low byte first": `A` with `5` and a label without bytes; the lengths 258 and 515
@@ -103,9 +104,9 @@ far = 83 ∷ 76 ∷ 66 ∷ 1 ∷ 0 ∷ 0 ∷ 0 ∷ 0 ∷ 0 ∷ 0 ∷ 0 ∷ 45 �
 pub sheet_bytes : (filled_count (sheet_into 4 far) ≡ ok 4) × (filled_count (sheet_into 3 far) ≡ no 27 2)
     × (numbers_after (sheet_into (21 / 4) far) (replicate 21 7) ≡ 6 ∷ 0 ∷ 0 ∷ 0 ∷ 0 ∷ 0 ∷ 0 ∷ 0 ∷ 2 ∷ 0 ∷ 0 ∷ 0 ∷ 44 ∷ 1 ∷ 0 ∷ 0 ∷ replicate 5 7)
     × (numbers_after (sheet_into (15 / 4) far) (replicate 15 7) ≡ replicate 15 7)
-unfolding header from_halves from_words text_length indices_length record_length is_record record_label labels_of answers sheet_into begins ascii split cut all_digits
-    value_from table row_fits fitting starts_char more_bytes following scalar xml_char units_of each pieces text_checks verdict unsigned is_decimals is_number
-    mantissa_digits fraction_digits exponent_digits nearest scaled thousandths number_fits is_index_part index_digits map_units map_glyphs is_advance is_offset well_formed
-    field_fits index_of advance_of offset_of entry_of entries tail entry_checks place_checks walk_checks walk_parts said_run run_checks label_checks read sheet_checks
-    each_numbered
+unfolding header from_halves from_words text_length indices_length record_length is_record record_label labels_of answers sheet_into begins ascii split cut
+    all_digits value_from table row_fits fitting starts_char more_bytes following scalar xml_char units_of each pieces text_checks verdict unsigned is_decimals
+    is_number mantissa_digits fraction_digits exponent_digits nearest scaled thousandths number_fits is_index_part index_digits map_units map_glyphs is_advance
+    is_offset well_formed field_fits index_of advance_of offset_of entry_of entries tail entry_checks place_checks walk_checks walk_parts said_run run_checks
+    label_checks read sheet_checks each_numbered
 sheet_bytes = (refl, refl, refl, refl)

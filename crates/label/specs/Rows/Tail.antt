@@ -61,8 +61,8 @@ pub byte_tails : (counted (read_into (buffers 4 8 16) grin []) ≡ ok (record { 
     × (counted (read_into (buffers 4 7 16) grin []) ≡ no 17 1) × (counted (read_into (buffers 4 8 15) grin []) ≡ no 18 1)
     × (clusters_after (read_into (buffers 4 9 17) grin []) (replicate 9 7) ≡ 2 ∷ 0 ∷ 0 ∷ 0 ∷ 1 ∷ 0 ∷ 0 ∷ 0 ∷ 7 ∷ [])
     × (glyphs_after (read_into (buffers 4 9 17) grin []) (replicate 17 7) ≡ replicate 8 255 ++ (replicate 8 0 ++ (7 ∷ [])))
-unfolding table row_fits fitting starts_char more_bytes following scalar xml_char units_of each pieces text_checks verdict entries tail entry_checks place_checks
-    walk_checks walk_parts said_run run_checks label_checks read read_into flat_clusters flat_glyphs from_halves from_words read_checks
+unfolding table row_fits fitting starts_char more_bytes following scalar xml_char units_of each pieces text_checks verdict entries tail entry_checks
+    place_checks walk_checks walk_parts said_run run_checks label_checks read read_into flat_clusters flat_glyphs from_halves from_words read_checks
 byte_tails = (refl, refl, refl, refl, refl, refl)
 
 -- 15 counts a pair of the tail once
@@ -70,16 +70,16 @@ pub tail_limit : (counted (read_into (buffers 8192 32768 65536) (replicate 4094 
     ≡ ok (record { units = 4096; clusters = 4095; glyphs = 4096 }))
     × (counted (read_into (buffers 8192 32768 65536) (replicate 4094 65 ++ grin) (ascii "(1:3)5;6;7")) ≡ no 15 0)
 unfolding ascii split cut all_digits value_from table row_fits fitting starts_char more_bytes following scalar xml_char units_of each pieces text_checks verdict
-    unsigned is_decimals is_number mantissa_digits fraction_digits exponent_digits nearest scaled thousandths number_fits is_index_part index_digits map_units map_glyphs
-    is_advance is_offset well_formed field_fits index_of advance_of offset_of entry_of entries tail entry_checks place_checks walk_checks walk_parts said_run run_checks
-    label_checks read read_into read_checks
+    unsigned is_decimals is_number mantissa_digits fraction_digits exponent_digits nearest scaled thousandths number_fits is_index_part index_digits map_units
+    map_glyphs is_advance is_offset well_formed field_fits index_of advance_of offset_of entry_of entries tail entry_checks place_checks walk_checks walk_parts
+    said_run run_checks label_checks read read_into read_checks
 tail_limit = (refl, refl)
 
 -- a pair that is left to the font: 2 units, 1 cluster, 1 glyph, no indices
 pub relabelled_pair : relabel (grin ++ (10 ∷ [])) ≡ ascii "ok 2 1 1\n" ++ (grin ++ ascii "\n\n")
-unfolding relabel relabel_read ascii split cut all_digits value_from join_rest join trim decimal_from decimal table row_fits fitting starts_char more_bytes following
-    scalar xml_char units_of each pieces text_checks verdict unsigned is_decimals is_number mantissa_digits fraction_digits exponent_digits nearest scaled thousandths
-    number_fits is_index_part index_digits map_units map_glyphs is_advance is_offset well_formed field_fits index_of advance_of offset_of entry_of entries tail entry_checks
-    place_checks walk_checks walk_parts said_run run_checks label_checks read utf8 unit_bytes units_bytes text_of fraction value_bytes advance_by offset_by map_bytes
-    index_bytes entry_by entries_by indices_by
+unfolding relabel relabel_read ascii split cut all_digits value_from join_rest join trim decimal_from decimal table row_fits fitting starts_char more_bytes
+    following scalar xml_char units_of each pieces text_checks verdict unsigned is_decimals is_number mantissa_digits fraction_digits exponent_digits nearest
+    scaled thousandths number_fits is_index_part index_digits map_units map_glyphs is_advance is_offset well_formed field_fits index_of advance_of offset_of
+    entry_of entries tail entry_checks place_checks walk_checks walk_parts said_run run_checks label_checks read utf8 unit_bytes units_bytes text_of fraction
+    value_bytes advance_by offset_by map_bytes index_bytes entry_by entries_by indices_by
 relabelled_pair = refl

@@ -18,4 +18,5 @@ pub record Records : Type 0 where
   pub fixed : (room : ℕ) (z : Places) (n p : ℕ) → (list_into room z ≡ no n p) ↔ GivenBy (list_checks room z) n p
   -- "records behind stay", and a refusal changes none
   pub memory : (z : Places) (old : List Glyph)
-      → Kept (list_checks (length old) z) (run_of z).glyphs (λ gs. gs ∷ []) (list_into (length old) z) (old ∷ []) (filled_after (list_into (length old) z) old ∷ [])
+      → Kept (list_checks (length old) z) (run_of z).glyphs (λ gs. gs ∷ []) (list_into (length old) z) (old ∷ [])
+      (filled_after (list_into (length old) z) old ∷ [])

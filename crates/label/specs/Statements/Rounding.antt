@@ -29,8 +29,8 @@ pub record Rounding : Type 0 where
   pub exact : (n b : ℕ) → 0 < b → nearest (n * b) b ≡ n
   -- all but the halves are as document 01 has them: a / b and a half more, rounded down, is the nearest, "a half going away from zero"
   pub others : (a b : ℕ) → 0 < b → (2 * (a % b) ≡ b → ⊥) → nearest a b ≡ (2 * a + b) / (2 * b)
-  -- "`1000000.0005` is accepted as 1,000,000,000": `number_fits` (Entry) judges the rounded size, and as the limit is even, that is within it exactly up to half
-  -- a thousandth above it, the half included
+  -- "`1000000.0005` is accepted as 1,000,000,000": `number_fits` (Entry) judges the rounded size, and as the limit is even, that is within it exactly up to
+  -- half a thousandth above it, the half included
   pub limit : (a b : ℕ) → 0 < b → (nearest a b ≤ max_thousandths) ↔ (2 * a ≤ (2 * max_thousandths + 1) * b)
   -- "an offset may have either" sign: with a plus it is that without
   pub plus_sign : (s : List ℕ) → minus s ≡ false → plus s ≡ false → offset_of (43 ∷ s) ≡ offset_of s

@@ -11,4 +11,5 @@ returns-then-is_exponent-clause-value c = code_raised _ _ _ _ _ c.byte_or_zero.e
     c.byte_or_zero-b.ensures.value c.sign_length-k.ensures.value c.digits_at-d.ensures.value
 
 pub returns-else-is_exponent-clause-value : goal.returns-else-is_exponent-clause-value
-returns-else-is_exponent-clause-value c = let a = c.args in code_unraised a.s.now a.at c.byte_or_zero.ensures.value (sym c.is_exponent.ensures ∙ c.if-is_exponent.false)
+returns-else-is_exponent-clause-value c = let a = c.args in code_unraised a.s.now a.at c.byte_or_zero.ensures.value
+    (sym c.is_exponent.ensures ∙ c.if-is_exponent.false)

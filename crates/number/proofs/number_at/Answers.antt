@@ -6,10 +6,12 @@ use Rattle.number.proofs.NumberLaws.{code_long, code_far, code_sized, mant_asked
 use Rattle.number.proofs.number_at.Goals as goal
 
 pub returns-then-m-gt-DIGITS-clause-value : goal.returns-then-m-gt-DIGITS-clause-value
-returns-then-m-gt-DIGITS-clause-value c = code_long _ _ _ c.mantissa_at-m.ensures.value _ c.exponent_at-x.ensures.value _ c.both-ok.ensures c.if-m-gt-DIGITS.true
+returns-then-m-gt-DIGITS-clause-value c = code_long _ _ _ c.mantissa_at-m.ensures.value _ c.exponent_at-x.ensures.value _ c.both-ok.ensures
+    c.if-m-gt-DIGITS.true
 
 pub returns-then-x-gt-EXPONENT_DIGITS-clause-value : goal.returns-then-x-gt-EXPONENT_DIGITS-clause-value
-returns-then-x-gt-EXPONENT_DIGITS-clause-value c = code_far _ _ _ c.mantissa_at-m.ensures.value _ c.exponent_at-x.ensures.value _ c.both-ok.ensures c.if-m-gt-DIGITS.false
+returns-then-x-gt-EXPONENT_DIGITS-clause-value c = code_far _ _ _ c.mantissa_at-m.ensures.value _ c.exponent_at-x.ensures.value _ c.both-ok.ensures
+    c.if-m-gt-DIGITS.false
     c.if-x-gt-EXPONENT_DIGITS.true
 
 pub to_thousandths-size-requires : goal.to_thousandths-size-requires

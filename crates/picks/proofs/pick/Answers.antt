@@ -20,7 +20,8 @@ returns-then-not-is_sound c = let a = c.args in
     c.is_sound.ensures (ap not c.if-not-is_sound.true)
 
 pub returns-then-not-both : goal.returns-then-not-both
-returns-then-not-both c = ap pick_outcome c.refused-then-not-both.ensures ∙ refuses_22 _ _ _ _ _ _ (asked (goal.at.returns-then-not-both c).After-both) (ap not c.if-not-both.true)
+returns-then-not-both c = ap pick_outcome c.refused-then-not-both.ensures
+    ∙ refuses_22 _ _ _ _ _ _ (asked (goal.at.returns-then-not-both c).After-both) (ap not c.if-not-both.true)
 
 pub touched_by-requires : goal.touched_by-requires
 touched_by-requires c = within_limits _ _ _ _ _ _ (asked (goal.at.touched_by-requires c).After-both) (ap not c.if-not-both.false)

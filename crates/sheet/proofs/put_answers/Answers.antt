@@ -33,7 +33,11 @@ pub overflow_add-k : goal.overflow_add-k
 overflow_add-k c = record { fits = omega (arith, room (goal.at.overflow_add-k c).After-answer_to-a (found (goal.at.overflow_add-k c).In-Whole)) }
 
 pub put_number-requires-in-Whole : goal.put_number-requires-in-Whole
-put_number-requires-in-Whole c = omega (arith, room (goal.at.put_number-requires-in-Whole c).After-answer_to-a (found (goal.at.put_number-requires-in-Whole c).In-Whole), c.put_number.auto.out)
+put_number-requires-in-Whole c = omega (
+  arith,
+  room (goal.at.put_number-requires-in-Whole c).After-answer_to-a (found (goal.at.put_number-requires-in-Whole c).In-Whole),
+  c.put_number.auto.out,
+)
 
 pub overflow_add-k-in-Whole : goal.overflow_add-k-in-Whole
 overflow_add-k-in-Whole c =

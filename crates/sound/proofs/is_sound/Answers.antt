@@ -27,7 +27,8 @@ pub returns-then-not-both : goal.returns-then-not-both
 returns-then-not-both c = not_limited _ _ _ (tested (goal.at.returns-then-not-both c).After-both) (ap not c.if-not-both.true)
 
 pub returns-then-not-proper_units : goal.returns-then-not-proper_units
-returns-then-not-proper_units c = not_proper _ _ _ (tested (goal.at.returns-then-not-proper_units c).After-both) (ap not c.if-not-both.false) c.proper_units.ensures (ap not c.if-not-proper_units.true)
+returns-then-not-proper_units c = not_proper _ _ _ (tested (goal.at.returns-then-not-proper_units c).After-both) (ap not c.if-not-both.false)
+    c.proper_units.ensures (ap not c.if-not-proper_units.true)
 
 pub returns : goal.returns
 returns c = c.well_run.ensures

@@ -67,7 +67,8 @@ pub returns-then-not-glyph_ok : goal.returns-then-not-glyph_ok
 returns-then-not-glyph_ok c = turn_not_ok (turn (goal.at.returns-then-not-glyph_ok c).After-number_at-v) c.glyph_ok.ensures (ap not c.if-not-glyph_ok.true)
 
 pub returns-then-not-named : goal.returns-then-not-named
-returns-then-not-named c = turn_not_named (turn (goal.at.returns-then-not-named c).After-number_at-v) c.glyph_ok.ensures (ap not c.if-not-glyph_ok.false) c.is_natural-named.ensures c.if-lack-gt0.true
+returns-then-not-named c = turn_not_named (turn (goal.at.returns-then-not-named c).After-number_at-v) c.glyph_ok.ensures (ap not c.if-not-glyph_ok.false)
+    c.is_natural-named.ensures c.if-lack-gt0.true
     (ap not c.if-not-named.true)
 
 pub loop-k-preserved-then-lack-gt0 : goal.loop-k-preserved-then-lack-gt0
@@ -80,14 +81,17 @@ loop-k-preserved-then-lack-gt0 c = let t = turn (goal.at.loop-k-preserved-then-l
 )
 
 pub returns-then-counts-i-lt2 : goal.returns-then-counts-i-lt2
-returns-then-counts-i-lt2 c = turn_no_cluster (turn (goal.at.returns-then-counts-i-lt2 c).After-number_at-v) c.glyph_ok.ensures (omega (arith, c.if-lack-gt0.false))
+returns-then-counts-i-lt2 c = turn_no_cluster (turn (goal.at.returns-then-counts-i-lt2 c).After-number_at-v) c.glyph_ok.ensures
+    (omega (arith, c.if-lack-gt0.false))
     (omega (arith, c.if-counts-i-lt2.true, c.number_count-counts.ensures.value))
 
 pub returns-then-not-both : goal.returns-then-not-both
-returns-then-not-both c = turn_not_opened (opened (goal.at.returns-then-not-both c).After-both (turn (goal.at.returns-then-not-both c).After-number_at-v) (numbers (goal.at.returns-then-not-both c).After-number_at-y)) (ap not c.if-not-both.true)
+returns-then-not-both c = turn_not_opened (opened (goal.at.returns-then-not-both c).After-both (turn (goal.at.returns-then-not-both c).After-number_at-v)
+    (numbers (goal.at.returns-then-not-both c).After-number_at-y)) (ap not c.if-not-both.true)
 
 pub loop-k-preserved : goal.loop-k-preserved
-loop-k-preserved c = let o = opened (goal.at.loop-k-preserved c).After-both (turn (goal.at.loop-k-preserved c).After-number_at-v) (numbers (goal.at.loop-k-preserved c).After-number_at-y) in
+loop-k-preserved c = let o = opened (goal.at.loop-k-preserved c).After-both (turn (goal.at.loop-k-preserved c).After-number_at-v)
+    (numbers (goal.at.loop-k-preserved c).After-number_at-y) in
     let w = turn_within o (ap not c.if-not-both.false) (omega (arith, c.unit_count-units.ensures.value, c.loop-k.invariant.0)) in (
       omega (arith, w, c.unit_count-units.ensures.value),
       omega (arith, c.if-counts-i-lt2.false),

@@ -12,7 +12,8 @@ use borrow.Author.Rules.{rules}
 use Rattle.sound.proofs.well_run.Given as goal
 
 abbrev pub invariant-loop-k : goal.invariant-loop-k
-invariant-loop-k l = (l.at ≤ l.units) × (l.i ≤ l.counts) × (l.k ≤ l.numbers) × (well_run (halves l.us) (words l.cs) (words l.gs) ≡ well_at l.bare (halves l.us) (words l.cs) (words l.gs) l.tail l.lack l.at l.i l.k)
+invariant-loop-k l = (l.at ≤ l.units) × (l.i ≤ l.counts) × (l.k ≤ l.numbers) × (well_run (halves l.us) (words l.cs) (words l.gs) ≡ well_at l.bare (halves l.us)
+    (words l.cs) (words l.gs) l.tail l.lack l.at l.i l.k)
 
 abbrev pub decreases-loop-k : goal.decreases-loop-k
 decreases-loop-k l = l.numbers - l.k

@@ -25,7 +25,8 @@ taken c =
     c.survey_entry.ensures _ _ c.in-Took.is
 
 pub returns-then-both-clause-result_value : goal.returns-then-both-clause-result_value
-returns-then-both-clause-result_value c = let us = units_from c.args.text.now c.args.start in run_nothing us _ _ c.refused.ensures (sym (nothing_is us c.args.indices.now _ _ c.both.ensures c.requires.bounds.0)
+returns-then-both-clause-result_value c = let us = units_from c.args.text.now c.args.start in run_nothing us _ _ c.refused.ensures
+    (sym (nothing_is us c.args.indices.now _ _ c.both.ensures c.requires.bounds.0)
     ∙ c.if-both.true)
 
 pub loop-c-init : goal.loop-c-init
@@ -59,7 +60,8 @@ survey_entry-requires-clause-bounds c = let l = c.loop-c in
     )
 
 pub overflow_add-rounded_sum : goal.overflow_add-rounded_sum
-overflow_add-rounded_sum c = let w = (taken (goal.at.overflow_add-rounded_sum c).In-Took).0 in record { fits = omega (arith, rounding_few _ _ _ w.rounds w.ready.few_bytes) }
+overflow_add-rounded_sum c = let w = (taken (goal.at.overflow_add-rounded_sum c).In-Took).0 in
+    record { fits = omega (arith, rounding_few _ _ _ w.rounds w.ready.few_bytes) }
 
 pub loop-c-smaller : goal.loop-c-smaller
 loop-c-smaller c = let w = taken (goal.at.loop-c-smaller c).In-Took in omega (arith, w.1, w.0.ready.place)
@@ -95,7 +97,8 @@ survey_tail-requires-clause-bounds c = let us = units_from c.args.text.now c.arg
 pub returns-clause-result_value : goal.returns-clause-result_value
 returns-clause-result_value c = let us = units_from c.args.text.now c.args.start in
     let l = c.loop-c.invariant in
-    let e = rounding_end _ _ _ l.rounds c.loop-c-test.false in c.survey_tail.ensures.result_value ∙ run_tail us c.args.indices.now _ c.requires.bounds.0 _ _ c.loop-c.c _ l.stands l.ready l.at
+    let e = rounding_end _ _ _ l.rounds c.loop-c-test.false in c.survey_tail.ensures.result_value
+    ∙ run_tail us c.args.indices.now _ c.requires.bounds.0 _ _ c.loop-c.c _ l.stands l.ready l.at
     c.loop-c-test.false c.if-c-ne0.false l.some
 
 pub returns-clause-rounded : goal.returns-clause-rounded

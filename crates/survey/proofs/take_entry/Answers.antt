@@ -28,11 +28,15 @@ pub returns-then-not-both-clause-turns : goal.returns-then-not-both-clause-turns
 returns-then-not-both-clause-turns c = turn_ten _ _ _ _ _ c.stopped.ensures (sym c.both.ensures ∙ c.if-not-both.true)
 
 pub returns-then-not-either-clause-turns : goal.returns-then-not-either-clause-turns
-returns-then-not-either-clause-turns c = turn_eleven _ _ _ _ _ c.stopped-then-not-either.ensures (enough (goal.at.returns-then-not-either-clause-turns c).Else-not-both) (sym (allowed (goal.at.returns-then-not-either-clause-turns c).After-either) ∙ c.if-not-either.true)
+returns-then-not-either-clause-turns c = turn_eleven _ _ _ _ _ c.stopped-then-not-either.ensures
+    (enough (goal.at.returns-then-not-either-clause-turns c).Else-not-both)
+    (sym (allowed (goal.at.returns-then-not-either-clause-turns c).After-either) ∙ c.if-not-either.true)
 
 pub returns-then-opens-clause-turns : goal.returns-then-opens-clause-turns
-returns-then-opens-clause-turns c = turn_opens _ _ _ _ _ c.open_cluster.ensures.opens (enough (goal.at.returns-then-opens-clause-turns c).Else-not-both) (sym c.opens_here-opens.ensures ∙ c.if-opens.true)
+returns-then-opens-clause-turns c = turn_opens _ _ _ _ _ c.open_cluster.ensures.opens (enough (goal.at.returns-then-opens-clause-turns c).Else-not-both)
+    (sym c.opens_here-opens.ensures ∙ c.if-opens.true)
 
 pub returns-clause-turns : goal.returns-clause-turns
-returns-clause-turns c = turn_further _ _ _ _ _ _ c.advance.ensures c.requires.text_value (enough (goal.at.returns-clause-turns c).Else-not-both) (sym (allowed (goal.at.returns-clause-turns c).After-either) ∙ c.if-not-either.false)
+returns-clause-turns c = turn_further _ _ _ _ _ _ c.advance.ensures c.requires.text_value (enough (goal.at.returns-clause-turns c).Else-not-both)
+    (sym (allowed (goal.at.returns-clause-turns c).After-either) ∙ c.if-not-either.false)
     (sym c.opens_here-opens.ensures ∙ c.if-opens.false)

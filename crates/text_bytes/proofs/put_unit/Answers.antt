@@ -13,7 +13,8 @@ returns-then-is_low-clause-put c = put_as (unit_low c.args.u c.args.v c.is_low.e
 
 pub returns-then-is_high-clause-put : goal.returns-then-is_high-clause-put
 returns-then-is_high-clause-put c = let a = c.args in
-    let p : c.pair_of.result ≡ paired a.u a.v = c.pair_of.ensures.0 in put_as (unit_high a.u a.v c.is_low.ensures c.if-is_low.false c.is_high.ensures c.if-is_high.true p)
+    let p : c.pair_of.result ≡ paired a.u a.v = c.pair_of.ensures.0 in put_as
+    (unit_high a.u a.v c.is_low.ensures c.if-is_low.false c.is_high.ensures c.if-is_high.true p)
     c.put_utf8.ensures.put
 
 pub returns-clause-put : goal.returns-clause-put

@@ -12,7 +12,8 @@ use borrow.Author.Rules.{rules}
 use Rattle.text_bytes.proofs.put_units.Given as goal
 
 abbrev pub invariant-loop-i : goal.invariant-loop-i
-invariant-loop-i l = Left l.initial.out (as_asked l.escape (units_bytes (halves l.us))) l.out l.from l.at (as_asked l.escape (units_bytes (drop l.i (halves l.us)))) × (l.at ≤ l.from + 6 * l.i)
+invariant-loop-i l = Left l.initial.out (as_asked l.escape (units_bytes (halves l.us))) l.out l.from l.at
+    (as_asked l.escape (units_bytes (drop l.i (halves l.us)))) × (l.at ≤ l.from + 6 * l.i)
 
 abbrev pub decreases-loop-i : goal.decreases-loop-i
 decreases-loop-i l = l.count - l.i

@@ -13,7 +13,8 @@ use borrow.Author.Rules.{rules}
 use Rattle.text_bytes.proofs.text_length.Given as goal
 
 abbrev pub invariant-loop-i : goal.invariant-loop-i
-invariant-loop-i l = (l.n ≤ 2 + 6 * l.i) × (l.n + length (as_asked l.escape (units_bytes (drop l.i (halves l.us)))) ≡ length (as_asked l.escape (text_of (halves l.us))))
+invariant-loop-i l = (l.n ≤ 2 + 6 * l.i) × (l.n + length (as_asked l.escape (units_bytes (drop l.i (halves l.us)))) ≡ length
+    (as_asked l.escape (text_of (halves l.us))))
 
 abbrev pub decreases-loop-i : goal.decreases-loop-i
 decreases-loop-i l = l.count - l.i

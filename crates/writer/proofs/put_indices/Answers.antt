@@ -38,7 +38,8 @@ loop-k-preserved c = let a = c.args in
     (c.nat-a.ensures.value ∙ ap nat_of c.number_at.ensures) (c.nat-b.ensures.value ∙ ap nat_of c.number_at-in-loop-k.ensures) d
     (omega (arith, c.number_count-numbers.ensures.value, c.loop-k-test.true)) (omega arith)
     (omega (arith, c.number_count-counts.ensures.value, c.if-counts-i-lt2.false)) in
-    let w = entry_stored _ l.k _ _ e (l.invariant.0, l.invariant.1) (c.put_next-p-in-loop-k.ensures.put, c.put_next-p-in-loop-k.ensures.bounds) c.owes-owed-in-loop-k.ensures.value in
+    let w = entry_stored _ l.k _ _ e (l.invariant.0, l.invariant.1) (c.put_next-p-in-loop-k.ensures.put, c.put_next-p-in-loop-k.ensures.bounds)
+    c.owes-owed-in-loop-k.ensures.value in
     (w.0, w.1, omega arith, omega arith)
 
 pub returns : goal.returns

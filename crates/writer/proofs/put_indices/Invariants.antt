@@ -12,7 +12,8 @@ use borrow.Author.Rules.{rules}
 use Rattle.writer.proofs.put_indices.Given as goal
 
 abbrev pub invariant-loop-k : goal.invariant-loop-k
-invariant-loop-k l = Left l.initial.out (indices_of (clusters_of (words l.cs)) (glyphs_of (words l.gs))) l.out 0 l.at (owed l.owed (written_at (words l.cs) (words l.gs) l.lack l.i l.k)) × (l.at + l.owed ≤ 21 * l.k)
+invariant-loop-k l = Left l.initial.out (indices_of (clusters_of (words l.cs)) (glyphs_of (words l.gs))) l.out 0 l.at
+    (owed l.owed (written_at (words l.cs) (words l.gs) l.lack l.i l.k)) × (l.at + l.owed ≤ 21 * l.k)
     × (l.i ≤ l.counts) × (l.k ≤ l.numbers)
 
 abbrev pub decreases-loop-k : goal.decreases-loop-k

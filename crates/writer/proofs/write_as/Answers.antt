@@ -16,50 +16,28 @@ small : (c : Else-not-is_sound)
     (length (halves a.units.now) ≤ 1000000000000) × (length (words a.glyphs.now) ≤ 1000000000000))
 small c = few _ _ _ c.is_sound-is_sound.ensures (ap not c.if-not-is_sound.false)
 
-pub returns-then-not-is_sound-clause-result : goal.returns-then-not-is_sound-clause-result
-returns-then-not-is_sound-clause-result c = let a = c.args in (refuses_19 a.escape a.units.now a.clusters.now a.glyphs.now a.text.now a.indices.now c.is_sound-is_sound.ensures
-    c.refused.ensures (ap not c.if-not-is_sound.true)).0
-
-pub returns-then-not-is_sound-clause-text : goal.returns-then-not-is_sound-clause-text
-returns-then-not-is_sound-clause-text c = let a = c.args in (refuses_19 a.escape a.units.now a.clusters.now a.glyphs.now a.text.now a.indices.now c.is_sound-is_sound.ensures
-    c.refused.ensures (ap not c.if-not-is_sound.true)).1.0
-
-pub returns-then-not-is_sound-clause-indices : goal.returns-then-not-is_sound-clause-indices
-returns-then-not-is_sound-clause-indices c = let a = c.args in (refuses_19 a.escape a.units.now a.clusters.now a.glyphs.now a.text.now a.indices.now c.is_sound-is_sound.ensures
-    c.refused.ensures (ap not c.if-not-is_sound.true)).1.1
+pub returns-then-not-is_sound : goal.returns-then-not-is_sound
+returns-then-not-is_sound c = let a = c.args in
+    refuses_19 a.escape a.units.now a.clusters.now a.glyphs.now a.text.now a.indices.now c.is_sound-is_sound.ensures
+    c.refused.ensures (ap not c.if-not-is_sound.true)
 
 pub text_length-text_bytes-requires : goal.text_length-text_bytes-requires
 text_length-text_bytes-requires c = (small (goal.at.text_length-text_bytes-requires c).Else-not-is_sound).0
 
-pub returns-then-text-text_bytes-clause-result : goal.returns-then-text-text_bytes-clause-result
-returns-then-text-text_bytes-clause-result c = let a = c.args in (refuses_20 a.escape a.units.now a.clusters.now a.glyphs.now a.text.now a.indices.now c.is_sound-is_sound.ensures
-    (ap not c.if-not-is_sound.false) c.text_length-text_bytes.ensures c.refused-then-text-text_bytes.ensures c.if-text-text_bytes.true).0
-
-pub returns-then-text-text_bytes-clause-text : goal.returns-then-text-text_bytes-clause-text
-returns-then-text-text_bytes-clause-text c = let a = c.args in (refuses_20 a.escape a.units.now a.clusters.now a.glyphs.now a.text.now a.indices.now c.is_sound-is_sound.ensures
-    (ap not c.if-not-is_sound.false) c.text_length-text_bytes.ensures c.refused-then-text-text_bytes.ensures c.if-text-text_bytes.true).1.0
-
-pub returns-then-text-text_bytes-clause-indices : goal.returns-then-text-text_bytes-clause-indices
-returns-then-text-text_bytes-clause-indices c = let a = c.args in (refuses_20 a.escape a.units.now a.clusters.now a.glyphs.now a.text.now a.indices.now c.is_sound-is_sound.ensures
-    (ap not c.if-not-is_sound.false) c.text_length-text_bytes.ensures c.refused-then-text-text_bytes.ensures c.if-text-text_bytes.true).1.1
+pub returns-then-text-text_bytes : goal.returns-then-text-text_bytes
+returns-then-text-text_bytes c = let a = c.args in
+    refuses_20 a.escape a.units.now a.clusters.now a.glyphs.now a.text.now a.indices.now c.is_sound-is_sound.ensures
+    (ap not c.if-not-is_sound.false) c.text_length-text_bytes.ensures c.refused-then-text-text_bytes.ensures c.if-text-text_bytes.true
 
 pub indices_length-indices_bytes-requires : goal.indices_length-indices_bytes-requires
 indices_length-indices_bytes-requires c = (small (goal.at.indices_length-indices_bytes-requires c).Else-not-is_sound).1
 
-pub returns-then-indices-indices_bytes-clause-result : goal.returns-then-indices-indices_bytes-clause-result
-returns-then-indices-indices_bytes-clause-result c = let a = c.args in (refuses_21 a.escape a.units.now a.clusters.now a.glyphs.now a.text.now a.indices.now c.is_sound-is_sound.ensures
-    (ap not c.if-not-is_sound.false) c.text_length-text_bytes.ensures c.if-text-text_bytes.false c.indices_length-indices_bytes.ensures c.refused-then-indices-indices_bytes.ensures
-    c.if-indices-indices_bytes.true).0
-
-pub returns-then-indices-indices_bytes-clause-text : goal.returns-then-indices-indices_bytes-clause-text
-returns-then-indices-indices_bytes-clause-text c = let a = c.args in (refuses_21 a.escape a.units.now a.clusters.now a.glyphs.now a.text.now a.indices.now c.is_sound-is_sound.ensures
-    (ap not c.if-not-is_sound.false) c.text_length-text_bytes.ensures c.if-text-text_bytes.false c.indices_length-indices_bytes.ensures c.refused-then-indices-indices_bytes.ensures
-    c.if-indices-indices_bytes.true).1.0
-
-pub returns-then-indices-indices_bytes-clause-indices : goal.returns-then-indices-indices_bytes-clause-indices
-returns-then-indices-indices_bytes-clause-indices c = let a = c.args in (refuses_21 a.escape a.units.now a.clusters.now a.glyphs.now a.text.now a.indices.now c.is_sound-is_sound.ensures
-    (ap not c.if-not-is_sound.false) c.text_length-text_bytes.ensures c.if-text-text_bytes.false c.indices_length-indices_bytes.ensures c.refused-then-indices-indices_bytes.ensures
-    c.if-indices-indices_bytes.true).1.1
+pub returns-then-indices-indices_bytes : goal.returns-then-indices-indices_bytes
+returns-then-indices-indices_bytes c = let a = c.args in
+    refuses_21 a.escape a.units.now a.clusters.now a.glyphs.now a.text.now a.indices.now c.is_sound-is_sound.ensures
+    (ap not c.if-not-is_sound.false) c.text_length-text_bytes.ensures c.if-text-text_bytes.false c.indices_length-indices_bytes.ensures
+    c.refused-then-indices-indices_bytes.ensures
+    c.if-indices-indices_bytes.true
 
 pub put_text-requires : goal.put_text-requires
 put_text-requires c = (small (goal.at.put_text-requires c).Else-not-is_sound).0
@@ -67,17 +45,8 @@ put_text-requires c = (small (goal.at.put_text-requires c).Else-not-is_sound).0
 pub put_indices-requires : goal.put_indices-requires
 put_indices-requires c = (small (goal.at.put_indices-requires c).Else-not-is_sound).1
 
-pub returns-clause-result : goal.returns-clause-result
-returns-clause-result c = let a = c.args in (writes a.escape a.units.now a.clusters.now a.glyphs.now a.text.now a.indices.now c.is_sound-is_sound.ensures
-    (ap not c.if-not-is_sound.false) c.text_length-text_bytes.ensures c.if-text-text_bytes.false c.indices_length-indices_bytes.ensures c.if-indices-indices_bytes.false
-    c.put_text.ensures c.put_indices.ensures).0
-
-pub returns-clause-text : goal.returns-clause-text
-returns-clause-text c = let a = c.args in (writes a.escape a.units.now a.clusters.now a.glyphs.now a.text.now a.indices.now c.is_sound-is_sound.ensures
-    (ap not c.if-not-is_sound.false) c.text_length-text_bytes.ensures c.if-text-text_bytes.false c.indices_length-indices_bytes.ensures c.if-indices-indices_bytes.false
-    c.put_text.ensures c.put_indices.ensures).1.0
-
-pub returns-clause-indices : goal.returns-clause-indices
-returns-clause-indices c = let a = c.args in (writes a.escape a.units.now a.clusters.now a.glyphs.now a.text.now a.indices.now c.is_sound-is_sound.ensures
-    (ap not c.if-not-is_sound.false) c.text_length-text_bytes.ensures c.if-text-text_bytes.false c.indices_length-indices_bytes.ensures c.if-indices-indices_bytes.false
-    c.put_text.ensures c.put_indices.ensures).1.1
+pub returns : goal.returns
+returns c = let a = c.args in writes a.escape a.units.now a.clusters.now a.glyphs.now a.text.now a.indices.now c.is_sound-is_sound.ensures
+    (ap not c.if-not-is_sound.false) c.text_length-text_bytes.ensures c.if-text-text_bytes.false c.indices_length-indices_bytes.ensures
+    c.if-indices-indices_bytes.false
+    c.put_text.ensures c.put_indices.ensures
