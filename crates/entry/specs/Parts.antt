@@ -2,7 +2,7 @@
 -- Assumes nothing.
 use Rattle.std.specs.Prelude.{Bool, true, false, cond, not, ◌&&◌, ◌||◌, List, ℕ, ◌+◌, min, length, drop, get_or, leb, ltb, eqb, ℤ, pos, neg_ℤ}
 use Rattle.label.specs.Limits.{max_index}
-use Rattle.label.specs.Outcome.{Outcome, ok, ◌>>=◌, ◌>>◌, need}
+use Rattle.label.specs.Outcome.{Outcome, ok, ◌>>◌, need}
 use Rattle.label.specs.Bytes.{value}
 use Rattle.label.specs.Entry.{Entry}
 use Rattle.label.specs.declared.Index.{Index}

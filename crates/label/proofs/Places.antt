@@ -1,18 +1,16 @@
 -- Places that are handed in: those of a run name the run, as numbers go to bytes and back, and the soundness test says exactly that some accepted label
 -- reads as them (`read_sound`, `read_back`).
 -- Assumes nothing.
-use Prim.Native.Nat.{ℕ, ◌+◌}
+use Prim.Native.Nat.{◌+◌}
 use native.Mathlib.Omega.{arith}
-use mathlib.Core.Path.{◌≡◌, refl, sym, ◌∙◌, ap}
+use mathlib.Core.Path.{◌≡◌}
 use mathlib.Core.Bool.{true, ◌&&◌}
-use mathlib.Core.List.{List}
 use lib.ListN.{length}
 use Rattle.label.specs.Bytes.{empty}
 use Rattle.label.specs.Run.{Run}
-use Rattle.label.specs.Wire.{from_halves, from_words}
-use Rattle.label.specs.Fetched.{halves, words, even_bytes, word_bytes}
-use Rattle.label.specs.Places.{flat_clusters, flat_glyphs, Places, places, places_of, Readable}
-use Rattle.label.specs.Sound.{whole_clusters, whole_glyphs, clusters_of, glyphs_of, sound_run, run_of, no_left_over, sound}
+use Rattle.label.specs.Fetched.{words, even_bytes, word_bytes}
+use Rattle.label.specs.Places.{flat_clusters, flat_glyphs, Places, places_of, Readable}
+use Rattle.label.specs.Sound.{whole_clusters, whole_glyphs, sound_run, run_of, sound}
 use Rattle.label.specs.Write.{normal}
 use Rattle.label.specs.Statements.Demands.{unit_counts, glyph_counts, all_bytes, in_bytes}
 use Rattle.label.proofs.Basics.{and_l, and_r}

@@ -17,7 +17,7 @@ use Rattle.label.specs.Text.{starts_char, following, code_point, xml_char, is_hi
 use Rattle.label.specs.Entry.{minus, unsigned, mantissa_digits, exponent_digits, thousandths, number_fits, entry_part, has_map, at_parenthesis, at_colon, is_index_part, index_digits, map_units, map_glyphs, is_advance, is_offset, well_formed, field_fits, index_of, advance_of, offset_of, Entry, entry_of, entries}
 use Rattle.label.specs.Run.{Run, Parts, named, font_glyph, cluster, add_glyph, keeps_pair, tail, State, start_state, opens, takes, allowed, next}
 use Rattle.label.specs.Checks.{read}
-use Rattle.label.specs.Steps.{decode, text_units, entry, walk, run_from}
+use Rattle.label.specs.Steps.{decode, text_units, entry, walk}
 use Rattle.label.specs.Sound.{proper_units, size, index_fits, advance_fits, glyph_fits, all_font, may_open, fits, sound_run}
 use Rattle.label.specs.Write.{text_of, indices_by, written_label}
 use Rattle.label.specs.declared.Glyph.{Glyph}

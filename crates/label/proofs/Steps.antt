@@ -4,15 +4,14 @@
 use Prim.Native.Nat.{ℕ, zero, suc, ◌+◌, ◌*◌, ◌-◌}
 use native.Mathlib.Omega.{arith}
 use mathlib.Core.Path.{◌≡◌, refl, sym, ◌∙◌, ap}
-use mathlib.Core.Bool.{Bool, true, false, cond, not, ◌&&◌, ◌||◌, false≢true}
+use mathlib.Core.Bool.{Bool, true, false, cond, not, ◌&&◌, ◌||◌}
 use mathlib.Core.List.{List, [], ◌∷◌, ◌++◌}
 use borrow.Author.Tests.{le-leb}
 use lib.Dec.{leb, eqb, eqb-suc-zero}
 use lib.IntN.{ℤ}
 use lib.ListN.{length, drop}
 use Rattle.label.specs.Limits.{max_text_bytes, max_indices_bytes, max_units, max_glyphs, max_index, max_line_bytes}
-use Rattle.label.specs.Outcome.{Outcome, ok, no, ◌>>=◌, ◌>>◌, need, Check, check, above, verdict}
-use Rattle.label.specs.Statements.Memory.{refuses, GivenBy}
+use Rattle.label.specs.Outcome.{Outcome, ok, no, ◌>>=◌, ◌>>◌, need, Check, check, verdict}
 use Rattle.label.specs.Bytes.{begins, empty, value, each, Piece, pieces, each_numbered}
 use Rattle.label.specs.Text.{starts_char, following, code_point, xml_char, units_of, braced, marked, unmarked, characters, char_units, lent_units, said_units}
 use Rattle.label.specs.Entry.{entry_part, index_digits, well_formed, field_fits, Entry, entry_of, entries}
@@ -21,7 +20,6 @@ use Rattle.label.specs.Checks.{char_checks, text_checks, entry_checks, place_che
 use Rattle.label.specs.Steps.{decode, text_units, entry, placed, step, walk, run_from, resolve_from, resolve, labels_from}
 use Rattle.label.specs.Places.{Places}
 use Rattle.label.specs.Sound.{run_of, sound}
-use Rattle.label.specs.Pick.{sound_checks}
 use Rattle.label.specs.Write.{Label}
 use Rattle.label.specs.Pick.{touched, turned, inside, pick_checks, pick_units, pick_glyphs}
 use Rattle.label.specs.Relabel.{relabel_read}

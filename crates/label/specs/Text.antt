@@ -1,6 +1,6 @@
 -- "The text": UTF-8 by the rows of Unicode's Table 3-7, XML 1.0's Char, `{}`, and UTF-16 code units.
 -- Assumes nothing.
-use Rattle.std.specs.Prelude.{ℕ, zero, suc, ◌+◌, ◌*◌, ◌-◌, ◌/◌, ◌%◌, Bool, true, false, cond, not, ◌&&◌, ◌||◌, List, [], ◌∷◌, ◌++◌, leb, eqb, length, get_or, drop}
+use Rattle.std.specs.Prelude.{ℕ, zero, suc, ◌+◌, ◌*◌, ◌-◌, ◌/◌, ◌%◌, Bool, true, false, cond, not, ◌&&◌, ◌||◌, List, [], ◌∷◌, leb, eqb, length, get_or, drop}
 use Rattle.label.specs.Bytes.{empty, each, Piece, pieces}
 
 -- lo ≤ b ≤ hi

@@ -22,7 +22,7 @@ use Rattle.utf8.proofs.Rows.{starts_one}
 use Rattle.text.proofs.Counts.{one_is}
 use Rattle.text.specs.Texts.{text_count, units_start, units_read, text_read, units_within}
 use Rattle.text.specs.declared.Counted.TheVariants as C
-use Rattle.text.specs.declared.TextRead.TheVariants.{Units, Refused}
+use Rattle.text.specs.declared.TextRead.TheVariants.{Refused}
 
 -- ── a character's number and its first byte ──
 

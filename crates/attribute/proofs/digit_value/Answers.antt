@@ -1,6 +1,5 @@
 -- `attribute::digit_value`: each range is one law of a digit, and a byte outside all three is none. Assumes nothing.
 use Rattle.attribute.proofs.Digits.{digit_ten, digit_capital, digit_small, digit_none}
-use native.Mathlib.Omega.{arith}
 use borrow.Author.Rules.{rules}
 use Rattle.attribute.proofs.digit_value.Goals as goal
 

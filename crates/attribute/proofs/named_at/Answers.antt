@@ -4,7 +4,6 @@ use Rattle.attribute.proofs.Names.{hit, missed, names}
 use Rattle.label.specs.Bytes.{ascii}
 use Rattle.label.specs.Text.{xml_char}
 use mathlib.Core.Path.{refl}
-use borrow.Author.Rules.{rules}
 use Rattle.attribute.proofs.named_at.Goals as goal
 
 pub returns-then-stands_at : goal.returns-then-stands_at

@@ -1,10 +1,8 @@
 -- `attribute::number_at`: the loop keeps that the digits left, read behind n, give what all digits from `at` give, when cut (`Scanned`); start, turn and both
 -- returns are laws of Digits. Assumes nothing.
-use Rattle.attribute.proofs.Digits.{Scanned, scan_start, scan_step, scan_other, scan_end}
+use Rattle.attribute.proofs.Digits.{Scanned}
 use lib.ListN.{length}
 use Prim.Native.Nat.{◌-◌}
-use borrow.Author.Rules.{rules}
-use native.Mathlib.Omega.{arith}
 use Rattle.attribute.proofs.number_at.Given as goal
 
 abbrev pub invariant-loop-i : goal.invariant-loop-i

@@ -1,8 +1,6 @@
 -- `attribute::numbered_at`: each return is one law of Digits: no `;` behind the digits (`number_open`), a value that is no character (`number_outside`), a
 -- character (`number_good`). Assumes nothing.
 use Rattle.attribute.proofs.Digits.{number_open, number_outside, number_good}
-use borrow.Author.Tests.{not-true, not-false}
-use borrow.Author.Rules.{rules}
 use Rattle.attribute.proofs.numbered_at.Goals as goal
 
 pub returns-then-byte_or_zero-ne59 : goal.returns-then-byte_or_zero-ne59

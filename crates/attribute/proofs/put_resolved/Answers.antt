@@ -1,9 +1,6 @@
 -- `attribute::put_resolved`: the loop keeps that what came out, before what the rest resolves to, is what the raw value resolves to (`Reached`); every turn and
 -- return is one law of Storing. Assumes nothing.
-use Rattle.attribute.proofs.Storing.{Reached, reached_start, reached_end, raw_bad, plain, bad_reference, small, ahead, reference}
-use lib.ListN.{length}
-use Prim.Native.Nat.{◌-◌}
-use borrow.Author.Rules.{rules}
+use Rattle.attribute.proofs.Storing.{reached_start, reached_end, raw_bad, plain, bad_reference, small, ahead, reference}
 use native.Mathlib.Omega.{arith}
 use Rattle.attribute.proofs.put_resolved.Goals as goal
 

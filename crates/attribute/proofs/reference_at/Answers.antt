@@ -2,7 +2,6 @@
 -- `by_sixteen` behind `#x`. Assumes nothing.
 use Rattle.attribute.proofs.Joins.{by_name, by_ten, by_sixteen}
 use mathlib.Core.Path.{◌∙◌}
-use borrow.Author.Rules.{rules}
 use Rattle.attribute.proofs.reference_at.Goals as goal
 
 pub returns-then-byte_or_zero-ne35 : goal.returns-then-byte_or_zero-ne35

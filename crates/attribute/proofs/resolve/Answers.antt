@@ -1,7 +1,6 @@
 -- `attribute::resolve`: each return is one law of Answers about what the first pass answered: `refuses_23`, `refuses_24`, and `resolves`, which also takes what
 -- the second pass stored. Assumes nothing.
 use Rattle.attribute.proofs.Answers.{refuses_23, refuses_24, resolves}
-use borrow.Author.Rules.{rules}
 use Rattle.attribute.proofs.resolve.Goals as goal
 
 pub returns-then-out-n : goal.returns-then-out-n

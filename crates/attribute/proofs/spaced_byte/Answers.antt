@@ -4,7 +4,6 @@ use Rattle.label.specs.Requests.Attribute.{spaced}
 use lib.Dec.{eqb}
 use mathlib.Core.Bool.{Bool, ◌||◌}
 use mathlib.Core.Path.{sym, ◌∙◌, ap}
-use borrow.Author.Rules.{rules}
 use Rattle.attribute.proofs.spaced_byte.Goals as goal
 
 pub returns-then-either : goal.returns-then-either

@@ -3,8 +3,6 @@
 use Rattle.attribute.specs.Stores.{width_at}
 use mathlib.Core.Path.{sym, ◌∙◌}
 use borrow.Author.Tests.{eq-eqb, ne_eqb}
-use native.Mathlib.Omega.{arith}
-use borrow.Author.Rules.{rules}
 use Rattle.attribute.proofs.width_at.Goals as goal
 
 pub returns-then-s-at-ne13-clause-value : goal.returns-then-s-at-ne13-clause-value

@@ -1,8 +1,6 @@
 -- `entry::field_at`: each return is one law of EntryLaws over what the calls ensure: no comma is `code_absent`, a comma with nothing behind it `code_empty`, a
 -- number `code_given`; bounds are arithmetic. Assumes nothing.
 use mathlib.Core.Path.{sym, ◌∙◌}
-use native.Mathlib.Omega.{arith}
-use borrow.Author.Rules.{rules}
 use Rattle.entry.proofs.EntryLaws.{code_absent, code_empty, code_given}
 use Rattle.entry.proofs.field_at.Goals as goal
 

@@ -1,7 +1,5 @@
 -- `entry::front_of`: one law: `code_front` of EntryLaws puts together what map, digits and the two flags ensure; the bound is arithmetic, every other need is
 -- closed by search. Assumes nothing.
-use native.Mathlib.Omega.{arith}
-use borrow.Author.Rules.{rules}
 use Rattle.entry.proofs.EntryLaws.{code_front}
 use Rattle.entry.proofs.front_of.Goals as goal
 

@@ -1,7 +1,6 @@
 -- `entry::index_digits`: behind a map search closes the return; without one `map_unused` of EntryLaws says that the map has no bytes, and rewriting by it makes
 -- `first` the digits asked for. Assumes nothing.
 use native.Mathlib.Omega.{arith}
-use borrow.Author.Rules.{rules}
 use Rattle.entry.proofs.EntryLaws.{map_unused}
 use Rattle.entry.proofs.index_digits.Goals as goal
 

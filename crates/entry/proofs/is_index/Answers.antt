@@ -1,6 +1,5 @@
 -- `entry::is_index`: `both_told` of EntryLaws puts the flags of the calls together as the result; `index_told` then says that, where it is true, the entry is
 -- an index alone. Assumes nothing.
-use borrow.Author.Rules.{rules}
 use Rattle.entry.proofs.EntryLaws.{both_told, index_told}
 use Rattle.entry.proofs.is_index.Goals as goal
 

@@ -1,7 +1,6 @@
 -- `entry::map_of`: each of five returns is one law of EntryLaws: `code_none`, `code_one`, `code_two`, `code_odd` or `code_open`, chosen by the bytes met;
 -- bounds are arithmetic. Assumes nothing.
 use mathlib.Core.Path.{◌∙◌}
-use native.Mathlib.Omega.{arith}
 use borrow.Author.Rules.{rules}
 use Rattle.entry.proofs.EntryLaws.{code_none, code_one, code_two, code_odd, code_open}
 use Rattle.entry.proofs.map_of.Goals as goal

@@ -1,8 +1,6 @@
 -- `entry::read_advance`: `one_chain` puts the flags together as the test for 7; each return is then one law of EntryLaws: `one_wrong`, `one_index`, `one_limit`
 -- or `one_read`. Assumes nothing.
 use mathlib.Core.Path.{◌≡◌, sym, ◌∙◌}
-use borrow.Author.Tests.{not-true, not-false}
-use borrow.Author.Rules.{rules}
 use Rattle.entry.proofs.EntryLaws.{OneWell, one_chain, one_wrong, one_index, one_limit, one_read}
 use Rattle.entry.proofs.read_advance.Goals.{After-both-ok}
 use Rattle.entry.proofs.read_advance.Goals as goal

@@ -3,8 +3,7 @@
 use mathlib.Core.Path.{◌≡◌, sym, ◌∙◌}
 use mir.Syntax.{w32}
 use mir.Facts.{to_z-of_z}
-use borrow.Author.Tests.{not-true, not-false}
-use borrow.Author.Rules.{sfits_of, rules}
+use borrow.Author.Rules.{sfits_of}
 use Rattle.entry.proofs.EntryLaws.{Well, Fit, Parted, well_chain, within_chain, code_wrong, code_index, code_limits, code_read, field_small}
 use Rattle.entry.proofs.read_fields.Goals.{After-field_at-z}
 use Rattle.entry.proofs.read_fields.Goals.{After-both-ok}

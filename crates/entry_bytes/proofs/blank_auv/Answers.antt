@@ -1,7 +1,6 @@
 -- `entry_bytes::blank_auv`: one law of WriteLaws, `blank_auv_is`, fed with what `wire::is_natural`, `blank_uv` and `plain::both` return. Assumes nothing.
 use Rattle.entry_bytes.proofs.WriteLaws.{blank_auv_is}
 use Rattle.label.specs.Fetched.{signed}
-use borrow.Author.Rules.{rules}
 use Rattle.entry_bytes.proofs.blank_auv.Goals as goal
 
 pub returns : goal.returns

@@ -1,7 +1,6 @@
 -- `entry_bytes::blank_uv`: one law of WriteLaws, `blank_uv_is`, fed with what `wire::size`, `blank_v` and `plain::both` return. Assumes nothing.
 use Rattle.entry_bytes.proofs.WriteLaws.{blank_uv_is}
 use Rattle.label.specs.Fetched.{signed}
-use borrow.Author.Rules.{rules}
 use Rattle.entry_bytes.proofs.blank_uv.Goals as goal
 
 pub returns : goal.returns

@@ -3,8 +3,6 @@
 use Rattle.entry_bytes.proofs.WriteLaws.{chosen_some, chosen_none, advance_is}
 use Rattle.octets.proofs.Puts.{none, put_as}
 use Rattle.label.specs.Fetched.{signed}
-use native.Mathlib.Omega.{arith}
-use borrow.Author.Rules.{rules}
 use Rattle.entry_bytes.proofs.put_advance.Goals as goal
 
 pub returns-then-is_natural-clause-put : goal.returns-then-is_natural-clause-put

@@ -1,8 +1,6 @@
 -- `entry_bytes::put_colon`: the test for 1 picks the branch of the `cond` (`choose_true`, `choose_false` of WriteLaws); otherwise the colon and the digits are
 -- joined by `then`. Assumes nothing.
-use native.Mathlib.Omega.{arith}
 use borrow.Author.Tests.{eq-eqb, ne_eqb}
-use borrow.Author.Rules.{rules}
 use Rattle.octets.proofs.Puts.{then, none, put_as}
 use Rattle.entry_bytes.proofs.WriteLaws.{choose_true, choose_false}
 use Rattle.entry_bytes.proofs.put_colon.Goals as goal

@@ -3,8 +3,6 @@
 use Rattle.entry_bytes.proofs.WriteLaws.{entry_is}
 use Rattle.octets.proofs.Puts.{then, put_as}
 use Rattle.label.specs.Fetched.{signed}
-use native.Mathlib.Omega.{arith}
-use borrow.Author.Rules.{rules}
 use Rattle.entry_bytes.proofs.put_entry.Goals as goal
 
 pub returns-clause-put : goal.returns-clause-put

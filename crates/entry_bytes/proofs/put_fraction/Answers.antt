@@ -1,9 +1,7 @@
 -- `entry_bytes::put_fraction`: each return is one law of WriteLaws, by how many digits are left: `frac_one`, `frac_two`, `frac_three`; the stores are joined by
 -- `then` of the octets' Puts. Assumes nothing.
-use native.Mathlib.Omega.{arith}
 use Rattle.octets.proofs.Puts.{then, put_as}
 use Rattle.entry_bytes.proofs.WriteLaws.{frac_one, frac_two, frac_three}
-use borrow.Author.Rules.{rules}
 use Rattle.entry_bytes.proofs.put_fraction.Goals as goal
 
 pub returns-then-f-eq0-clause-put : goal.returns-then-f-eq0-clause-put

@@ -1,7 +1,5 @@
 -- `entry_bytes::put_map`: the two tests decide by `map_none` or `map_some` of WriteLaws; in the latter the four stores, bracket to bracket, are joined by
 -- `then` of the octets' Puts. Assumes nothing.
-use native.Mathlib.Omega.{arith}
-use borrow.Author.Rules.{rules}
 use Rattle.octets.proofs.Puts.{then, none, put_as}
 use Rattle.entry_bytes.proofs.WriteLaws.{map_none, map_some}
 use Rattle.entry_bytes.proofs.put_map.Goals as goal

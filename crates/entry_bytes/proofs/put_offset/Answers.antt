@@ -3,8 +3,6 @@
 use Rattle.entry_bytes.proofs.WriteLaws.{offset_none, offset_plus, offset_minus}
 use Rattle.octets.proofs.Puts.{then, none, put_as}
 use Rattle.label.specs.Fetched.{signed}
-use native.Mathlib.Omega.{arith}
-use borrow.Author.Rules.{rules}
 use Rattle.entry_bytes.proofs.put_offset.Goals as goal
 
 pub returns-then-size-eq0-clause-put : goal.returns-then-size-eq0-clause-put

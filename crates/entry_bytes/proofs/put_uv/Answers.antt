@@ -3,8 +3,6 @@
 use Rattle.entry_bytes.proofs.WriteLaws.{fields_blank, fields_uv}
 use Rattle.octets.proofs.Puts.{then, none, put_as}
 use Rattle.label.specs.Fetched.{signed}
-use native.Mathlib.Omega.{arith}
-use borrow.Author.Rules.{rules}
 use Rattle.entry_bytes.proofs.put_uv.Goals as goal
 
 pub returns-then-blank_uv-clause-put : goal.returns-then-blank_uv-clause-put

@@ -1,7 +1,5 @@
 -- `entry_bytes::put_value`: whole thousands are one decimal (`value_whole`); otherwise whole part, point and fraction, joined by `then`, are the value's bytes
 -- by `value_point` of WriteLaws. Assumes nothing.
-use native.Mathlib.Omega.{arith}
-use borrow.Author.Rules.{rules}
 use Rattle.octets.proofs.Puts.{then, put_as}
 use Rattle.entry_bytes.proofs.WriteLaws.{value_whole, value_point}
 use Rattle.entry_bytes.proofs.put_value.Goals as goal

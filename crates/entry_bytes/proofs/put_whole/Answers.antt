@@ -1,10 +1,8 @@
 -- `entry_bytes::put_whole`: a zero stores nothing and any other number its digits; the test picks the branch of the `cond`, by `choose_true` and `choose_false`
 -- of WriteLaws. Assumes nothing.
-use native.Mathlib.Omega.{arith}
-use borrow.Author.Tests.{eq-eqb, ne_eqb}
-use borrow.Author.Rules.{rules}
+use borrow.Author.Tests.{eq-eqb}
 use Rattle.octets.proofs.Puts.{none, put_as}
-use Rattle.entry_bytes.proofs.WriteLaws.{choose_true, choose_false}
+use Rattle.entry_bytes.proofs.WriteLaws.{choose_true}
 use Rattle.entry_bytes.proofs.put_whole.Goals as goal
 
 pub returns-then-whole-eq0-clause-put : goal.returns-then-whole-eq0-clause-put

@@ -15,7 +15,7 @@ use Rattle.label.specs.Bytes.{ascii, Cut}
 use Rattle.label.specs.Run.{Run, said_run}
 use Rattle.label.specs.Places.{places_of}
 use Rattle.label.specs.Write.{Label, normal}
-use Rattle.label.specs.Calls.{filled_count, filled_after, room_of, read_into, asked_for, write_asked, outputs}
+use Rattle.label.specs.Calls.{filled_count, filled_after, room_of, read_into, asked_for, outputs}
 use Rattle.label.specs.Requests.Attribute.{raw_gives, escape_byte, escape, resolve_checks, resolve_into}
 use Rattle.label.specs.Statements.Attribute.{raw_label_checks, read_raw}
 use Rattle.label.specs.Statements.Memory.{filled_all, Kept}

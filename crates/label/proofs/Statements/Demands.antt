@@ -34,7 +34,7 @@ use Rattle.label.proofs.Steps.{into_steps, write_steps, units_steps, glyphs_step
 use Rattle.label.proofs.Checks.{given_is, passes, stops, kept}
 use Rattle.label.proofs.Parts.{sum, length_clusters, length_glyphs, divided, fits_units, fits_glyphs, touched_whole, turned_glyphs, turned_units, map_sum, map_at}
 use Rattle.label.proofs.Wire.{length_halves, length_words}
-use Rattle.label.proofs.Places.{run_of_holds, run_sound, sound_places, sound_readable, readable_sound, readable_run}
+use Rattle.label.proofs.Places.{sound_places, sound_readable, readable_sound, readable_run}
 
 -- ── the reader and the writer, with room ──
 

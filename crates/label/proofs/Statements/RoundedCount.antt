@@ -5,7 +5,6 @@ use mathlib.Core.Path.{◌≡◌, sym, ◌∙◌, ap}
 use mathlib.Core.Logic.{◌↔◌}
 use mathlib.Core.Bool.{Bool, true, false, cond}
 use borrow.Author.Tests.{eqb-true, eq-eqb}
-use lib.Dec.{eqb}
 use Rattle.label.specs.Entry.{scaled}
 use Rattle.label.specs.Requests.RoundedCount.{is_whole, rounded, beside}
 use Rattle.label.specs.Statements.RoundedCount.{RoundedCount}

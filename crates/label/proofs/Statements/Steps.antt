@@ -1,8 +1,6 @@
 -- The calls are made of the stretches that inner functions promise: the step laws, gathered.
 -- Assumes nothing.
-use Prim.Native.Nat.{ℕ, ◌<◌}
-use mathlib.Core.Path.{◌≡◌}
-use mathlib.Core.List.{List, [], ◌∷◌}
+use mathlib.Core.List.{[], ◌∷◌}
 use borrow.Author.Tests.{lt-ltb}
 use lib.IntN.{pos, negsuc}
 use Rattle.label.specs.Statements.Steps.{Stretches}

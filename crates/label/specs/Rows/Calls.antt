@@ -4,7 +4,7 @@ use Rattle.std.specs.Prelude.{refl, ◌≡◌, false, true, List, map, [], ◌++
 use Rattle.label.specs.Outcome.{ok, no, verdict}
 use Rattle.label.specs.Bytes.{ascii, split, cut, all_digits, value_from, join_rest, join, trim, decimal_from, decimal, each, pieces}
 use Rattle.label.specs.Text.{table, row_fits, fitting, starts_char, more_bytes, following, scalar, xml_char, units_of}
-use Rattle.label.specs.Entry.{unsigned, is_decimals, is_number, mantissa_digits, fraction_digits, exponent_digits, nearest, scaled, thousandths, number_fits, entry_part, is_index_part, index_digits, map_units, map_glyphs, is_advance, is_offset, well_formed, field_fits, index_of, advance_of, offset_of, entry_of, entries}
+use Rattle.label.specs.Entry.{unsigned, is_decimals, is_number, mantissa_digits, fraction_digits, exponent_digits, nearest, scaled, thousandths, number_fits, is_index_part, index_digits, map_units, map_glyphs, is_advance, is_offset, well_formed, field_fits, index_of, advance_of, offset_of, entry_of, entries}
 use Rattle.label.specs.Run.{font_glyph, tail, walk_parts, said_run}
 use Rattle.label.specs.Checks.{text_checks, entry_checks, place_checks, walk_checks, run_checks, label_checks, read}
 use Rattle.label.specs.Wire.{from_halves, from_words}

@@ -9,7 +9,7 @@ use Rattle.label.specs.Run.{tail, walk_parts, said_run}
 use Rattle.label.specs.Checks.{text_checks, entry_checks, place_checks, walk_checks, run_checks, label_checks, read}
 use Rattle.label.specs.Wire.{from_halves, from_words}
 use Rattle.label.specs.Calls.{filled_count, numbers_after}
-use Rattle.label.specs.Requests.Sheet.{header, text_length, indices_length, record_length, is_record, record_label, labels_of, answer, answers, sheet_checks, sheet_into}
+use Rattle.label.specs.Requests.Sheet.{header, text_length, indices_length, record_length, is_record, record_label, labels_of, answers, sheet_checks, sheet_into}
 use Rattle.label.specs.Statements.Sheet.{record_bytes, records_bytes, sheet_file}
 use Rattle.label.specs.Rows.Types.{SheetRow, sheet_row}
 

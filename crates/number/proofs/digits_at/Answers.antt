@@ -1,12 +1,8 @@
 -- `number::digits_at`: the loop keeps `Scanned`: the digits left, read behind v, give the count and value of all behind `start`; `scan_step` steps it,
 -- `scan_stop` closes both returns, all of DigitLaws. Assumes nothing.
 use mathlib.Core.Path.{sym, ◌∙◌}
-use Prim.Native.Nat.{◌-◌}
 use native.Mathlib.Omega.{arith}
-use lib.ListN.{length}
-use borrow.Author.Tests.{not-true, not-false}
-use borrow.Author.Rules.{rules}
-use Rattle.number.proofs.DigitLaws.{Scanned, scan_start, scan_step, scan_stop, lead_stop, lead_end}
+use Rattle.number.proofs.DigitLaws.{scan_step, scan_stop, lead_stop, lead_end}
 use Rattle.number.proofs.digits_at.Goals as goal
 
 pub returns-then-not-is_digit-clause-value : goal.returns-then-not-is_digit-clause-value

@@ -1,9 +1,7 @@
 -- `number::exponent_at`: two cases by the letter: `code_raised` or `code_unraised` of NumberLaws over what the calls ensure; `letter_some` shows that a letter
 -- found is within the list. Assumes nothing.
 use mathlib.Core.Path.{sym, ◌∙◌}
-use native.Mathlib.Omega.{arith}
-use borrow.Author.Rules.{rules}
-use Rattle.number.proofs.NumberLaws.{letter_some, code_raised, code_unraised}
+use Rattle.number.proofs.NumberLaws.{code_raised, code_unraised}
 use Rattle.number.proofs.exponent_at.Goals as goal
 
 pub returns-then-is_exponent-clause-value : goal.returns-then-is_exponent-clause-value

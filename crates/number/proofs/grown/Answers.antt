@@ -1,10 +1,8 @@
 -- `number::grown`: four returns: 0 by `zero-mul`, two over the limit by `grow_over` and `grow_large` of ValueLaws, the last by what `power` and `limited`
 -- ensure; `grow_fits` gives the product room. Assumes nothing.
 use mathlib.Core.Path.{sym}
-use native.Mathlib.Nat.{zero-mul}
 use native.Mathlib.Omega.{arith}
-use borrow.Author.Rules.{rules}
-use Rattle.number.proofs.ValueLaws.{sized_over, grow_over, grow_large, grow_fits}
+use Rattle.number.proofs.ValueLaws.{sized_over, grow_over, grow_large}
 use Rattle.number.proofs.grown.Goals as goal
 
 pub returns-then-k-gt9 : goal.returns-then-k-gt9

@@ -1,7 +1,5 @@
 -- `number::mantissa_at`: two cases by the byte behind the first digits: a point gives `code_pointed`, any other byte `code_plain`, both of NumberLaws; every
 -- other need is closed by search. Assumes nothing.
-use native.Mathlib.Omega.{arith}
-use borrow.Author.Rules.{rules}
 use Rattle.number.proofs.NumberLaws.{code_pointed, code_plain}
 use Rattle.number.proofs.mantissa_at.Goals as goal
 

@@ -1,7 +1,5 @@
 -- `number::number_at`: each return is one law of NumberLaws: `code_long`, `code_far`, `code_sized`; `mant_asked` and `expo_asked` give what `to_thousandths`
 -- requires from the two counts of digits. Assumes nothing.
-use native.Mathlib.Omega.{arith}
-use borrow.Author.Rules.{rules}
 use Rattle.number.proofs.NumberLaws.{code_long, code_far, code_sized, mant_asked, expo_asked}
 use Rattle.number.proofs.number_at.Goals as goal
 

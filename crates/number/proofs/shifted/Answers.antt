@@ -1,7 +1,6 @@
 -- `number::shifted`: two cases by the larger shift: the contract is rewritten to one shift by `scale_grow` and `grow_whole`, or `scale_shrink` and
 -- `shrink_whole`, of ValueLaws, and is then the call's. Assumes nothing.
 use native.Mathlib.Nat.{le_of_lt}
-use borrow.Author.Rules.{rules}
 use Rattle.number.proofs.ValueLaws.{scale_grow, scale_shrink, grow_whole, shrink_whole}
 use Rattle.number.proofs.shifted.Goals as goal
 

@@ -1,9 +1,7 @@
 -- `number::shrunk`: past 18 places `shrink_none` and `none_whole` give 0; else the test on quotient and remainder decides `round_up` or `round_down`, and
 -- `twice_small` gives it room, all of ValueLaws. Assumes nothing.
-use native.Mathlib.Nat.{div-le_self}
 use native.Mathlib.Omega.{arith}
-use borrow.Author.Rules.{rules}
-use Rattle.number.proofs.ValueLaws.{shrink_none, none_whole, round_up, round_down, ten_pos, twice_small}
+use Rattle.number.proofs.ValueLaws.{shrink_none, none_whole, round_up, round_down, ten_pos}
 use Rattle.number.proofs.shrunk.Goals as goal
 
 pub returns-then-k-gt18 : goal.returns-then-k-gt18

@@ -1,7 +1,6 @@
 -- `number::to_thousandths`: the ensures of `shifted`, rewritten by both results of `unless`, is the contract by `scaled_is` and `whole_is` of ValueLaws: the
 -- exponent's two signs as one shift. Assumes nothing.
 use mathlib.Core.Path.{◌∙◌}
-use borrow.Author.Rules.{rules}
 use Rattle.number.proofs.ValueLaws.{scaled_is, whole_is}
 use Rattle.number.proofs.to_thousandths.Goals as goal
 

@@ -1,11 +1,8 @@
 -- `octets::find_byte`: the loop keeps that the first such byte from i on is the first from `from` on; both returns and the next turn are one law of Finds each.
 -- Assumes nothing.
-use Prim.Native.Nat.{◌-◌, ◌≤◌}
 use native.Mathlib.Omega.{arith}
-use mathlib.Core.Path.{◌≡◌, refl, ◌∙◌}
-use borrow.Author.Rules.{rules}
-use lib.ListN.{length}
-use Rattle.octets.proofs.Finds.{found, found_here, found_next, found_end}
+use mathlib.Core.Path.{◌∙◌}
+use Rattle.octets.proofs.Finds.{found_here, found_next, found_end}
 use Rattle.octets.proofs.find_byte.Goals as goal
 
 pub returns-then-s-i-clause-value : goal.returns-then-s-i-clause-value

@@ -1,11 +1,9 @@
 -- `octets::find_byte`: the loop keeps that the first such byte from i on is the first from `from` on; both returns and the next turn are one law of Finds each.
 -- Assumes nothing.
 use Prim.Native.Nat.{◌-◌, ◌≤◌}
-use native.Mathlib.Omega.{arith}
-use mathlib.Core.Path.{◌≡◌, refl, ◌∙◌}
-use borrow.Author.Rules.{rules}
+use mathlib.Core.Path.{◌≡◌}
 use lib.ListN.{length}
-use Rattle.octets.proofs.Finds.{found, found_here, found_next, found_end}
+use Rattle.octets.proofs.Finds.{found}
 use Rattle.octets.proofs.find_byte.Given as goal
 
 abbrev pub invariant-loop-i : goal.invariant-loop-i

@@ -1,7 +1,6 @@
 -- `octets::get_u16`: search closes every read and sum; the return unfolds `half_at` and is one rewriting by the values of the two widened bytes. Assumes
 -- nothing.
 use Rattle.octets.specs.Words.{half_at}
-use borrow.Author.Rules.{rules}
 use Rattle.octets.proofs.get_u16.Goals as goal
 
 pub returns : goal.returns

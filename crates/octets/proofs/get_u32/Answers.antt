@@ -1,7 +1,6 @@
 -- `octets::get_u32`: search closes every read, product and sum; the return unfolds `word_at` and is one rewriting by the values of the four widened bytes.
 -- Assumes nothing.
 use Rattle.octets.specs.Words.{word_at}
-use borrow.Author.Rules.{rules}
 use Rattle.octets.proofs.get_u32.Goals as goal
 
 pub returns : goal.returns

@@ -1,8 +1,6 @@
 -- `octets::put_byte`: stores at most once: a store inside is `put_one`, and past the end nothing changes, by `put_past`, both of Puts; the place is arithmetic.
 -- Assumes nothing.
 use Rattle.octets.proofs.Puts.{put_one, put_past}
-use native.Mathlib.Omega.{arith}
-use borrow.Author.Rules.{rules}
 use Rattle.octets.proofs.put_byte.Goals as goal
 
 pub returns-then-out-at-clause-put : goal.returns-then-out-at-clause-put

@@ -2,11 +2,8 @@
 -- Assumes nothing.
 use Prim.Native.Nat.{◌/◌}
 use native.Mathlib.Numerals.{add-one, add-two, add-three}
-use native.Mathlib.Omega.{arith}
-use lib.ListN.{length-set}
-use lib.Bits.{and_le_r, and_mask}
+use lib.Bits.{and_mask}
 use Rattle.octets.specs.Puts.{puts}
-use borrow.Author.Rules.{rules}
 use Rattle.octets.proofs.put_u32.Goals as goal
 
 pub returns : goal.returns

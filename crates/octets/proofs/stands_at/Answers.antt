@@ -1,12 +1,7 @@
 -- `octets::stands_at`: the loop keeps that comparing what is left of both, from i on, gives the whole answer; each return and the next turn are one law of
 -- Begins. Assumes nothing.
 use Rattle.octets.proofs.Begins.{left_end, left_short, left_other, left_next}
-use Rattle.label.specs.Bytes.{begins}
-use lib.ListN.{length, drop}
-use mathlib.Core.Path.{◌≡◌, sym, ◌∙◌}
-use native.Mathlib.Nat.{add-zero}
-use Prim.Native.Nat.{◌+◌, ◌-◌, ◌≤◌}
-use borrow.Author.Rules.{rules}
+use mathlib.Core.Path.{sym, ◌∙◌}
 use native.Mathlib.Omega.{arith}
 use Rattle.octets.proofs.stands_at.Goals as goal
 

@@ -1,12 +1,10 @@
 -- `text::count_units`: the loop keeps `Reached`: n units were found before i, and with the reading from i on they give the whole; each turn and return is one
 -- law of Counts. Assumes nothing.
-use Prim.Native.Nat.{◌≤◌, ◌-◌, ◌*◌}
 use native.Mathlib.Omega.{arith}
 use mathlib.Core.Path.{sym, ◌∙◌}
 use borrow.Author.Rules.{rules}
-use lib.ListN.{length}
 use Rattle.utf8.proofs.Chars.{char_plain, char_inside}
-use Rattle.text.proofs.Counts.{Reached, plain_one, reached_start, reached_next, reached_ill, reached_outside, reached_end}
+use Rattle.text.proofs.Counts.{plain_one, reached_next, reached_ill, reached_outside, reached_end}
 use Rattle.text.proofs.count_units.Goals as goal
 
 pub loop-i-preserved-then-is_within : goal.loop-i-preserved-then-is_within

@@ -1,10 +1,6 @@
 -- `text::is_plain`: past the end the test is false, by `le-ltb`, and promises nothing; inside, `lt-ltb` leaves the range's test, and the move is `left_plain`
 -- of Moves. Assumes nothing.
-use mathlib.Core.Path.{refl, sym, ◌∙◌}
-use mathlib.Core.Bool.{false}
-use borrow.Author.Rules.{rules}
-use borrow.Author.Tests.{lt-ltb, le-ltb}
-use Rattle.label.proofs.Basics.{clash}
+use mathlib.Core.Path.{sym, ◌∙◌}
 use Rattle.text.proofs.Moves.{left_plain}
 use Rattle.text.proofs.is_plain.Goals as goal
 

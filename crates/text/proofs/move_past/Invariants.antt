@@ -1,13 +1,8 @@
 -- `text::move_past`: the loop keeps `Left`: units passed and units left are all, and a are still to pass; each turn and return is one law of Moves.
 -- Assumes nothing.
 use Prim.Native.Nat.{◌-◌}
-use native.Mathlib.Omega.{arith}
-use mathlib.Core.Path.{sym, ◌∙◌}
-use borrow.Author.Rules.{rules}
 use lib.ListN.{length}
-use Rattle.utf8.proofs.Chars.{char_plain, char_inside}
-use Rattle.text.proofs.Counts.{plain_one}
-use Rattle.text.proofs.Moves.{Left, left_start, left_next, left_inside, left_past, left_done, no_ill, no_outside}
+use Rattle.text.proofs.Moves.{Left}
 use Rattle.text.proofs.move_past.Given as goal
 
 abbrev pub invariant-loop-a : goal.invariant-loop-a

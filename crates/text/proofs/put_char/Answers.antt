@@ -5,7 +5,6 @@ use Rattle.text.proofs.Counts.{one_is, two_are}
 use lib.ListN.{length}
 use native.Mathlib.Omega.{arith}
 use mathlib.Core.Path.{refl, ap, ◌∙◌}
-use borrow.Author.Rules.{rules}
 use Rattle.text.proofs.put_char.Goals as goal
 
 pub put_unit-requires : goal.put_unit-requires

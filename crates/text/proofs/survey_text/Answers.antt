@@ -3,7 +3,6 @@
 use native.Mathlib.Omega.{arith}
 use Rattle.text.proofs.Texts.{survey_refused, survey_plain, survey_braced, survey_marked, marked_two}
 use mathlib.Core.Path.{sym, ◌∙◌}
-use borrow.Author.Rules.{rules}
 use Rattle.text.proofs.survey_text.Goals as goal
 
 pub returns-then-byte_or_zero-ne123 : goal.returns-then-byte_or_zero-ne123

@@ -1,5 +1,4 @@
 -- `text::unit_count`: two cases by the test: the length of the units that `one_is` or `two_are` of Counts gives; the bounds are arithmetic. Assumes nothing.
-use native.Mathlib.Omega.{arith}
 use mathlib.Core.Path.{sym, ap}
 use lib.ListN.{length}
 use Rattle.text.proofs.Counts.{one_is, two_are}

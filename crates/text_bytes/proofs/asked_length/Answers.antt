@@ -1,10 +1,7 @@
 -- `text_bytes::asked_length`: two cases by the flag that the code tests, each one rewriting of `asked_length` by that flag to the call's ensures; `ascii_most`
 -- of Utf8 gives the cast room. Assumes nothing.
-use native.Mathlib.Omega.{arith}
 use mathlib.Core.Path.{sym, ◌∙◌}
 use Rattle.text_bytes.specs.Lengths.{asked_length}
-use Rattle.text_bytes.proofs.Utf8.{ascii_most}
-use borrow.Author.Rules.{rules}
 use Rattle.text_bytes.proofs.asked_length.Goals as goal
 
 pub returns-then-both-clause-value : goal.returns-then-both-clause-value

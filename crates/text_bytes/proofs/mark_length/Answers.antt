@@ -1,9 +1,7 @@
 -- `text_bytes::mark_length`: two cases by the answer of `is_braced`: `mark_two` where it is true, `mark_none` where it is false, both laws of Utf8. Assumes
 -- nothing.
 use Rattle.label.specs.Fetched.{halves}
-use native.Mathlib.Omega.{arith}
 use Rattle.text_bytes.proofs.Utf8.{mark_two, mark_none}
-use borrow.Author.Rules.{rules}
 use Rattle.text_bytes.proofs.mark_length.Goals as goal
 
 pub returns-then-is_braced-clause-value : goal.returns-then-is_braced-clause-value

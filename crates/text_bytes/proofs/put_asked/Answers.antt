@@ -1,10 +1,8 @@
 -- `text_bytes::put_asked`: two cases by the flag: the bytes stored are the ones asked for by `asked_ascii` or `asked_plain` of Utf8, carried over by `put_as`
 -- of octets' Puts. Assumes nothing.
-use Rattle.text_bytes.proofs.Utf8.{asked_ascii, asked_plain, ascii_most}
+use Rattle.text_bytes.proofs.Utf8.{asked_ascii, asked_plain}
 use Rattle.octets.proofs.Puts.{put_as}
 use mathlib.Core.Path.{sym, ◌∙◌}
-use native.Mathlib.Omega.{arith}
-use borrow.Author.Rules.{rules}
 use Rattle.text_bytes.proofs.put_asked.Goals as goal
 
 pub returns-then-both-clause-put : goal.returns-then-both-clause-put

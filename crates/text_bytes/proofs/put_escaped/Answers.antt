@@ -1,6 +1,5 @@
 -- `text_bytes::put_escaped`: one arm for each of the six bytes, its stored text carried over by `put_escape` at the arm's key; any other byte is unchanged by
 -- `escape_other`, both of Utf8. Assumes nothing.
-use native.Mathlib.Omega.{arith}
 use Rattle.label.specs.Bytes.{ascii}
 use Rattle.label.specs.Requests.Attribute.{escape_byte}
 use Rattle.octets.proofs.Puts.{put_as}

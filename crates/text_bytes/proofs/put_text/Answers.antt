@@ -3,7 +3,6 @@
 use Rattle.label.specs.Fetched.{halves}
 use Rattle.octets.proofs.Puts.{then, put_as}
 use Rattle.text_bytes.proofs.Utf8.{text_braced, text_plain}
-use borrow.Author.Rules.{rules}
 use Rattle.text_bytes.proofs.put_text.Goals as goal
 
 pub returns-then-is_braced : goal.returns-then-is_braced

@@ -1,11 +1,9 @@
 -- `text_bytes::put_unit`: three cases, low half, high half or neither: `unit_low`, `unit_high` and `unit_plain` of Utf8 name the bytes stored; `high_range`
 -- gives `pair_of` what it requires. Assumes nothing.
-use native.Mathlib.Omega.{arith}
 use Rattle.octets.proofs.Puts.{none, put_as}
-use Rattle.text_bytes.proofs.Utf8.{unit_low, unit_high, unit_plain, high_range}
+use Rattle.text_bytes.proofs.Utf8.{unit_low, unit_high, unit_plain}
 use mathlib.Core.Path.{◌≡◌}
 use Rattle.label.specs.Write.{paired}
-use borrow.Author.Rules.{rules}
 use Rattle.text_bytes.proofs.put_unit.Goals as goal
 
 pub returns-then-is_low-clause-put : goal.returns-then-is_low-clause-put

@@ -1,14 +1,9 @@
 -- `text_bytes::put_units`: the loop keeps `Left` of octets' Puts: what is still to store are the bytes of the units from i on; `asked_here` steps it,
 -- `asked_end` ends it. Assumes nothing.
 use Rattle.text_bytes.proofs.Utf8.{asked_here, asked_end}
-use Rattle.octets.proofs.Puts.{Left, left_start, left_next, left_as, left_end}
+use Rattle.octets.proofs.Puts.{left_next, left_as, left_end}
 use Rattle.label.specs.Fetched.{halves}
-use Rattle.label.specs.Write.{units_bytes}
-use Rattle.label.specs.Requests.Attribute.{as_asked}
-use lib.ListN.{drop}
 use native.Mathlib.Omega.{arith}
-use Prim.Native.Nat.{◌+◌, ◌-◌, ◌*◌, ◌≤◌}
-use borrow.Author.Rules.{rules}
 use Rattle.text_bytes.proofs.put_units.Goals as goal
 
 pub loop-i-preserved : goal.loop-i-preserved

@@ -3,8 +3,6 @@
 use Rattle.label.proofs.Utf8.{utf8_one, utf8_two, utf8_three, utf8_four}
 use Rattle.octets.proofs.Puts.{then, put_as}
 use mathlib.Core.Path.{sym}
-use native.Mathlib.Omega.{arith}
-use borrow.Author.Rules.{rules}
 use Rattle.text_bytes.proofs.put_utf8.Goals as goal
 
 pub returns-then-c-le127-clause-put : goal.returns-then-c-le127-clause-put

@@ -2,14 +2,9 @@
 -- `length_end` of Utf8 carry it. Assumes nothing.
 use Rattle.text_bytes.proofs.Utf8.{length_start, length_next, length_end}
 use Rattle.label.specs.Fetched.{halves}
-use Rattle.label.specs.Write.{units_bytes, text_of}
-use Rattle.label.specs.Requests.Attribute.{as_asked}
-use lib.ListN.{length, drop}
 use Rattle.text_bytes.specs.Lengths.{asked_length}
-use mathlib.Core.Path.{◌≡◌, sym, ap, ◌∙◌}
+use mathlib.Core.Path.{sym, ap, ◌∙◌}
 use native.Mathlib.Omega.{arith}
-use Prim.Native.Nat.{◌+◌, ◌-◌, ◌*◌, ◌≤◌}
-use borrow.Author.Rules.{rules}
 use Rattle.text_bytes.proofs.text_length.Goals as goal
 
 pub loop-i-init : goal.loop-i-init

@@ -1,15 +1,11 @@
 -- `text_bytes::text_length`: the loop keeps that n and the bytes of the units from i on sum to the text's length; `length_start`, `length_next` and
 -- `length_end` of Utf8 carry it. Assumes nothing.
-use Rattle.text_bytes.proofs.Utf8.{length_start, length_next, length_end}
 use Rattle.label.specs.Fetched.{halves}
 use Rattle.label.specs.Write.{units_bytes, text_of}
 use Rattle.label.specs.Requests.Attribute.{as_asked}
 use lib.ListN.{length, drop}
-use Rattle.text_bytes.specs.Lengths.{asked_length}
-use mathlib.Core.Path.{◌≡◌, sym, ap, ◌∙◌}
-use native.Mathlib.Omega.{arith}
+use mathlib.Core.Path.{◌≡◌}
 use Prim.Native.Nat.{◌+◌, ◌-◌, ◌*◌, ◌≤◌}
-use borrow.Author.Rules.{rules}
 use Rattle.text_bytes.proofs.text_length.Given as goal
 
 abbrev pub invariant-loop-i : goal.invariant-loop-i

@@ -1,6 +1,5 @@
 -- `text_bytes::unit_length`: one arm for each range of the unit, each closed by the law of Utf8 for that range, with the arm's bounds found by search. Assumes
 -- nothing.
-use native.Mathlib.Omega.{arith}
 use Rattle.text_bytes.proofs.Utf8.{one_byte_holds, two_bytes, three_bytes, pair_bytes, no_bytes}
 use borrow.Author.Rules.{rules}
 use Rattle.text_bytes.proofs.unit_length.Goals as goal

@@ -1,7 +1,6 @@
 -- `units::next_half`: two cases by `half`: each unfolds `next_half` and rewrites by the test; without a half before, the answer is what `is_high` ensures.
 -- Assumes nothing.
 use Rattle.units.specs.Units.{next_half}
-use borrow.Author.Rules.{rules}
 use Rattle.units.proofs.next_half.Goals as goal
 
 pub returns-then-half : goal.returns-then-half

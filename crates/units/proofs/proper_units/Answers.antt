@@ -3,13 +3,8 @@
 use Rattle.octets.proofs.Loops.{stops, goes}
 use Rattle.units.proofs.Units.{proper_here, proper_end}
 use Rattle.label.specs.Fetched.{halves}
-use Rattle.label.specs.Sound.{proper_units}
-use lib.ListN.{drop}
 use native.Mathlib.Omega.{arith}
-use Prim.Native.Nat.{◌-◌}
-use mathlib.Core.Bool.{false}
-use mathlib.Core.Path.{◌≡◌, refl, sym, ◌∙◌}
-use borrow.Author.Rules.{rules}
+use mathlib.Core.Path.{sym, ◌∙◌}
 use mathlib.Core.Bool.{not}
 use mathlib.Core.Path.{ap}
 use Rattle.units.proofs.proper_units.Goals as goal

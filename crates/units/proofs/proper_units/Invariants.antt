@@ -1,15 +1,11 @@
 -- `units::proper_units`: the loop keeps that judging the units left from j on, by `half`, gives the whole answer; `proper_here` with `stops` or `goes` of Loops
 -- takes a turn, `proper_end` ends. Assumes nothing.
-use Rattle.octets.proofs.Loops.{stops, goes}
-use Rattle.units.proofs.Units.{proper_here, proper_end}
 use Rattle.label.specs.Fetched.{halves}
 use Rattle.label.specs.Sound.{proper_units}
 use lib.ListN.{drop}
-use native.Mathlib.Omega.{arith}
 use Prim.Native.Nat.{◌-◌}
 use mathlib.Core.Bool.{false}
-use mathlib.Core.Path.{◌≡◌, refl, sym, ◌∙◌}
-use borrow.Author.Rules.{rules}
+use mathlib.Core.Path.{◌≡◌}
 use Rattle.units.proofs.proper_units.Given as goal
 
 abbrev pub invariant-loop-j : goal.invariant-loop-j

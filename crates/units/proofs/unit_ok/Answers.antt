@@ -1,7 +1,6 @@
 -- `units::unit_ok`: two cases by `half`: each unfolds `unit_ok` and rewrites by the test; what the called tests ensure gives the answer, in the second case by
 -- congruence. Assumes nothing.
 use Rattle.units.specs.Units.{unit_ok}
-use borrow.Author.Rules.{rules}
 use Rattle.units.proofs.unit_ok.Goals as goal
 
 pub returns-then-half : goal.returns-then-half

@@ -5,9 +5,7 @@ use lib.ListN.{length}
 use Rattle.utf8.proofs.Rows.{trail_fits}
 use Rattle.utf8.proofs.Chars.{char_one, char_unfit, char_cut, char_whole}
 use native.Mathlib.Omega.{arith}
-use borrow.Author.Tests.{not-true, not-false}
 use mathlib.Core.Path.{sym, ◌∙◌}
-use borrow.Author.Rules.{rules}
 use Rattle.utf8.proofs.char_at.Goals.{Else-not-follows}
 use Rattle.utf8.proofs.char_at.Goals as goal
 

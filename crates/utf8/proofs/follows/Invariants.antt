@@ -1,11 +1,9 @@
 -- `utf8::follows`: the loop keeps that judging the k bytes left from i on, by l and h, gives the whole answer; each return and the next turn are one `trail`
 -- law of Rows. Assumes nothing.
 use Prim.Native.Nat.{◌≤◌}
-use mathlib.Core.Path.{◌≡◌, ◌∙◌, sym}
-use borrow.Author.Rules.{rules}
+use mathlib.Core.Path.{◌≡◌}
 use lib.ListN.{length, drop}
 use Rattle.utf8.specs.Rows.{trail}
-use Rattle.utf8.proofs.Rows.{trail_done, trail_short, trail_low, trail_high, trail_next}
 use Rattle.utf8.proofs.follows.Given as goal
 
 abbrev pub invariant-loop-k : goal.invariant-loop-k

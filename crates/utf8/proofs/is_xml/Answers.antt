@@ -1,7 +1,6 @@
 -- `utf8::is_xml`: the tests in order cut the numbers into six ranges, and each return is one `xml` law of Chars, read backwards. Assumes nothing.
 use Rattle.utf8.proofs.Chars.{xml_low, xml_mid, xml_gap, xml_plane, xml_non, xml_high}
 use mathlib.Core.Path.{sym}
-use borrow.Author.Rules.{rules}
 use Rattle.utf8.proofs.is_xml.Goals as goal
 
 pub returns-then-c-lt32 : goal.returns-then-c-lt32

@@ -1,9 +1,6 @@
 -- `utf8::scalar_at`: four cases by the number of bytes, each one law `scalar_one` to `scalar_four` of Chars over what `with_six` ensures; `mask_lt` bounds each
 -- masked first byte. Assumes nothing.
 use Rattle.utf8.proofs.Chars.{scalar_one, scalar_two, scalar_three, scalar_four}
-use lib.Bits.{mask_lt}
-use native.Mathlib.Omega.{arith}
-use borrow.Author.Rules.{rules}
 use Rattle.utf8.proofs.scalar_at.Goals as goal
 
 pub returns-then-more-eq0 : goal.returns-then-more-eq0

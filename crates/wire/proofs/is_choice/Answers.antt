@@ -3,7 +3,6 @@
 use Rattle.wire.proofs.Tests.{choice_bits}
 use native.Mathlib.Omega.{arith}
 use mathlib.Core.Path.{◌∙◌}
-use borrow.Author.Rules.{rules}
 use Rattle.wire.proofs.is_choice.Goals as goal
 
 pub returns : goal.returns

@@ -2,7 +2,6 @@
 -- ensure. Assumes nothing.
 use Rattle.wire.proofs.Tests.{font_is}
 use Rattle.label.specs.Fetched.{signed}
-use borrow.Author.Rules.{rules}
 use Rattle.wire.proofs.is_font.Goals as goal
 
 pub returns : goal.returns

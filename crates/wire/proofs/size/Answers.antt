@@ -1,7 +1,6 @@
 -- `wire::size`: two cases by the test, each one law of Tests: `size_low` below 2^31 and `size_high` from there on; search closes the arithmetic. Assumes
 -- nothing.
 use Rattle.wire.proofs.Tests.{size_low, size_high}
-use borrow.Author.Rules.{rules}
 use Rattle.wire.proofs.size.Goals as goal
 
 pub returns-then-n-lt2147483648 : goal.returns-then-n-lt2147483648

@@ -6,7 +6,6 @@ use Rattle.wire.proofs.Fetched.{halves_length}
 use lib.ListN.{get_or-eq_default}
 use native.Mathlib.Omega.{arith}
 use mathlib.Core.Path.{sym, ◌∙◌}
-use borrow.Author.Rules.{rules}
 use Rattle.wire.proofs.unit_at.Goals as goal
 
 pub returns-then-j-s : goal.returns-then-j-s
