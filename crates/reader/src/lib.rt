@@ -6,12 +6,12 @@ ghost use Rattle.std.specs.Prelude.{◌+◌, ◌*◌, ◌/◌, ◌≤◌, ◌<�
 ghost use Rattle.std.proofs.lemmas.List.Edits.{sets};
 ghost use Rattle.label.specs.Text.{is_pair};
 ghost use Rattle.label.specs.Run.{tail};
-ghost use Rattle.label.specs.Checks.{read as readLabel};
+ghost use Rattle.label.specs.Checks.{read as read_label};
 ghost use Rattle.label.specs.Wire.{bits_of};
 ghost use Rattle.label.specs.Fetched.{halves};
 ghost use Rattle.label.specs.Places.{index_number, advance_number};
 ghost use Rattle.label.specs.Calls.{reading_outcome, reading_rounded, room_of, read_into, counted, units_after, clusters_after, glyphs_after};
-ghost use Rattle.label.specs.Requests.RoundedCount.{rounded as roundedIn, beside};
+ghost use Rattle.label.specs.Requests.RoundedCount.{rounded as rounded_in, beside};
 ghost use Rattle.text.specs.Texts.{units_start};
 ghost use Rattle.survey.specs.Steps.{advanced};
 ghost use Rattle.reader.specs.Stores.{taken_by, opened_here, glyph_places, cluster_bytes, glyph_bytes, Storable, Fillable};
@@ -145,9 +145,9 @@ fn fill(
     glyphs: &mut [u8],
 )
     requires { Fillable text.now start indices.now count (length units.old) (length clusters.old) (length glyphs.old) }
-    ensures units { units.new ≡ units_after (readLabel text.now indices.now) units.old }
-    ensures clusters { clusters.new ≡ clusters_after (readLabel text.now indices.now) clusters.old }
-    ensures glyphs { glyphs.new ≡ glyphs_after (readLabel text.now indices.now) glyphs.old }
+    ensures units { units.new ≡ units_after (read_label text.now indices.now) units.old }
+    ensures clusters { clusters.new ≡ clusters_after (read_label text.now indices.now) clusters.old }
+    ensures glyphs { glyphs.new ≡ glyphs_after (read_label text.now indices.now) glyphs.old }
 {
     text::fill_units(text, start, units);
     // This pass stores the clusters and the glyphs and does not look at the text again: the cursor's byte stays 0.
@@ -185,7 +185,7 @@ pub fn read(
     ensures result { let room = room_of units.old clusters.old glyphs.old in
         reading_outcome result ≡ counted (read_into room text.now indices.now) }
     ensures rounded { let room = room_of units.old clusters.old glyphs.old in
-        reading_rounded result ≡ beside (roundedIn indices.now) (read_into room text.now indices.now) }
+        reading_rounded result ≡ beside (rounded_in indices.now) (read_into room text.now indices.now) }
     ensures units { let room = room_of units.old clusters.old glyphs.old in
         units.new ≡ units_after (read_into room text.now indices.now) units.old }
     ensures clusters { let room = room_of units.old clusters.old glyphs.old in

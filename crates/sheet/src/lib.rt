@@ -3,7 +3,7 @@
 
 ghost use Rattle.std.specs.Prelude.{◌≡◌, [], ◌∷◌, ◌≤◌, length};
 ghost use Rattle.label.specs.Calls.{filling_outcome, filled_count, numbers_after};
-ghost use Rattle.label.specs.Requests.Sheet.{answer as answerTo, list_room, sheet_into};
+ghost use Rattle.label.specs.Requests.Sheet.{answer as label_answer, list_room, sheet_into};
 ghost use Rattle.sheet.specs.Records.{record_at, label_in, Accepted};
 
 use label::Filling;
@@ -85,7 +85,7 @@ struct Answer {
 // The answer to the label of a record. It is a part of the file: nothing of it is copied, and no run is stored.
 fn answer_to(file: &[u8], x: Record) -> Answer
     requires { (x.text ≤ x.indices) × (x.indices ≤ x.end) × (x.end ≤ length file.now) }
-    ensures { (result.number ∷ result.place ∷ []) ≡ answerTo (label_in file.now x) }
+    ensures { (result.number ∷ result.place ∷ []) ≡ label_answer (label_in file.now x) }
 {
     let text = x.text;
     let indices = x.indices;

@@ -6,10 +6,10 @@ ghost use Rattle.std.specs.Prelude.{◌+◌, ◌≤◌, ◌≡◌, not, ◌&&◌
 ghost use Rattle.label.specs.Limits.{max_indices_bytes, max_units};
 ghost use Rattle.label.specs.Outcome.{ok};
 ghost use Rattle.label.specs.Run.{named, tail};
-ghost use Rattle.label.specs.Checks.{read as readLabel};
+ghost use Rattle.label.specs.Checks.{read as read_label};
 ghost use Rattle.label.specs.Steps.{decode, run_from};
 ghost use Rattle.label.specs.Calls.{refusal, reading_outcome, reading_rounded, counted};
-ghost use Rattle.label.specs.Requests.RoundedCount.{rounded as roundedIn, beside};
+ghost use Rattle.label.specs.Requests.RoundedCount.{rounded as rounded_in, beside};
 ghost use Rattle.text.specs.Moves.{units_from};
 ghost use Rattle.survey.specs.Steps.{first_place, first_cursor, advanced, Opens, Turns, Carries, Steps, counts_within, counted_from, Starts};
 
@@ -239,7 +239,7 @@ fn survey_run(text: &[u8], indices: &[u8], count: usize, start: usize) -> label:
     requires text_value { decode 0 start (drop start text.now) ≡ ok (units_from text.now start) }
     requires bounds { (count ≡ length (units_from text.now start)) × (count ≤ max_units) × (length indices.now ≤ max_indices_bytes) }
     ensures result_value { reading_outcome result ≡ counted (run_from (units_from text.now start) indices.now) }
-    ensures rounded { reading_rounded result ≡ beside (roundedIn indices.now) (reading_outcome result) }
+    ensures rounded { reading_rounded result ≡ beside (rounded_in indices.now) (reading_outcome result) }
 {
     let bare = count == 0;
     if plain::both(bare, indices.len() == 0) {
@@ -282,8 +282,8 @@ fn refused(r: label::Refusal) -> Surveyed
 
 // All of 1 to 15 in order, and the counts, of rounded fields too; nothing is stored.
 pub fn survey(text: &[u8], indices: &[u8]) -> Surveyed
-    ensures reading_value { reading_outcome result.reading ≡ counted (readLabel text.now indices.now) }
-    ensures rounded { reading_rounded result.reading ≡ beside (roundedIn indices.now) (readLabel text.now indices.now) }
+    ensures reading_value { reading_outcome result.reading ≡ counted (read_label text.now indices.now) }
+    ensures rounded { reading_rounded result.reading ≡ beside (rounded_in indices.now) (read_label text.now indices.now) }
     ensures start { Starts text.now result.reading result.start }
 {
     if label::Limits::TEXT_BYTES < text.len() {

@@ -1,7 +1,6 @@
 -- `faults::fault`: the part that was found lies inside its owner (law `part_inside`), so it can be cut out of it; by which of the two owns it. Assumes nothing.
 use native.Mathlib.Omega.{arith}
-use borrow.Author.Rules.{rules}
-use Rattle.faults.proofs.Faults.{part_below, in_indices, in_text, shows_indices, shows_text}
+use Rattle.faults.proofs.Faults.{part_below, in_indices, in_text}
 use Rattle.faults.proofs.fault.Goals as goal
 
 pub overflow_add-end : goal.overflow_add-end

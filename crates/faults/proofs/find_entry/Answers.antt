@@ -1,11 +1,6 @@
 -- `faults::find_entry`: the loop keeps "entry k of all is entry `rest` of those from here on" (`part_from`); each return is one law of Faults. Assumes nothing.
-use Prim.Native.Nat.{◌+◌, ◌-◌}
-use native.Mathlib.Omega.{arith}
-use mathlib.Core.Path.{◌≡◌, sym, ◌∙◌}
-use borrow.Author.Rules.{rules}
-use lib.ListN.{length}
-use Rattle.faults.specs.Faults.{entry_shown}
-use Rattle.faults.proofs.Faults.{part_from, from_start, from_next, from_here, from_none}
+use mathlib.Core.Path.{sym, ◌∙◌}
+use Rattle.faults.proofs.Faults.{from_start, from_next, from_here, from_none}
 use Rattle.faults.proofs.find_entry.Goals as goal
 
 pub loop-place-init : goal.loop-place-init

@@ -1,11 +1,10 @@
 -- `faults::find_part`: by the definition's two tests in its order; the code's flags of the first are put together once (`tested`). Assumes nothing.
 use mathlib.Core.Bool.{Bool, ◌&&◌}
 use mathlib.Core.Path.{◌≡◌, sym, ◌∙◌, ap}
-use borrow.Author.Rules.{rules}
 use lib.Dec.{ltb}
 use lib.ListN.{length}
 use Rattle.label.specs.Fault.{of_text}
-use Rattle.faults.proofs.Faults.{part_text, part_entry, part_none, part_starts}
+use Rattle.faults.proofs.Faults.{part_text, part_entry, part_none}
 use Rattle.faults.proofs.find_part.Goals.{After-both}
 use Rattle.faults.proofs.find_part.Goals as goal
 

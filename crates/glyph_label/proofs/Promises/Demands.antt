@@ -34,7 +34,7 @@ use Rattle.glyph_label.specs.declared.GlyphLabelStretch.{GlyphLabelStretch}
 use Rattle.glyph_label.specs.Answers.{reading_answer, writing_answer, stretch_answer}
 use Rattle.glyph_label.specs.Promises.Memory.{Fixed}
 use Rattle.glyph_label.specs.CallContracts.{ReadCall, WriteCall}
-use Rattle.glyph_label.specs.Promises.Demands.{HoldsRun, HoldsLabel, Picks, Passing, Accepted, Client, text_given, indices_given, WroteNormal, DemandPromises}
+use Rattle.glyph_label.specs.Promises.Demands.{HoldsRun, HoldsLabel, Picks, Client, text_given, indices_given, WroteNormal, DemandPromises}
 use Rattle.glyph_label.proofs.Bounds.{reading_placed, writing_placed}
 use Rattle.glyph_label.proofs.Promises.Memory.{number_in, place_in, Numbered, numbered, accepted, fixed}
 

@@ -1,11 +1,8 @@
 -- `glyph_label::glyph_label_read`: what `reader::read` promises, as an answer and the three buffers; that all fits 32 bits are laws of Bounds. Assumes
 -- nothing.
-use mathlib.Core.Path.{sym, subst, ◌∙◌}
+use mathlib.Core.Path.{sym, subst}
 use Rattle.glyph_label.specs.Fits.{Small32, ReadingFits}
-use Rattle.label.specs.Calls.{room_of, read_into}
-use Rattle.label.specs.Requests.RoundedCount.{rounded}
-use Rattle.glyph_label.proofs.Bounds.{reading_fits, rounded_fits, answer_beside}
-use borrow.Author.Rules.{rules}
+use Rattle.glyph_label.proofs.Bounds.{reading_fits, rounded_fits}
 use Rattle.glyph_label.proofs.glyph_label_read.Goals as goal
 
 pub reading_answer-requires : goal.reading_answer-requires

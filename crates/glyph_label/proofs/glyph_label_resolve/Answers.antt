@@ -2,9 +2,7 @@
 -- nothing.
 use Rattle.glyph_label.proofs.Bounds.{filled_fits}
 use Rattle.glyph_label.specs.Fits.{FilledFits}
-use Rattle.glyph_label.specs.Answers.{filled_answer}
-use mathlib.Core.Path.{sym, ap, subst, ◌∙◌}
-use borrow.Author.Rules.{rules}
+use mathlib.Core.Path.{sym, subst}
 use Rattle.glyph_label.proofs.glyph_label_resolve.Goals as goal
 
 pub filled_answer-requires : goal.filled_answer-requires

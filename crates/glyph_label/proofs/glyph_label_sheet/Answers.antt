@@ -1,9 +1,7 @@
 -- `glyph_label::glyph_label_sheet`: what `sheet::read_sheet` promises, as an answer and the list; that the number fits is a law of Bounds. Assumes nothing.
 use Rattle.glyph_label.proofs.Bounds.{sheet_fits}
 use Rattle.glyph_label.specs.Fits.{FilledFits}
-use Rattle.glyph_label.specs.Answers.{filled_answer}
-use mathlib.Core.Path.{sym, ap, subst, ◌∙◌}
-use borrow.Author.Rules.{rules}
+use mathlib.Core.Path.{sym, subst}
 use Rattle.glyph_label.proofs.glyph_label_sheet.Goals as goal
 
 pub filled_answer-requires : goal.filled_answer-requires

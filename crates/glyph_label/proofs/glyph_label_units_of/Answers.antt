@@ -1,10 +1,8 @@
 -- `glyph_label::glyph_label_units_of`: the pick's outcome as an answer: two equations, joined; that it fits 32 bits is a law of Bounds. Assumes nothing.
-use mathlib.Core.Path.{sym, ap, subst, ◌∙◌}
+use mathlib.Core.Path.{sym, subst}
 use mathlib.Core.Bool.{false}
-use Rattle.glyph_label.specs.Answers.{stretch_answer}
 use Rattle.glyph_label.specs.Fits.{StretchFits}
 use Rattle.glyph_label.proofs.Bounds.{stretch_fits}
-use borrow.Author.Rules.{rules}
 use Rattle.glyph_label.proofs.glyph_label_units_of.Goals as goal
 
 pub stretch_answer-requires : goal.stretch_answer-requires

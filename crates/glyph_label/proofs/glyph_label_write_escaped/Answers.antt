@@ -2,9 +2,7 @@
 -- Bounds. Assumes nothing.
 use Rattle.glyph_label.proofs.Bounds.{writing_fits}
 use Rattle.glyph_label.specs.Fits.{WritingFits}
-use Rattle.glyph_label.specs.Answers.{writing_answer}
-use mathlib.Core.Path.{sym, ap, subst, ◌∙◌}
-use borrow.Author.Rules.{rules}
+use mathlib.Core.Path.{sym, subst}
 use Rattle.glyph_label.proofs.glyph_label_write_escaped.Goals as goal
 
 pub writing_answer-requires : goal.writing_answer-requires

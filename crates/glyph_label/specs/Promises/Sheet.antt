@@ -1,7 +1,7 @@
 -- Document 02, CR 3: what holds of every answer and of every answer list that the contract of `glyph_label_sheet` allows. proofs/Promises/Sheet.antt has a
 -- value of the record.
 -- Assumes nothing.
-use Rattle.std.specs.Prelude.{suc, ℕ, ◌*◌, ◌+◌, ◌/◌, ◌<◌, ◌≤◌, ◌≡◌, ◌↔◌, ◌⊎◌, true, List, [], ◌++◌, ◌∷◌, pos, length}
+use Rattle.std.specs.Prelude.{suc, ℕ, ◌*◌, ◌+◌, ◌<◌, ◌≤◌, ◌≡◌, ◌↔◌, ◌⊎◌, true, List, [], ◌++◌, ◌∷◌, pos, length}
 use Rattle.label.specs.Outcome.{ok}
 use Rattle.label.specs.Run.{Run}
 use Rattle.label.specs.Checks.{read}

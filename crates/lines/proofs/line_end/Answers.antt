@@ -1,5 +1,4 @@
 -- `lines::line_end`: a line ends at its first line feed, which `find_byte` finds. Assumes nothing.
-use borrow.Author.Rules.{rules}
 use Rattle.lines.specs.Lines.{line_end}
 use Rattle.lines.proofs.line_end.Goals as goal
 

@@ -1,8 +1,6 @@
 -- `lines::next_line`: by whether a line feed stands at the line's end. Assumes nothing.
 use Rattle.lines.specs.Lines.{line_behind}
 use borrow.Author.Tests.{lt-ltb, le-ltb}
-use native.Mathlib.Omega.{arith}
-use borrow.Author.Rules.{rules}
 use Rattle.lines.proofs.next_line.Goals as goal
 
 pub returns-then-end-s-clause-value : goal.returns-then-end-s-clause-value

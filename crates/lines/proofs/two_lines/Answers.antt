@@ -1,7 +1,5 @@
 -- `lines::two_lines`: each place follows from the one before it. Assumes nothing.
 use Rattle.lines.specs.Lines.{two_lines}
-use native.Mathlib.Omega.{arith}
-use borrow.Author.Rules.{rules}
 use Rattle.lines.proofs.two_lines.Goals as goal
 
 pub returns-clause-value : goal.returns-clause-value

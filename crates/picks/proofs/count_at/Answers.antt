@@ -1,9 +1,6 @@
 -- `picks::count_at`: by the flag; either number is fetched, and counted as `nat` does. Assumes nothing.
 use Rattle.wire.proofs.Fetched.{words_length}
 use native.Mathlib.Omega.{arith}
-use Rattle.label.specs.Sound.{nat}
-use mathlib.Core.Path.{◌∙◌, ap}
-use borrow.Author.Rules.{rules}
 use Rattle.picks.proofs.count_at.Goals as goal
 
 pub overflow_add-i : goal.overflow_add-i

@@ -3,7 +3,6 @@ use Rattle.sound.proofs.Parts.{glyph_count}
 use Rattle.label.specs.Fetched.{words}
 use Prim.Native.Nat.{ℕ, ◌/◌}
 use mathlib.Core.Path.{sym, ap, ◌∙◌}
-use borrow.Author.Rules.{rules}
 use Rattle.picks.proofs.count_of.Goals as goal
 
 pub returns-else-turn : goal.returns-else-turn

@@ -3,7 +3,6 @@ use mathlib.Core.Bool.{not}
 use Rattle.picks.proofs.Touches.{Asked, asks, refuses_19, refuses_22, picks_stretch, within_limits}
 use Rattle.label.specs.Calls.{pick_outcome}
 use mathlib.Core.Path.{ap, ◌∙◌}
-use borrow.Author.Rules.{rules}
 use Rattle.picks.proofs.pick.Goals.{After-both}
 use Rattle.picks.proofs.pick.Goals as goal
 

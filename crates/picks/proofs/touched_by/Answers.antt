@@ -1,16 +1,8 @@
 -- `picks::touched_by`: the loop keeps "what is touched is what is touched from this cluster on" (`touched_at`); it ends at the cluster that holds the last one
 -- picked, or behind all. Assumes nothing.
-use Rattle.picks.proofs.Touches.{touched_at, walk_start, walk_end, walk_stop, walk_on, sum_at}
-use Rattle.picks.specs.Ways.{way}
-use Rattle.sound.specs.Sounds.{unit_sum}
+use Rattle.picks.proofs.Touches.{walk_start, walk_end, walk_stop, walk_on, sum_at}
 use Rattle.label.specs.Fetched.{words}
-use Rattle.label.specs.Sound.{clusters_of}
-use Rattle.label.specs.Pick.{touched}
-use lib.ListN.{drop}
-use mathlib.Core.Path.{◌≡◌}
 use native.Mathlib.Omega.{arith}
-use Prim.Native.Nat.{◌+◌, ◌-◌, ◌≤◌, ◌<◌}
-use borrow.Author.Rules.{rules}
 use Rattle.picks.proofs.touched_by.Goals as goal
 
 pub loop-i-init : goal.loop-i-init

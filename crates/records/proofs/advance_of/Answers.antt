@@ -1,7 +1,6 @@
 -- `records::advance_of`: the sign of the number decides. Assumes nothing.
 use mathlib.Core.Path.{sym, ◌∙◌}
-use Rattle.records.proofs.Parts.{advance_given, advance_own}
-use borrow.Author.Rules.{rules}
+use Rattle.records.proofs.Parts.{advance_given}
 use Rattle.records.proofs.advance_of.Goals as goal
 
 pub returns-then-is_natural : goal.returns-then-is_natural

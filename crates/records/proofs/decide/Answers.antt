@@ -1,8 +1,6 @@
 -- `records::decide`: each test decides one of the three ways that a listing goes. Assumes nothing.
 use Rattle.records.proofs.Planned.{unsound, short, whole}
 use mathlib.Core.Path.{sym, ◌∙◌}
-use borrow.Author.Tests.{not-true, not-false}
-use borrow.Author.Rules.{rules}
 use Rattle.records.proofs.decide.Goals as goal
 
 pub returns-then-not-is_sound : goal.returns-then-not-is_sound

@@ -1,5 +1,5 @@
 -- `records::fill`: none is stored at the start, and each turn stores one more (`none`, `next` of Stored). Assumes nothing.
-use mathlib.Core.Path.{◌≡◌, ◌∙◌, ap}
+use mathlib.Core.Path.{◌∙◌, ap}
 use mathlib.Core.List.{List}
 use native.Mathlib.Omega.{arith}
 use lib.ListN.{set, length}
@@ -8,7 +8,7 @@ use Prim.Native.Nat.{◌<◌}
 use Rattle.records.specs.Records.{record_of}
 use Rattle.label.specs.Fetched.{words}
 use Rattle.label.specs.declared.Glyph.{Glyph}
-use Rattle.records.proofs.Stored.{stored, none, next, length_stored}
+use Rattle.records.proofs.Stored.{none, next}
 use Rattle.records.proofs.fill.Goals as goal
 
 pub loop-k-init : goal.loop-k-init

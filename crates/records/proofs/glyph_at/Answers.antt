@@ -3,7 +3,6 @@ use Rattle.wire.proofs.Fetched.{words_length}
 use native.Mathlib.Omega.{arith}
 use Rattle.label.specs.Fetched.{words}
 use Rattle.records.proofs.Parts.{made}
-use borrow.Author.Rules.{rules}
 use Rattle.records.proofs.glyph_at.Goals as goal
 
 pub number_at-requires : goal.number_at-requires

@@ -1,6 +1,5 @@
 -- `records::index_of`: one test of the bits tells an index from all else. Assumes nothing.
 use Rattle.records.proofs.Parts.{index_named, index_font}
-use borrow.Author.Rules.{rules}
 use Rattle.records.proofs.index_of.Goals as goal
 
 pub returns-then-n-gt-INDEX : goal.returns-then-n-gt-INDEX

@@ -1,6 +1,5 @@
 -- `rules::glyph_ok`: the code's flags, put in last to first, are the definition's test. Assumes nothing.
 use Rattle.rules.specs.Rules.{glyph_ok}
-use borrow.Author.Rules.{rules}
 use Rattle.rules.proofs.glyph_ok.Goals as goal
 
 pub returns : goal.returns

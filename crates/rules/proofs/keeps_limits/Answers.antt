@@ -1,7 +1,6 @@
 -- `rules::keeps_limits`: the four comparisons are those of `glyph_fits`, whatever the signs (law `limits_are`). Assumes nothing.
 use Rattle.rules.proofs.Limits.{limits_are}
 use Rattle.label.specs.Fetched.{signed}
-use borrow.Author.Rules.{rules}
 use Rattle.rules.proofs.keeps_limits.Goals as goal
 
 pub returns : goal.returns

@@ -1,7 +1,6 @@
 -- `rules::opens_at`: in each return the code's flags, put in last to first, are the definition's test, of which the branch decides a part. Assumes nothing.
 use Rattle.rules.specs.Rules.{opens_at}
 use mathlib.Core.Bool.{and-true}
-use borrow.Author.Rules.{rules}
 use Rattle.rules.proofs.opens_at.Goals as goal
 
 pub returns-then-bare : goal.returns-then-bare

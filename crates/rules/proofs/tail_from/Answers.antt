@@ -1,6 +1,5 @@
 -- `rules::tail_from`: the code's flags, put in last to first, are the definition's test. Assumes nothing.
 use Rattle.rules.specs.Rules.{owes}
-use borrow.Author.Rules.{rules}
 use Rattle.rules.proofs.tail_from.Goals as goal
 
 pub returns : goal.returns

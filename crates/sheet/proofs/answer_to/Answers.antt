@@ -2,7 +2,6 @@
 -- nothing.
 use Rattle.sheet.proofs.Answers.{accepted, number_small, place_small, told}
 use Rattle.sheet.specs.Records.{label_in}
-use borrow.Author.Rules.{rules}
 use Rattle.sheet.proofs.answer_to.Goals as goal
 
 pub overflow_cast-number : goal.overflow_cast-number

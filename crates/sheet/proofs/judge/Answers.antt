@@ -1,15 +1,10 @@
 -- `sheet::judge`: the loop keeps "so many records stand before here" (`Counted`); 25, 26, 27 and the count are one law of Records each. Assumes nothing.
-use Rattle.label.specs.Bytes.{ascii, begins}
+use Rattle.label.specs.Bytes.{ascii}
 use Rattle.label.specs.Wire.{from_halves}
 use Rattle.label.specs.Requests.Sheet.{header}
-use Rattle.sheet.proofs.Records.{Counted, stands, cut, counted_start, counted_next, judged_25, judged_26, judged_27, judged}
-use lib.ListN.{length}
-use mathlib.Core.Path.{◌≡◌, sym, ◌∙◌}
-use mathlib.Core.Bool.{true}
-use borrow.Author.Tests.{not-true, not-false}
-use Prim.Native.Nat.{◌-◌}
+use Rattle.sheet.proofs.Records.{stands, cut, counted_start, counted_next, judged_25, judged_26, judged_27, judged}
+use mathlib.Core.Path.{sym, ◌∙◌}
 use native.Mathlib.Omega.{arith}
-use borrow.Author.Rules.{rules}
 use Rattle.sheet.proofs.judge.Goals as goal
 
 pub returns-then-not-stands_at : goal.returns-then-not-stands_at

@@ -1,6 +1,5 @@
 -- `sheet::record_at`: the file ends inside the two lengths, inside what they count, or behind it: one law of Records each. Assumes nothing.
 use mathlib.Core.Path.{◌∙◌}
-use borrow.Author.Rules.{rules}
 use Rattle.sheet.proofs.Records.{record_short, record_cut, record_whole}
 use Rattle.sheet.proofs.record_at.Goals as goal
 

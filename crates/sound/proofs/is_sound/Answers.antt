@@ -10,7 +10,6 @@ use mathlib.Core.Bool.{◌&&◌}
 use mathlib.Core.Path.{◌≡◌, ◌∙◌}
 use mathlib.Core.Bool.{not}
 use mathlib.Core.Path.{ap}
-use borrow.Author.Rules.{rules}
 use Rattle.sound.proofs.is_sound.Goals.{After-both}
 use Rattle.sound.proofs.is_sound.Goals as goal
 

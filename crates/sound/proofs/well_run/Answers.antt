@@ -6,11 +6,9 @@ use Rattle.label.proofs.Lists.{empty_is}
 use Rattle.label.specs.Fetched.{halves, words}
 use lib.Dec.{eqb}
 use native.Mathlib.Omega.{arith}
-use Prim.Native.Nat.{◌-◌, ◌≤◌}
-use mathlib.Core.Path.{◌≡◌, sym, ◌∙◌}
+use mathlib.Core.Path.{sym, ◌∙◌}
 use mathlib.Core.Bool.{not}
 use mathlib.Core.Path.{ap}
-use borrow.Author.Rules.{rules}
 use Rattle.sound.proofs.well_run.Goals.{After-number_at-v}
 use Rattle.sound.proofs.well_run.Goals.{After-number_at-y}
 use Rattle.sound.proofs.well_run.Goals.{After-both}

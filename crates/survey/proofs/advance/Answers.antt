@@ -1,5 +1,4 @@
 -- `survey::advance`: by whether a cluster is open, one rewriting each; the sums are closed by search. Assumes nothing.
-use borrow.Author.Rules.{rules}
 use borrow.Author.Tests.{eq-eqb, ne_eqb}
 use Rattle.survey.specs.Steps.{advanced}
 use Rattle.survey.proofs.advance.Goals as goal

@@ -1,8 +1,5 @@
 -- `survey::open_cluster`: the three answers of `move_past` are the cluster, 12 and 13, by one law of Placing each. Assumes nothing.
-use native.Mathlib.Omega.{arith}
-use mathlib.Core.Path.{refl}
-use borrow.Author.Rules.{rules}
-use Rattle.survey.proofs.Placing.{moves_fit, half_fit, opens_to, opens_past, opens_half, stopped_carries}
+use Rattle.survey.proofs.Placing.{opens_to, opens_past, opens_half}
 use Rattle.survey.proofs.open_cluster.Goals as goal
 
 pub returns-in-To-clause-opens : goal.returns-in-To-clause-opens

@@ -2,7 +2,6 @@
 use Rattle.survey.proofs.Surveying.{refuses, judges}
 use Rattle.survey.proofs.Judging.{text_long, indices_long, text_units_holds, read_units, text_refused}
 use mathlib.Core.Path.{◌∙◌}
-use borrow.Author.Rules.{rules}
 use Rattle.survey.proofs.survey.Goals as goal
 
 pub returns-then-text-gt-TEXT_BYTES : goal.returns-then-text-gt-TEXT_BYTES

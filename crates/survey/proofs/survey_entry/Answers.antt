@@ -3,9 +3,8 @@
 use native.Mathlib.Omega.{arith}
 use mathlib.Core.Path.{◌≡◌, refl, sym, ◌∙◌}
 use mathlib.Core.Bool.{true}
-use borrow.Author.Rules.{rules}
-use Rattle.survey.proofs.Placing.{moves_fit, plain_is, turn_plain}
-use Rattle.survey.proofs.Walking.{read_here, read_inside, digits_here, steps_read, steps_refused}
+use Rattle.survey.proofs.Placing.{plain_is, turn_plain}
+use Rattle.survey.proofs.Walking.{read_here, read_inside, steps_read, steps_refused}
 use Rattle.survey.proofs.survey_entry.Goals.{Then-both}
 use Rattle.survey.proofs.survey_entry.Goals as goal
 

@@ -1,7 +1,6 @@
 -- `survey::survey_tail`: the tail has as many glyphs as clusters, so one count serves both (law `tail_counted`). Assumes nothing.
 use native.Mathlib.Omega.{arith}
 use mathlib.Core.Path.{◌∙◌}
-use borrow.Author.Rules.{rules}
 use Rattle.label.proofs.Tails.{tail_few}
 use Rattle.text.specs.Moves.{units_from}
 use Rattle.survey.proofs.Endings.{tail_counted}

@@ -1,12 +1,10 @@
 -- `survey::take_entry`: 10, 11, a cluster that opens and a further glyph are one law of Placing each, by the code's flags put together (`enough`, `allowed`).
 -- Assumes nothing.
 use mathlib.Core.Bool.{true, not, ◌&&◌, ◌||◌}
-use mathlib.Core.Path.{◌≡◌, refl, sym, ◌∙◌}
+use mathlib.Core.Path.{◌≡◌, sym, ◌∙◌}
 use lib.Dec.{leb, eqb}
 use Rattle.label.specs.Run.{named}
-use borrow.Author.Rules.{rules}
-use borrow.Author.Tests.{not-true, not-false}
-use Rattle.survey.proofs.Placing.{turn_ten, turn_eleven, turn_opens, turn_further, stopped_carries, allowed_is}
+use Rattle.survey.proofs.Placing.{turn_ten, turn_eleven, turn_opens, turn_further, allowed_is}
 use Rattle.survey.proofs.take_entry.Goals.{Else-not-both}
 use Rattle.survey.proofs.take_entry.Goals.{After-either}
 use Rattle.survey.proofs.take_entry.Goals as goal

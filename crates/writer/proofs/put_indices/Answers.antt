@@ -2,12 +2,11 @@
 -- `entry_stored`). Assumes nothing.
 use native.Mathlib.Omega.{arith}
 use mathlib.Core.Path.{ap, ◌∙◌}
-use Prim.Native.Nat.{ℕ, ◌+◌, ◌-◌, ◌*◌, ◌≤◌}
+use Prim.Native.Nat.{ℕ, ◌-◌}
 use Rattle.label.specs.Fetched.{words}
-use Rattle.label.specs.Sound.{nat as nat_of, clusters_of, glyphs_of}
-use Rattle.label.specs.Write.{indices_of}
-use Rattle.octets.proofs.Puts.{Left, left_start, left_as, left_end}
-use Rattle.writer.proofs.Stores.{owed, written_at, indices_start, rest_further, rest_opens, rest_none, rest_end, entry_stored}
+use Rattle.label.specs.Sound.{nat as nat_of}
+use Rattle.octets.proofs.Puts.{left_start, left_as, left_end}
+use Rattle.writer.proofs.Stores.{indices_start, rest_further, rest_opens, rest_none, rest_end, entry_stored}
 use borrow.Author.Rules.{rules}
 use Rattle.writer.proofs.put_indices.Goals as goal
 

@@ -1,14 +1,11 @@
 -- `writer::put_indices`: the loop keeps "what is left to store gives the whole" (`Left`), with the separators that are owed; either turn stores one entry (law
 -- `entry_stored`). Assumes nothing.
-use native.Mathlib.Omega.{arith}
-use mathlib.Core.Path.{ap, ◌∙◌}
-use Prim.Native.Nat.{ℕ, ◌+◌, ◌-◌, ◌*◌, ◌≤◌}
+use Prim.Native.Nat.{◌+◌, ◌-◌, ◌*◌, ◌≤◌}
 use Rattle.label.specs.Fetched.{words}
-use Rattle.label.specs.Sound.{nat as nat_of, clusters_of, glyphs_of}
+use Rattle.label.specs.Sound.{clusters_of, glyphs_of}
 use Rattle.label.specs.Write.{indices_of}
-use Rattle.octets.proofs.Puts.{Left, left_start, left_as, left_end}
-use Rattle.writer.proofs.Stores.{owed, written_at, indices_start, rest_further, rest_opens, rest_none, rest_end, entry_stored}
-use borrow.Author.Rules.{rules}
+use Rattle.octets.proofs.Puts.{Left}
+use Rattle.writer.proofs.Stores.{owed, written_at}
 use Rattle.writer.proofs.put_indices.Given as goal
 
 abbrev pub invariant-loop-k : goal.invariant-loop-k

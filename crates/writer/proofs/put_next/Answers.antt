@@ -12,7 +12,6 @@ use Rattle.label.specs.Sound.{is_font}
 use Rattle.label.specs.Write.{value_bytes, entry_by}
 use mathlib.Core.Path.{◌≡◌, sym, ap, ◌∙◌}
 use Rattle.wire.proofs.Fetched.{words_length}
-use borrow.Author.Rules.{rules}
 use Rattle.writer.proofs.put_next.Goals.{After-is_font}
 use Rattle.writer.proofs.put_next.Goals as goal
 

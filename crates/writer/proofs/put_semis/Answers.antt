@@ -1,11 +1,7 @@
 -- `writer::put_semis`: the loop keeps "what is left to store gives the whole" (`Left`). Assumes nothing.
 use native.Mathlib.Omega.{arith}
-use Prim.Native.Nat.{◌+◌}
-use mathlib.Core.Path.{◌≡◌, refl}
-use Rattle.octets.proofs.Puts.{Left, left_start, left_next, left_as, left_end}
-use Rattle.writer.specs.Entries.{semis}
+use Rattle.octets.proofs.Puts.{left_next, left_as, left_end}
 use Rattle.writer.proofs.Stores.{semis_step, semis_none}
-use borrow.Author.Rules.{rules}
 use Rattle.writer.proofs.put_semis.Goals as goal
 
 pub loop-m-preserved : goal.loop-m-preserved

@@ -6,7 +6,6 @@ use Rattle.writer.proofs.Answers.{few, refuses_19, refuses_20, refuses_21, write
 use Prim.Native.Nat.{◌≤◌}
 use lib.ListN.{length}
 use Rattle.label.specs.Fetched.{halves, words}
-use borrow.Author.Rules.{rules}
 use Rattle.writer.proofs.write_as.Goals.{Else-not-is_sound}
 use Rattle.writer.proofs.write_as.Goals as goal
 
