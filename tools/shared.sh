@@ -1,5 +1,6 @@
 #!/bin/sh
-# Makes target/libglyph_label.so, the shared object that `labels` loads, of the archive, which tools/build.sh makes where it is missing or older than the crates.
+# Makes target/libglyph_label.so, the shared object that `labels` loads, of the archive, which tools/build.sh makes where it is missing or older
+# than the crates.
 set -eu
 cd "$(dirname "$0")/.."
 archive=target/staticlib/libglyph_label.a

@@ -35,4 +35,4 @@ pub returns-then-room-n : goal.returns-then-room-n
 returns-then-room-n c = judged_27 _ _ c.loop-at.invariant.0 c.loop-at.invariant.1 c.refused-then-room-n.ensures c.loop-at-test.false c.if-room-n.true
 
 pub returns : goal.returns
-returns c = judged _ _ c.loop-at.invariant.0 c.loop-at.invariant.1 c.loop-at-test.false c.if-room-n.false
+returns c = judged _ _ c.loop-at.invariant.0 c.loop-at.invariant.1 c.loop-at-test.false (omega arith)

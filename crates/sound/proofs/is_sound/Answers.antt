@@ -1,5 +1,6 @@
 -- `sound::is_sound`: the definition's test in the code's order (law `sound_is`): each return is one law of Sounds, at the first part that fails or behind all.
 -- Assumes nothing.
+use borrow.Author.Rules.{rules}
 use Rattle.sound.proofs.Sounds.{not_limited, not_proper, well_left}
 use Rattle.label.proofs.Lists.{and_of}
 use Rattle.rules.specs.Rules.{whole_bytes, limited}
@@ -31,4 +32,4 @@ returns-then-not-proper_units c = not_proper _ _ _ (tested (goal.at.returns-then
 
 pub returns : goal.returns
 returns c = c.well_run.ensures
-    ∙ well_left _ _ _ (tested (goal.at.returns c).After-both) (ap not c.if-not-both.false) c.proper_units.ensures (ap not c.if-not-proper_units.false)
+    ∙ well_left _ _ _ (tested (goal.at.returns c).After-both) (ap not c.if-not-both.false) c.proper_units.ensures (search rules)

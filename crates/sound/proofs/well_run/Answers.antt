@@ -1,5 +1,6 @@
 -- `sound::well_run`: the loop keeps "the test of all is the test from here on" (`well_at`); what a turn has found is told once (`turn`, `numbers`, `opened`),
 -- and each return is one law of it. Assumes nothing.
+use borrow.Author.Rules.{rules}
 use Rattle.sound.proofs.Sounds.{well_at, Turn, Numbers, Opened, turn_not_ok, turn_no_cluster, turn_not_named, turn_named, opens_here, turn_not_opened, turn_opened, turn_within, turn_end}
 use Rattle.sound.specs.Sounds.{well_run}
 use Rattle.label.proofs.Lists.{empty_is}
@@ -75,7 +76,7 @@ loop-k-preserved-then-lack-gt0 c = let t = turn (goal.at.loop-k-preserved-then-l
   omega (arith, c.loop-k.invariant.1),
   omega (arith, c.loop-k-test.true),
   turn_named t c.glyph_ok.ensures (ap not c.if-not-glyph_ok.false) c.is_natural-named.ensures
-      c.if-lack-gt0.true (ap not c.if-not-named.false),
+      c.if-lack-gt0.true (search rules),
 )
 
 pub returns-then-counts-i-lt2 : goal.returns-then-counts-i-lt2

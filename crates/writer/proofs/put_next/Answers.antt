@@ -1,5 +1,6 @@
 -- `writer::put_next`: an entry has no bytes exactly where its glyph is wholly the font's (`blank`); else the separators and the entry are stored one behind the
 -- other. Assumes nothing.
+use borrow.Author.Rules.{rules}
 use native.Mathlib.Omega.{arith}
 use Rattle.octets.proofs.Puts.{none, then, put_as}
 use Rattle.writer.proofs.Stores.{glyph_is, led_none, led_some}
@@ -46,5 +47,5 @@ pub returns-then-is_font-clause-put : goal.returns-then-is_font-clause-put
 returns-then-is_font-clause-put c = put_as (led_none _ _ (blank (goal.at.returns-then-is_font-clause-put c).After-is_font) c.if-is_font.true) none
 
 pub returns-clause-put : goal.returns-clause-put
-returns-clause-put c = put_as (led_some _ _ (blank (goal.at.returns-clause-put c).After-is_font) c.if-is_font.false) (then c.put_semis-p.ensures.put
+returns-clause-put c = put_as (led_some _ _ (blank (goal.at.returns-clause-put c).After-is_font) (search rules)) (then c.put_semis-p.ensures.put
     (put_as (ap (entry_by value_bytes _ _) (glyph (goal.at.returns-clause-put c).After-is_font)) c.put_entry.ensures.put))

@@ -1,5 +1,7 @@
 -- `writer::write_as`: 19, 20 and 21 in order, then both outputs: each return is one law of Answers; a sound run is small enough for the callees (`small`).
 -- Assumes nothing.
+use borrow.Author.Rules.{rules}
+use native.Mathlib.Omega.{arith}
 use mathlib.Core.Path.{ap}
 use mathlib.Core.Bool.{not}
 use Rattle.writer.proofs.Answers.{few, refuses_19, refuses_20, refuses_21, writes}
@@ -34,7 +36,7 @@ indices_length-indices_bytes-requires c = (small (goal.at.indices_length-indices
 pub returns-then-indices-indices_bytes : goal.returns-then-indices-indices_bytes
 returns-then-indices-indices_bytes c = let a = c.args in
     refuses_21 a.escape a.units.now a.clusters.now a.glyphs.now a.text.now a.indices.now c.is_sound-is_sound.ensures
-    (ap not c.if-not-is_sound.false) c.text_length-text_bytes.ensures c.if-text-text_bytes.false c.indices_length-indices_bytes.ensures
+    (search rules) c.text_length-text_bytes.ensures (omega arith) c.indices_length-indices_bytes.ensures
     c.refused-then-indices-indices_bytes.ensures
     c.if-indices-indices_bytes.true
 
@@ -46,6 +48,6 @@ put_indices-requires c = (small (goal.at.put_indices-requires c).Else-not-is_sou
 
 pub returns : goal.returns
 returns c = let a = c.args in writes a.escape a.units.now a.clusters.now a.glyphs.now a.text.now a.indices.now c.is_sound-is_sound.ensures
-    (ap not c.if-not-is_sound.false) c.text_length-text_bytes.ensures c.if-text-text_bytes.false c.indices_length-indices_bytes.ensures
-    c.if-indices-indices_bytes.false
+    (search rules) c.text_length-text_bytes.ensures (omega arith) c.indices_length-indices_bytes.ensures
+    (omega arith)
     c.put_text.ensures c.put_indices.ensures
