@@ -7,7 +7,7 @@ ghost use Rattle.label.specs.Relabel.{printed, relabel_read};
 ghost use Rattle.lines.specs.Lines.{two_lines};
 
 use std::io;
-use std::io::{BufWriter, Write};
+use std::io::Write;
 
 // Prints one label and returns the place behind it.
 fn print_next<W: Write>(out: &mut W, s: &[u8], at: usize) -> io::Result<usize>
@@ -43,7 +43,5 @@ fn space() -> [u8; 1048576]
 fn main(rt: HostRuntime) -> io::Result<()> {
     let mut input = space();
     let n = printing::read_full(&mut rt.stdin(), &mut input)?;
-    let mut out = BufWriter::new(rt.alloc(), rt.stdout())?;
-    print_all(&mut out, &input[..n])?;
-    out.flush()
+    print_all(&mut rt.stdout(), &input[..n])
 }
