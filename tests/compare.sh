@@ -27,6 +27,12 @@ for word in -h --helpful '' flow; do
     [ "$(target/bin/relabel "$word" <<< flow 2>&1 > /dev/null)" = "$usage" ]
 done
 
+# a read or a write that fails ends `relabel` with 1, and what failed is said on standard error alone
+status=0; target/bin/relabel < / > target/failed 2> target/said || status=$?
+[ "$status" = 1 ] && [ ! -s target/failed ] && [ -s target/said ]
+status=0; target/bin/relabel <<< flow > /dev/full 2> target/said || status=$?
+[ "$status" = 1 ] && [ -s target/said ]
+
 # the archive's calls run beside the programs
 python3 $compare archive target/libglyph_label.so --seed "$seed" --count $archive > target/archive.log & calls=$!
 python3 $compare relabel target/bin/relabel --seed "$seed" --count $relabel
