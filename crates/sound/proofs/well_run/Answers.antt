@@ -13,7 +13,6 @@ use mathlib.Core.Path.{ap}
 use Rattle.sound.proofs.well_run.Goals.{After-number_at-v}
 use Rattle.sound.proofs.well_run.Goals.{After-number_at-y}
 use Rattle.sound.proofs.well_run.Goals.{After-both}
-use Rattle.sound.proofs.well_run.Goals.{After-both}
 use Rattle.sound.proofs.well_run.Goals as goal
 
 -- at a turn: the glyph's four numbers, and the cluster's two

@@ -42,9 +42,7 @@ loop-c-init c = let us = units_from c.args.text.now c.args.start in
     }
 
 pub survey_entry-requires-clause-text_value : goal.survey_entry-requires-clause-text_value
-survey_entry-requires-clause-text_value c = let l = c.loop-c in
-    let us = units_from c.args.text.now c.args.start in
-    let n = at_length _ us l.c l.invariant.at in at_decodes _ us l.c l.invariant.at
+survey_entry-requires-clause-text_value c = at_decodes _ (units_from c.args.text.now c.args.start) c.loop-c.c c.loop-c.invariant.at
 
 pub survey_entry-requires-clause-bounds : goal.survey_entry-requires-clause-bounds
 survey_entry-requires-clause-bounds c = let l = c.loop-c in
@@ -78,9 +76,7 @@ returns-then-c-ne0-clause-result_value c = let us = units_from c.args.text.now c
     ∙ run_stop us c.args.indices.now _ _ l.some (ends_open _ _ _ _ _ l.stands l.ready c.loop-c-test.false c.if-c-ne0.true)
 
 pub survey_tail-requires-clause-text_value : goal.survey_tail-requires-clause-text_value
-survey_tail-requires-clause-text_value c = let us = units_from c.args.text.now c.args.start in
-    let l = c.loop-c.invariant in
-    let n = at_length _ us c.loop-c.c l.at in at_decodes _ us c.loop-c.c l.at
+survey_tail-requires-clause-text_value c = at_decodes _ (units_from c.args.text.now c.args.start) c.loop-c.c c.loop-c.invariant.at
 
 pub survey_tail-requires-clause-bounds : goal.survey_tail-requires-clause-bounds
 survey_tail-requires-clause-bounds c = let us = units_from c.args.text.now c.args.start in
@@ -95,11 +91,10 @@ survey_tail-requires-clause-bounds c = let us = units_from c.args.text.now c.arg
 pub returns-clause-result_value : goal.returns-clause-result_value
 returns-clause-result_value c = let us = units_from c.args.text.now c.args.start in
     let l = c.loop-c.invariant in
-    let e = rounding_end _ _ _ l.rounds c.loop-c-test.false in c.survey_tail.ensures.result_value
+    c.survey_tail.ensures.result_value
     ∙ run_tail us c.args.indices.now _ c.requires.bounds.0 _ _ c.loop-c.c _ l.stands l.ready l.at
     c.loop-c-test.false c.if-c-ne0.false l.some
 
 pub returns-clause-rounded : goal.returns-clause-rounded
-returns-clause-rounded c = let us = units_from c.args.text.now c.args.start in
-    let l = c.loop-c.invariant in
-    let e = rounding_end _ _ _ l.rounds c.loop-c-test.false in c.survey_tail.ensures.rounded ∙ ap (λ (n : ℕ). beside n (reading_outcome c.survey_tail.result)) e
+returns-clause-rounded c = c.survey_tail.ensures.rounded
+    ∙ ap (λ (n : ℕ). beside n (reading_outcome c.survey_tail.result)) (rounding_end _ _ _ c.loop-c.invariant.rounds c.loop-c-test.false)
