@@ -1,3 +1,4 @@
 pub mod Signed
 pub mod Tests
 pub mod Fetched
+pub mod Runs
