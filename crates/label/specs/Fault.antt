@@ -1,6 +1,6 @@
 -- "Showing a fault": the offending part of the caller's own bytes.
 -- Assumes nothing.
-use Rattle.std.specs.Prelude.{ℕ, zero, suc, ◌+◌, ◌-◌, Bool, true, false, cond, ◌&&◌, ◌||◌, List, [], ◌∷◌, leb, ltb, eqb, length, get_or, take, drop}
+use Rattle.std.specs.Prelude.{ℕ, zero, suc, ◌+◌, ◌-◌, Bool, cond, ◌&&◌, ◌||◌, List, [], ◌∷◌, leb, ltb, eqb, length, get_or, take, drop}
 use Rattle.label.specs.Entry.{entries}
 use Rattle.label.specs.declared.Part.{Part}
 use Rattle.label.specs.declared.Source.{Source}

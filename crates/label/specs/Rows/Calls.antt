@@ -1,6 +1,6 @@
 -- Edges of the calls, computed: soundness and writing, picks, faults, the list of records, buffers.
 -- Assumes nothing.
-use Rattle.std.specs.Prelude.{refl, ◌≡◌, false, true, List, map, [], ◌++◌, ◌∷◌, negsuc, pos, replicate}
+use Rattle.std.specs.Prelude.{refl, ◌≡◌, List, map, [], ◌++◌, ◌∷◌, negsuc, pos, replicate}
 use Rattle.label.specs.Outcome.{ok, no, verdict}
 use Rattle.label.specs.Bytes.{ascii, split, cut, all_digits, value_from, join_rest, join, trim, decimal_from, decimal, each, pieces}
 use Rattle.label.specs.Text.{table, row_fits, fitting, starts_char, more_bytes, following, scalar, xml_char, units_of}
