@@ -1,9 +1,9 @@
 -- A run's numbers by the bytes that hold them, and how many clusters and glyphs there are: inductions that take four bytes, two or four numbers at a time.
 -- Assumes nothing.
-use Rattle.std.proofs.Common.{◌≡◌, ℕ, zero, suc, ◌+◌, ◌*◌, ◌/◌, ◌<◌, List, [], ◌∷◌, ℤ, pos, length, get_or, refl, ◌∙◌, ap, arith, to_z, w32}
+use Rattle.std.proofs.Common.{◌≡◌, ℕ, zero, suc, ◌+◌, ◌*◌, ◌/◌, ◌<◌, List, [], ◌∷◌, ℤ, pos, length, get_or, refl, ◌∙◌, ap, arith, to_z, w16, w32}
 use Rattle.std.specs.Int.{from_le_bytes}
 use Rattle.std.specs.Simd.{first_chunks}
-use Rattle.label.specs.Fetched.{signed, words}
+use Rattle.label.specs.Fetched.{halves, signed, words}
 use Rattle.label.specs.Sound.{clusters_of, glyphs_of}
 use Rattle.wire.proofs.Fetched.{words_length}
 use Rattle.wire.proofs.Signed.{signed_is}
@@ -23,6 +23,18 @@ number_in (a ∷ b ∷ c ∷ d ∷ s) zero h =
 number_in (a ∷ b ∷ c ∷ d ∷ s) (suc k) h =
     let more : suc (suc (suc (suc (length s)))) / 4 ≡ suc (length s / 4) = omega arith in
     rw more (number_in s k (omega arith))
+
+-- and unit j that of its two; past the end there is none
+pub unit_in : (s : List ℕ) (j : ℕ) → j < length s / 2 → from_le_bytes w16 (get_or (first_chunks 2 (length s / 2) s) j []) ≡ get_or (halves s) j 0
+unfolding halves
+unit_in [] j h = absurd (omega arith)
+unit_in (a ∷ []) j h = absurd (omega arith)
+unit_in (a ∷ b ∷ s) zero h =
+    let more : suc (suc (length s)) / 2 ≡ suc (length s / 2) = omega arith in
+    rw more (omega arith)
+unit_in (a ∷ b ∷ s) (suc j) h =
+    let more : suc (suc (length s)) / 2 ≡ suc (length s / 2) = omega arith in
+    rw more (unit_in s j (omega arith))
 
 cluster_count : (l : List ℤ) → length (clusters_of l) ≡ length l / 2
 unfolding clusters_of

@@ -32,10 +32,10 @@ pub fn number_count(s: &[u8]) -> usize
 pub fn unit_at(s: &[u8], j: usize) -> u16
     ensures { result ≡ get_or (halves s.now) j 0 }
 {
-    if j < s.len() / 2 {
-        octets::get_u16(s, 2 * j)
-    } else {
-        0
+    let (units, _) = s.as_chunks::<2>();
+    match units.get(j) {
+        Some(unit) => u16::from_le_bytes(*unit),
+        None => 0,
     }
 }
 
@@ -144,12 +144,11 @@ pub struct Run<'a> {
 }
 
 impl<'a> Run<'a> {
-    #[tactic(auto, using(crate::proofs::Fetched::halves_length))]
     pub fn unit_count(self) -> usize
         ensures value { result ≡ length (halves self.entry.units.now) }
         ensures bounds { result ≡ length self.entry.units.now / 2 }
     {
-        self.units.len() / 2
+        unit_count(self.units)
     }
 
     #[tactic(auto, using(crate::proofs::Runs::clusters_length))]
@@ -238,8 +237,8 @@ pub fn put_unit(out: &mut [u8], j: usize, u: u16)
     requires { j < length out.old / 2 }
     ensures { out.new ≡ puts out.old (2 * j) (u % 256 ∷ u / 256 ∷ []) }
 {
-    let at = 2 * j;
-    octets::put_u16(out, at, u);
+    let i = 2 * j;
+    out[i..i + 2].copy_from_slice(&u.to_le_bytes());
 }
 
 // by its bits
@@ -251,17 +250,10 @@ pub fn put_bits(out: &mut [u8], k: usize, n: u32)
     octets::put_u32(out, at, n);
 }
 
-// The 32 bits of v: the low 31 by a mask, which is never negative, and the sign's.
-fn bits(v: i32) -> u32
-    ensures { result ≡ bits_of v }
-{
-    let low = (v & 0x7fff_ffff) as u32;
-    if v < 0 { low + 0x8000_0000 } else { low }
-}
-
 pub fn put_number(out: &mut [u8], k: usize, v: i32)
     requires { k < length out.old / 4 }
     ensures { out.new ≡ puts out.old (4 * k) (four_bytes (bits_of v)) }
 {
-    put_bits(out, k, bits(v));
+    let i = 4 * k;
+    out[i..i + 4].copy_from_slice(&v.to_le_bytes());
 }
