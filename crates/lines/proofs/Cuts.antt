@@ -50,4 +50,7 @@ CutBy t s (Some k) = ((cut t s).before ≡ take k s) × ((cut t s).after ≡ dro
 CutBy t s None = ((cut t s).before ≡ s) × ((cut t s).after ≡ [])
 
 pub cut_by : (t : ℕ → Bool) (s : List ℕ) (o : Option ℕ) → o ≡ position t s → CutBy t s o
-cut_by t s o h = rw h (cases (ltb (place t s) (length s)) (λ k. rw k (before t s, rw (add-one (place t s)) (after t s), ltb-true _ _ k)) (λ k. rw k (none t s (ltb-false _ _ k))))
+cut_by t s o h =
+    rw h
+    (cases (ltb (place t s) (length s)) (λ k. rw k (before t s, rw (add-one (place t s)) (after t s), ltb-true _ _ k))
+    (λ k. rw k (none t s (ltb-false _ _ k))))

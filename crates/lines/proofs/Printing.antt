@@ -18,7 +18,8 @@ enough (suc m) (suc n) [] h k = refl
 enough (suc m) (suc n) (b ∷ bs) h k =
     let rest = (line (line (b ∷ bs)).after).after in
     let less = less_behind (b ∷ bs) (omega arith) in
-    ap (λ l. printed (relabel_read (line (b ∷ bs)).before (line (line (b ∷ bs)).after).before) ++ l) (enough m n rest (omega (arith, less, h)) (omega (arith, less, k)))
+    ap (λ l. printed (relabel_read (line (b ∷ bs)).before (line (line (b ∷ bs)).after).before) ++ l)
+    (enough m n rest (omega (arith, less, h)) (omega (arith, less, k)))
 
 -- the first label, and those behind it
 first : (s : List ℕ) → 0 < length s
