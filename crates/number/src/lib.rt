@@ -7,7 +7,7 @@ ghost use Rattle.label.specs.Bytes.{is_digit};
 ghost use Rattle.label.specs.Entry.{nearest, scaled};
 ghost use Rattle.label.specs.Requests.RoundedCount.{is_whole};
 ghost use Rattle.number.specs.Digits.{cap, pushed, digits_from};
-ghost use Rattle.number.specs.Numbers.{sized, mantissa_of, cut_mantissa, sign_length, exponent_of, cut_exponent, number_of, formed};
+ghost use Rattle.number.specs.Numbers.{sized, Small, mantissa_of, cut_mantissa, sign_length, exponent_of, cut_exponent, number_of, formed};
 
 use label::Limits;
 
@@ -220,6 +220,7 @@ pub fn number_at(s: &[u8], at: usize) -> Option<Number>
     requires { at ≤ length s.now }
     ensures value { result ≡ formed (number_of (drop at s.now)) }
     ensures bounds { IfSome result (λ n. at + n.used ≤ length s.now) }
+    ensures small { IfSome result (λ n. Small n.size) }
 {
     let m = mantissa_at(s, at)?;
     let x = exponent_at(s, at + m.used)?;
