@@ -11,10 +11,9 @@ use Rattle.label.specs.Steps.{decode}
 use Rattle.label.proofs.Basics.{no_ok, cases}
 use Rattle.label.proofs.Run.{ok_path}
 use Rattle.label.proofs.Tails.{tail_nil, tail_char}
-use Rattle.text.specs.Units.{units_from, well_formed}
 use Rattle.text.specs.Walk.{characters, characters_from}
 use Rattle.text.proofs.Walk.{units_read, reads}
-use Rattle.text.proofs.Moves.{taken, left_all}
+use Rattle.text.proofs.Moves.{taken}
 
 clusters : (k at : ℕ) (s us : List ℕ) → units_read (characters k at s) ≡ ok us → length (characters k at s) ≡ length (tail us).clusters
 unfolding characters
@@ -29,5 +28,5 @@ clusters zero at (b ∷ s) us h =
     (λ x. no_ok 3 at us (rw (t, x) at h)))
     (λ t. no_ok 2 at us (rw t at h))
 
-pub tail_count : (s : List ℕ) (i : ℕ) → well_formed s i ≡ true → length (characters_from s i) ≡ length (tail (units_from s i)).clusters
-tail_count s i h = clusters 0 i (drop i s) (units_from s i) (left_all s i h)
+pub tail_count : (s us : List ℕ) (i : ℕ) → decode 0 i (drop i s) ≡ ok us → length (characters_from s i) ≡ length (tail us).clusters
+tail_count s us i h = clusters 0 i (drop i s) us (sym (reads 0 i (drop i s)) ∙ h)

@@ -19,7 +19,7 @@ use Rattle.label.proofs.Utf8.{laws, scalar_of, read_at, utf8_one}
 use Rattle.label.proofs.Run.{ok_path}
 use Rattle.label.proofs.Sound.{TextIs, text_ok}
 use Rattle.utf8.proofs.Rows.{starts_one}
-use Rattle.std.specs.Prelude.{Ok, Err, nat_eq}
+use Rattle.std.specs.Prelude.{nat_eq}
 use Rattle.std.specs.List.{starts_with}
 use Rattle.std.proofs.lemmas.Grind.{common_steps}
 use Rattle.text.specs.Texts.{text_count, units_start, units_read, text_read, units_within}

@@ -1,4 +1,3 @@
 pub mod Moves
 pub mod Texts
-pub mod Units
 pub mod Walk
