@@ -1,5 +1,5 @@
--- A step of the walk: what is left of the test is the next glyph's part, its cluster's where it opens one, and what is left behind it. At the end all is used.
--- up. Assumes nothing.
+-- A step of the walk: what is left of the test is the next glyph's part, its cluster's where it opens one, and what is left behind it; at the end, nothing.
+-- Assumes nothing.
 use Rattle.std.proofs.Common.{◌≡◌, ℕ, zero, suc, ◌+◌, ◌-◌, ◌*◌, ◌<◌, ◌≤◌, Bool, true, false, not, ◌&&◌, ◌||◌, List, [], ◌∷◌, ℤ, length, drop, refl, ◌∙◌, arith, length-drop, ◌%◌, IsTrue}
 use Rattle.label.specs.Bytes.{empty}
 use Rattle.label.specs.Fetched.{halves, words}
