@@ -9,6 +9,7 @@ module _ (l w : List ℕ) (at r : ℕ) where
   unfolding half_at
   half_fetched e f = grind (arith, common_steps)
 
-  pub word_fetched : w ≡ take 4 (drop at l) → r ≡ slice_index w 0 + slice_index w 1 * 256 + slice_index w 2 * 65536 + slice_index w 3 * 16777216 → r ≡ word_at l at
+  pub word_fetched : w ≡ take 4 (drop at l)
+      → r ≡ slice_index w 0 + slice_index w 1 * 256 + slice_index w 2 * 65536 + slice_index w 3 * 16777216 → r ≡ word_at l at
   unfolding word_at
   word_fetched e f = grind (arith, common_steps)
