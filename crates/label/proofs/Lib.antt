@@ -1,5 +1,6 @@
 pub mod Basics
 pub mod Lists
+pub mod Causes
 pub mod Steps
 pub mod Checks
 pub mod Splits

@@ -1,7 +1,8 @@
--- The calls with their lent buffers: 16 to 18, 20 and 21, the list of records; what each buffer holds afterwards; and for each answer enum of a
--- call the papers' number, place and values of each of its cases.
+-- The calls with their lent buffers: 16 to 18, 20 and 21, the list of records; what each buffer holds afterwards; and for the answers of a
+-- call the papers' number, place and values of each of their cases.
 -- Assumes nothing.
-use Rattle.std.specs.Prelude.{ℕ, ◌/◌, Bool, false, List, [], ◌++◌, ◌∷◌, ℤ, drop, length}
+use Rattle.std.specs.Prelude.{ℕ, ◌/◌, Bool, false, List, [], ◌++◌, ◌∷◌, ℤ, drop, length, Result, Ok, Err}
+use Rattle.label.specs.Cause.{cause_number}
 use Rattle.label.specs.Outcome.{Outcome, ok, no, ◌>>◌, Check, check, above, verdict}
 use Rattle.label.specs.Run.{Run, said_run}
 use Rattle.label.specs.Checks.{label_checks}
@@ -11,50 +12,33 @@ use Rattle.label.specs.Sound.{run_of}
 use Rattle.label.specs.Pick.{sound_checks}
 use Rattle.label.specs.Write.{Label, normal}
 use Rattle.label.specs.Requests.Attribute.{as_asked}
+use Rattle.label.specs.declared.Cause.{Cause}
 use Rattle.label.specs.declared.Counts.{Counts}
-use Rattle.label.specs.declared.Filling.{Filling}
 use Rattle.label.specs.declared.Glyph.{Glyph}
 use Rattle.label.specs.declared.Lengths.{Lengths}
-use Rattle.label.specs.declared.Pick.{Pick}
 use Rattle.label.specs.declared.Reading.{Reading}
 use Rattle.label.specs.declared.Refusal.{Refusal}
-use Rattle.label.specs.declared.Stretch.{Stretch}
-use Rattle.label.specs.declared.Writing.{Writing}
-use Rattle.label.specs.declared.Reading.TheVariants as R
-use Rattle.label.specs.declared.Writing.TheVariants as W
-use Rattle.label.specs.declared.Pick.TheVariants as P
-use Rattle.label.specs.declared.Filling.TheVariants as F
 
 -- ── answers ──
 
--- a refusal: a number of the table and its "Returned place"
-abbrev pub refusal : ℕ → ℕ → Refusal
-refusal n p = record { number = n; place = p }
+-- a refusal: a cause of the tables and its "Returned place"
+abbrev pub refusal : Cause → ℕ → Refusal
+refusal c p = record { cause = c; place = p }
 
--- "If an answer is an enum, a definition gives this paper's number and values for every case of the enum": of a reading
-abbrev pub reading_outcome : Reading → Outcome Counts
-reading_outcome (R.Read c n) = ok c
-reading_outcome (R.Refused x) = no x.number x.place
+-- "If an answer is an enum, a definition gives this paper's number and values for every case of the enum": of every call that gives a value or a refusal
+abbrev pub outcome_of : {A : Type 0} → Result A Refusal → Outcome A
+outcome_of (Ok a) = ok a
+outcome_of (Err x) = no (cause_number x.cause) x.place
+
+-- of a reading
+abbrev pub reading_outcome : Result Reading Refusal → Outcome Counts
+reading_outcome (Ok r) = ok r.counts
+reading_outcome (Err x) = no (cause_number x.cause) x.place
 
 -- document 02, CR 1: the count of rounded fields for every case of the answer, "a refusal as 0"
-abbrev pub reading_rounded : Reading → ℕ
-reading_rounded (R.Read c n) = n
-reading_rounded (R.Refused x) = 0
-
--- the same of a writing
-abbrev pub writing_outcome : Writing → Outcome Lengths
-writing_outcome (W.Written n) = ok n
-writing_outcome (W.Refused x) = no x.number x.place
-
--- of a pick
-abbrev pub pick_outcome : Pick → Outcome Stretch
-pick_outcome (P.Picked s) = ok s
-pick_outcome (P.Refused x) = no x.number x.place
-
--- and of a call that fills one list or buffer
-abbrev pub filling_outcome : Filling → Outcome ℕ
-filling_outcome (F.Filled n) = ok n
-filling_outcome (F.Refused x) = no x.number x.place
+abbrev pub reading_rounded : Result Reading Refusal → ℕ
+reading_rounded (Ok r) = r.rounded
+reading_rounded (Err x) = 0
 
 -- ── buffers ──
 

@@ -2,6 +2,8 @@
 pub mod Limits
 -- Document 01, checks: a value or a refusal, and which check decides; believe
 pub mod Outcome
+-- Documents 01 and 02, checks: the number of each cause; believe
+pub mod Cause
 -- Document 01, the text and the entries: parts of byte strings, digits, pieces; believe
 pub mod Bytes
 -- Document 01, the text: UTF-8, XML's Char, `{}`, code units; believe

@@ -2,9 +2,12 @@
 // The definitions are in specs/, their laws and the demands' proofs in proofs/.
 #![tactic(auto)]
 
-ghost use Rattle.std.specs.Prelude.{◌≡◌};
+ghost use Rattle.std.specs.Prelude.{◌≡◌, Some};
 ghost use Rattle.label.specs.Limits.{max_text_bytes, max_indices_bytes, max_units, max_glyphs, max_index, max_digits, max_exponent_digits, max_thousandths, max_line_bytes};
+ghost use Rattle.label.specs.Cause.{cause_number, CauseOf, refusal_text};
 ghost use Rattle.label.specs.Calls.{refusal};
+
+use std::fmt;
 
 // The limits type.
 #[derive(Clone, Copy)]
@@ -135,11 +138,139 @@ pub struct Cluster {
     pub glyphs: u32,
 }
 
-// A refusal: its number and its place in document 01's table.
+// Why a label, a run or a file is refused: the causes of both documents' tables in the order of their numbers, in the documents' words.
+#[derive(Clone, Copy, PartialEq, Eq)]
+pub enum Cause {
+    // text above 16,384 bytes or indices above 262,144
+    TooManyBytes = 1,
+    // ill-formed UTF-8
+    IllFormedText,
+    // character outside XML Char
+    BarredCharacter,
+    // `{` first, no `}` after
+    LoneBrace,
+    // above 4,096 units
+    TooManyUnits,
+    // no units and no indices bytes
+    NothingGiven,
+    // entry not well formed
+    IllFormedEntry,
+    // index above 65,535
+    IndexTooLarge,
+    // above 18 digits before the exponent, above 2 in it, or size above 1,000,000,000 thousandths
+    NumberTooLarge,
+    // a or b is 0
+    ZeroCount,
+    // map or missing index where barred above
+    MisplacedEntry,
+    // cluster passes the end of a text that has units
+    PastTextEnd,
+    // cluster ends inside a pair
+    SplitPair,
+    // open cluster lacks glyphs
+    MissingGlyphs,
+    // above 4,096 glyphs, tail included
+    TooManyGlyphs,
+    // unit buffer too short
+    UnitRoom,
+    // cluster buffer too short
+    ClusterRoom,
+    // glyph buffer too short
+    GlyphRoom,
+    // run handed in is not sound
+    UnsoundRun,
+    // text output too short
+    TextRoom,
+    // indices output too short
+    IndicesRoom,
+    // pick empty, reversed or past the end
+    BadPick,
+    // bad reference or raw `<`
+    BadReference,
+    // lent buffer too short
+    ResolvedRoom,
+    // mark or version wrong or cut off
+    BadSheetMark,
+    // file ends inside a record
+    CutSheet,
+    // answer list too short
+    AnswerRoom,
+}
+
+impl Cause {
+    // Its number in the tables.
+    pub fn number(self) -> u32
+        ensures { result ≡ cause_number self }
+    {
+        self as u32
+    }
+
+    // The refusal with this cause at this place.
+    pub fn at(self, place: usize) -> Refusal
+        ensures { result ≡ refusal self place }
+    {
+        Refusal { cause: self, place }
+    }
+}
+
+// A number that no cause has.
+#[derive(Clone, Copy)]
+pub struct UnknownCause(pub u32);
+
+impl TryFrom<u32> for Cause {
+    type Error = UnknownCause;
+
+    ghost try_from_gives = { CauseOf };
+
+    fn try_from(number: u32) -> Result<Cause, UnknownCause> {
+        match number {
+            1 => Ok(Cause::TooManyBytes),
+            2 => Ok(Cause::IllFormedText),
+            3 => Ok(Cause::BarredCharacter),
+            4 => Ok(Cause::LoneBrace),
+            5 => Ok(Cause::TooManyUnits),
+            6 => Ok(Cause::NothingGiven),
+            7 => Ok(Cause::IllFormedEntry),
+            8 => Ok(Cause::IndexTooLarge),
+            9 => Ok(Cause::NumberTooLarge),
+            10 => Ok(Cause::ZeroCount),
+            11 => Ok(Cause::MisplacedEntry),
+            12 => Ok(Cause::PastTextEnd),
+            13 => Ok(Cause::SplitPair),
+            14 => Ok(Cause::MissingGlyphs),
+            15 => Ok(Cause::TooManyGlyphs),
+            16 => Ok(Cause::UnitRoom),
+            17 => Ok(Cause::ClusterRoom),
+            18 => Ok(Cause::GlyphRoom),
+            19 => Ok(Cause::UnsoundRun),
+            20 => Ok(Cause::TextRoom),
+            21 => Ok(Cause::IndicesRoom),
+            22 => Ok(Cause::BadPick),
+            23 => Ok(Cause::BadReference),
+            24 => Ok(Cause::ResolvedRoom),
+            25 => Ok(Cause::BadSheetMark),
+            26 => Ok(Cause::CutSheet),
+            27 => Ok(Cause::AnswerRoom),
+            _ => Err(UnknownCause(number)),
+        }
+    }
+}
+
+// A refusal: its cause, and its place in document 01's table.
 #[derive(Clone, Copy)]
 pub struct Refusal {
-    pub number: usize,
+    pub cause: Cause,
     pub place: usize,
+}
+
+impl fmt::Display for Refusal {
+    ghost output = { λ x. Some (refusal_text x) };
+
+    fn fmt<W: fmt::Write>(&self, f: &mut fmt::Formatter<W>) -> fmt::Result {
+        let number = self.cause.number();
+        let place = self.place;
+        write!(f, "{number} {place}")
+    }
 }
 
 // How many units, clusters and glyphs a run has.
@@ -150,20 +281,11 @@ pub struct Counts {
     pub glyphs: usize,
 }
 
-// What the reader says of a label: its run's counts, and beside them how many given fields were not whole thousandths; or the refusal.
+// What the reader says of a label that it accepts: its run's counts, and beside them how many given fields were not whole thousandths.
 #[derive(Clone, Copy)]
-pub enum Reading {
-    Read { counts: Counts, rounded: usize },
-    Refused(Refusal),
-}
-
-impl Reading {
-    // The refusal with this number and this place.
-    pub fn refused(number: usize, place: usize) -> Reading
-        ensures { result ≡ Reading.Refused (refusal number place) }
-    {
-        Reading::Refused(Refusal { number, place })
-    }
+pub struct Reading {
+    pub counts: Counts,
+    pub rounded: usize,
 }
 
 // How many bytes the writer wrote.
@@ -173,12 +295,6 @@ pub struct Lengths {
     pub indices: usize,
 }
 
-#[derive(Clone, Copy)]
-pub enum Writing {
-    Written(Lengths),
-    Refused(Refusal),
-}
-
 // A stretch of code units or of glyphs, from `first` up to and without `end`.
 #[derive(Clone, Copy)]
 pub struct Stretch {
@@ -186,32 +302,17 @@ pub struct Stretch {
     pub end: usize,
 }
 
+// The text of a label, or its indices.
 #[derive(Clone, Copy)]
-pub enum Pick {
-    Picked(Stretch),
-    Refused(Refusal),
-}
-
-// How many places of a lent list or buffer were filled.
-#[derive(Clone, Copy)]
-pub enum Filling {
-    Filled(usize),
-    Refused(Refusal),
-}
-
-impl Filling {
-    // The refusal with this number and this place.
-    pub fn refused(number: usize, place: usize) -> Filling
-        ensures { result ≡ Filling.Refused (refusal number place) }
-    {
-        Filling::Refused(Refusal { number, place })
-    }
+pub enum Source {
+    Text,
+    Indices,
 }
 
 // A part of the text or of the indices of a label.
 #[derive(Clone, Copy)]
 pub struct Part {
-    pub in_indices: bool,
+    pub source: Source,
     pub start: usize,
     pub length: usize,
 }

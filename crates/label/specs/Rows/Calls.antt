@@ -1,6 +1,6 @@
 -- Edges of the calls, computed: soundness and writing, picks, faults, the list of records, buffers.
 -- Assumes nothing.
-use Rattle.std.specs.Prelude.{refl, ◌≡◌, false, true, List, map, [], ◌++◌, ◌∷◌, negsuc, pos, replicate}
+use Rattle.std.specs.Prelude.{refl, ◌≡◌, List, map, [], ◌++◌, ◌∷◌, negsuc, pos, replicate}
 use Rattle.label.specs.Outcome.{ok, no, verdict}
 use Rattle.label.specs.Bytes.{ascii, split, cut, all_digits, value_from, join_rest, join, trim, decimal_from, decimal, each, pieces}
 use Rattle.label.specs.Text.{table, row_fits, fitting, starts_char, more_bytes, following, scalar, xml_char, units_of}
@@ -16,6 +16,7 @@ use Rattle.label.specs.Pick.{stretch, holding, touched, turned, pick_checks, pic
 use Rattle.label.specs.Fault.{entry_start, portion, fault_part}
 use Rattle.label.specs.Calls.{filled_count, read_checks, read_into, counted, units_after, clusters_after, glyphs_after, write_checks, write_asked, write_into, lengths, list_checks, list_into}
 use Rattle.label.specs.Relabel.{relabel_read}
+use Rattle.label.specs.declared.Source.TheVariants.{Text, Indices}
 use Rattle.label.specs.Rows.Types.{grin, handed, sizes, plain, font, pair, label, Writes, writes, Picked, picked, Shown, shown, buffers, glyph_bytes, cluster_bytes}
 
 -- ── writings ──
@@ -94,12 +95,12 @@ picks =
 unfoldable pub faults : List Shown
 faults =
     -- 2 to 4 show the text from the place on; its length is past the last
-    shown 2 1 (portion false 1 1) ∷ shown 4 0 (portion false 0 2) ∷ shown 3 2 (portion false 0 0) ∷
+    shown 2 1 (portion Text 1 1) ∷ shown 4 0 (portion Text 0 2) ∷ shown 3 2 (portion Text 0 0) ∷
     -- 7 to 12 and 14 show an entry, an empty one at its own start; the count of entries is past the last
-    shown 7 0 (portion true 0 6) ∷ shown 11 1 (portion true 7 0) ∷ shown 14 0 (portion true 0 6) ∷ shown 12 2 (portion false 0 0) ∷
+    shown 7 0 (portion Indices 0 6) ∷ shown 11 1 (portion Indices 7 0) ∷ shown 14 0 (portion Indices 0 6) ∷ shown 12 2 (portion Text 0 0) ∷
     -- any other number
-    shown 1 0 (portion false 0 0) ∷ shown 5 0 (portion false 0 0) ∷ shown 6 0 (portion false 0 0) ∷
-    shown 13 1 (portion false 0 0) ∷ shown 15 0 (portion false 0 0) ∷
+    shown 1 0 (portion Text 0 0) ∷ shown 5 0 (portion Text 0 0) ∷ shown 6 0 (portion Text 0 0) ∷
+    shown 13 1 (portion Text 0 0) ∷ shown 15 0 (portion Text 0 0) ∷
     []
 
 -- each run is written, each stretch picked and each fault shown as its row says
