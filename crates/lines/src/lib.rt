@@ -1,11 +1,13 @@
 // A label on two lines, read and written again: what the programs `relabel` and `trials` print.
 #![tactic(auto)]
 
-ghost use Rattle.std.specs.Prelude.{◌≡◌, ◌+◌, ◌*◌, ◌≤◌, ◌<◌, min, length};
+ghost use Rattle.std.specs.Prelude.{◌≡◌, ◌+◌, ◌*◌, ◌≤◌, ◌<◌, eqb, length, position};
 ghost use Rattle.label.specs.Limits.{max_text_bytes, max_indices_bytes, max_units, max_glyphs, max_line_bytes};
-ghost use Rattle.label.specs.Relabel.{relabel_read};
+ghost use Rattle.label.specs.Relabel.{line, relabel_read};
 ghost use Rattle.label.specs.Calls.{writing_outcome, lengths, text_after, indices_after, outputs};
-ghost use Rattle.lines.specs.Lines.{line_end, line_behind, two_lines, answered, places_written, relabel_outcome, relabelled, text_line, indices_line};
+ghost use Rattle.std.specs.Iterator.{at_most};
+ghost use Rattle.lines.specs.Labels.{TwoLinesOf, GivesLabel};
+ghost use Rattle.lines.specs.Lines.{answered, places_written, relabel_outcome, relabelled, text_line, indices_line};
 
 use label::{Counts, Lengths, Limits, Reading, Refusal, Writing};
 
@@ -21,49 +23,78 @@ pub enum Relabelling {
     No(Refusal),
 }
 
-// The end of the line that starts at `from`: its line feed, or the end of the input.
-fn line_end(s: &[u8], from: usize) -> usize
-    requires { from ≤ length s.now }
-    ensures value { result ≡ line_end s.now from }
-    ensures bounds { (from ≤ result) × (result ≤ length s.now) }
-{
-    octets::find_byte(s, from, 10)
-}
-
-// The place behind a line that ends at `end`: behind its line feed, or the end of the input.
-fn next_line(s: &[u8], end: usize) -> usize
-    requires { end ≤ length s.now }
-    ensures value { result ≡ line_behind s.now end }
-    ensures bounds { (end ≤ result) × (result ≤ length s.now) × (min (end + 1) (length s.now) ≤ result) }
-{
-    if end < s.len() { end + 1 } else { end }
-}
-
-// Where a label's two lines stand: the text up to `text_end`, the indices from `start` to `end`, and what follows from `next` on.
+// A line, and what follows it.
 #[derive(Clone, Copy)]
-pub struct TwoLines {
-    pub text_end: usize,
-    pub start: usize,
-    pub end: usize,
-    pub next: usize,
+pub struct Line<'a> {
+    pub bytes: &'a [u8],
+    pub rest: &'a [u8],
 }
 
-// The two lines from `at` on.
-pub fn two_lines(s: &[u8], at: usize) -> TwoLines
-    requires { at ≤ length s.now }
-    ensures value { result ≡ two_lines s.now at }
-    ensures bounds { let n = length s.now in
-        (at ≤ result.text_end) × (result.text_end ≤ n) × (result.start ≤ result.end) × (result.end ≤ n) × (result.next ≤ n) × (at < n → at < result.next) }
+// Where the first line feed stands.
+fn line_feed(input: &[u8]) -> Option<usize>
+    ensures { result ≡ position (λ b. eqb b 10) input.now }
 {
-    let text_end = line_end(s, at);
-    let start = next_line(s, text_end);
-    let end = line_end(s, start);
-    let next = next_line(s, end);
+    input.iter().position(|b| *b == b'\n')
+}
+
+// The first line: a line feed ends it and is no part of it.
+pub fn first_line(input: &[u8]) -> Line<'_>
+    ensures bytes { result.bytes.now ≡ (line input.now).before }
+    ensures rest { result.rest.now ≡ (line input.now).after }
+{
+    match line_feed(input) {
+        Some(end) => Line {
+            bytes: &input[..end],
+            rest: &input[end + 1..],
+        },
+        None => Line {
+            bytes: input,
+            rest: &[],
+        },
+    }
+}
+
+// A label's two lines, and what follows them.
+#[derive(Clone, Copy)]
+pub struct TwoLines<'a> {
+    pub text: &'a [u8],
+    pub indices: &'a [u8],
+    pub rest: &'a [u8],
+}
+
+// The first two lines; a missing one is empty.
+pub fn two_lines(input: &[u8]) -> TwoLines<'_>
+    ensures { TwoLinesOf input.now result }
+{
+    let text = first_line(input);
+    let indices = first_line(text.rest);
     TwoLines {
-        text_end,
-        start,
-        end,
-        next,
+        text: text.bytes,
+        indices: indices.bytes,
+        rest: indices.rest,
+    }
+}
+
+// The labels of an input, two lines each, up to its end.
+#[derive(Clone, Copy)]
+pub struct Labels<'a> {
+    pub rest: &'a [u8],
+}
+
+impl<'a> Iterator for Labels<'a> {
+    type Item = TwoLines<'a>;
+
+    ghost next_gives = { GivesLabel };
+
+    ghost remaining = { λ s. at_most (length s.rest.now) };
+
+    fn next(&mut self) -> Option<TwoLines<'a>> {
+        if self.rest.is_empty() {
+            return None;
+        }
+        let lines = two_lines(self.rest);
+        self.rest = lines.rest;
+        Some(lines)
     }
 }
 

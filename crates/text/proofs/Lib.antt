@@ -1,4 +1,7 @@
+pub mod Walk
 pub mod Counts
+pub mod Units
 pub mod Moves
-pub mod Texts
 pub mod Fills
+pub mod Tails
+pub mod Texts

@@ -1,3 +1,5 @@
 pub mod Signed
 pub mod Tests
 pub mod Fetched
+pub mod Runs
+pub mod Stored

@@ -1,10 +1,14 @@
 -- The numbers of a run at a place: one of them, a cluster's two, a glyph's four.
 -- Assumes nothing.
-use Rattle.std.specs.Prelude.{ℕ, ◌+◌, List, ℤ, pos, get_or}
+use Rattle.std.specs.Prelude.{ℕ, ◌+◌, ◌*◌, List, ℤ, pos, get_or}
+use Rattle.label.specs.Places.{Places, places}
 use Rattle.label.specs.Run.{cluster}
 use Rattle.label.specs.Sound.{nat, number_index, number_advance}
 use Rattle.label.specs.declared.Glyph.{Glyph}
 use Rattle.label.specs.declared.Cluster.{Cluster}
+use Rattle.wire.specs.declared.ClusterNumbers.{ClusterNumbers}
+use Rattle.wire.specs.declared.GlyphNumbers.{GlyphNumbers}
+use Rattle.wire.specs.declared.Run.{Run}
 
 -- place k of numbers; past the end 0
 abbrev pub place : List ℤ → ℕ → ℤ
@@ -21,3 +25,22 @@ glyph_of i a u v = record { index = number_index i; advance = number_advance a; 
 -- the glyph whose four numbers begin at place k
 unfoldable pub glyph_at : List ℤ → ℕ → Glyph
 glyph_at s k = glyph_of (place s k) (place s (k + 1)) (place s (k + 2)) (place s (k + 3))
+
+-- the two numbers of cluster n
+unfoldable pub cluster_numbers : List ℤ → ℕ → ClusterNumbers
+cluster_numbers s n = record { units = place s (2 * n); glyphs = place s (2 * n + 1) }
+
+-- the four numbers of glyph k
+unfoldable pub glyph_numbers : List ℤ → ℕ → GlyphNumbers
+glyph_numbers s k = record { index = place s (4 * k); advance = place s (4 * k + 1); u = place s (4 * k + 2); v = place s (4 * k + 3) }
+
+-- the cluster and the glyph that have these numbers
+abbrev pub as_cluster : ClusterNumbers → Cluster
+as_cluster n = cluster (nat n.units) (nat n.glyphs)
+
+abbrev pub as_glyph : GlyphNumbers → Glyph
+as_glyph n = record { index = number_index n.index; advance = number_advance n.advance; u = n.u; v = n.v }
+
+-- the places that a run's buffers hold
+abbrev pub as_places : Run → Places
+as_places r = places r.units.now r.clusters.now r.glyphs.now

@@ -5,9 +5,10 @@
 ghost use Rattle.std.specs.Prelude.{◌≡◌, ◌*◌, ◌/◌, ◌%◌, ◌<◌, length, get_or, pos, [], ◌∷◌};
 ghost use Rattle.label.specs.Wire.{bits_of, four_bytes};
 ghost use Rattle.label.specs.Fetched.{halves, signed, words};
-ghost use Rattle.label.specs.Sound.{natural, choice, nat as nat_of, size as size_of, is_font};
+ghost use Rattle.label.specs.Run.{named};
+ghost use Rattle.label.specs.Sound.{natural, choice, nat as nat_of, size as size_of, clusters_of, glyphs_of, is_font};
 ghost use Rattle.octets.specs.Puts.{puts};
-ghost use Rattle.wire.specs.Numbers.{glyph_of};
+ghost use Rattle.wire.specs.Numbers.{glyph_of, as_glyph, glyph_numbers, cluster_numbers};
 
 // ── how many ──
 
@@ -31,10 +32,10 @@ pub fn number_count(s: &[u8]) -> usize
 pub fn unit_at(s: &[u8], j: usize) -> u16
     ensures { result ≡ get_or (halves s.now) j 0 }
 {
-    if j < s.len() / 2 {
-        octets::get_u16(s, 2 * j)
-    } else {
-        0
+    let (units, _) = s.as_chunks::<2>();
+    match units.get(j) {
+        Some(unit) => u16::from_le_bytes(*unit),
+        None => 0,
     }
 }
 
@@ -44,6 +45,127 @@ pub fn number_at(s: &[u8], k: usize) -> u32
     ensures { signed result ≡ get_or (words s.now) k (pos 0) }
 {
     octets::get_u32(s, 4 * k)
+}
+
+// Number k: two's complement, low byte first.
+pub fn number(s: &[u8], k: usize) -> i32
+    requires { k < length (words s.now) }
+    ensures { result ≡ get_or (words s.now) k (pos 0) }
+{
+    let (numbers, _) = s.as_chunks::<4>();
+    i32::from_le_bytes(numbers[k])
+}
+
+// ── the numbers of a cluster and of a glyph ──
+
+// How many units and how many glyphs a cluster has.
+#[derive(Clone, Copy)]
+pub struct ClusterNumbers {
+    pub units: i32,
+    pub glyphs: i32,
+}
+
+impl ClusterNumbers {
+    // Those of cluster n.
+    #[tactic(auto, using(crate::proofs::Fetched::words_length), unfolding(crate::specs::Numbers::cluster_numbers))]
+    pub fn at(clusters: &[u8], n: usize) -> ClusterNumbers
+        requires { n < length clusters.now / 8 }
+        ensures { result ≡ cluster_numbers (words clusters.now) n }
+    {
+        ClusterNumbers {
+            units: number(clusters, 2 * n),
+            glyphs: number(clusters, 2 * n + 1),
+        }
+    }
+
+    // 0 for a negative one
+    pub fn unit_count(self) -> usize
+        ensures value { result ≡ nat_of self.units }
+        ensures bounds { result < 2147483648 }
+    {
+        self.units.max(0) as usize
+    }
+
+    pub fn glyph_count(self) -> usize
+        ensures value { result ≡ nat_of self.glyphs }
+        ensures bounds { result < 2147483648 }
+    {
+        self.glyphs.max(0) as usize
+    }
+}
+
+// A glyph's index, −1 for the font; its advance, −1 for the font's own; and its two offsets.
+#[derive(Clone, Copy)]
+pub struct GlyphNumbers {
+    pub index: i32,
+    pub advance: i32,
+    pub u: i32,
+    pub v: i32,
+}
+
+impl GlyphNumbers {
+    // Those of glyph k.
+    #[tactic(auto, using(crate::proofs::Fetched::words_length), unfolding(crate::specs::Numbers::glyph_numbers))]
+    pub fn at(glyphs: &[u8], k: usize) -> GlyphNumbers
+        requires { k < length glyphs.now / 16 }
+        ensures { result ≡ glyph_numbers (words glyphs.now) k }
+    {
+        GlyphNumbers {
+            index: number(glyphs, 4 * k),
+            advance: number(glyphs, 4 * k + 1),
+            u: number(glyphs, 4 * k + 2),
+            v: number(glyphs, 4 * k + 3),
+        }
+    }
+
+    // Whether the index is the label's.
+    pub fn is_named(self) -> bool
+        ensures { result ≡ named (as_glyph self).index }
+    {
+        0 <= self.index
+    }
+
+    // Whether the glyph is wholly the font's.
+    pub fn is_font(self) -> bool
+        ensures { result ≡ is_font (as_glyph self) }
+    {
+        self.index < 0 && self.advance < 0 && self.u == 0 && self.v == 0
+    }
+}
+
+// ── a run ──
+
+// A run's three buffers.
+#[derive(Clone, Copy)]
+pub struct Run<'a> {
+    pub units: &'a [u8],
+    pub clusters: &'a [u8],
+    pub glyphs: &'a [u8],
+}
+
+impl<'a> Run<'a> {
+    pub fn unit_count(self) -> usize
+        ensures value { result ≡ length (halves self.entry.units.now) }
+        ensures bounds { result ≡ length self.entry.units.now / 2 }
+    {
+        unit_count(self.units)
+    }
+
+    #[tactic(auto, using(crate::proofs::Runs::clusters_length))]
+    pub fn cluster_count(self) -> usize
+        ensures value { result ≡ length (clusters_of (words self.entry.clusters.now)) }
+        ensures bounds { result ≡ length self.entry.clusters.now / 8 }
+    {
+        self.clusters.len() / 8
+    }
+
+    #[tactic(auto, using(crate::proofs::Runs::glyphs_length))]
+    pub fn glyph_count(self) -> usize
+        ensures value { result ≡ length (glyphs_of (words self.entry.glyphs.now)) }
+        ensures bounds { result ≡ length self.entry.glyphs.now / 16 }
+    {
+        self.glyphs.len() / 16
+    }
 }
 
 // ── a number in hand, by its bits ──
@@ -115,8 +237,8 @@ pub fn put_unit(out: &mut [u8], j: usize, u: u16)
     requires { j < length out.old / 2 }
     ensures { out.new ≡ puts out.old (2 * j) (u % 256 ∷ u / 256 ∷ []) }
 {
-    let at = 2 * j;
-    octets::put_u16(out, at, u);
+    let i = 2 * j;
+    out[i..i + 2].copy_from_slice(&u.to_le_bytes());
 }
 
 // by its bits
@@ -128,17 +250,10 @@ pub fn put_bits(out: &mut [u8], k: usize, n: u32)
     octets::put_u32(out, at, n);
 }
 
-// The 32 bits of v: the low 31 by a mask, which is never negative, and the sign's.
-fn bits(v: i32) -> u32
-    ensures { result ≡ bits_of v }
-{
-    let low = (v & 0x7fff_ffff) as u32;
-    if v < 0 { low + 0x8000_0000 } else { low }
-}
-
 pub fn put_number(out: &mut [u8], k: usize, v: i32)
     requires { k < length out.old / 4 }
     ensures { out.new ≡ puts out.old (4 * k) (four_bytes (bits_of v)) }
 {
-    put_bits(out, k, bits(v));
+    let i = 4 * k;
+    out[i..i + 4].copy_from_slice(&v.to_le_bytes());
 }
