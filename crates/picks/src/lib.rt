@@ -1,65 +1,75 @@
 // Picks: from a stretch of glyphs to the stretch of code units of all clusters touched, and from code units to glyphs.
 #![tactic(auto)]
 
-ghost use Rattle.label.specs.Places.{places};
-ghost use Rattle.std.specs.Prelude.{◌≡◌, cond, ◌+◌, ◌<◌, leb, length};
-ghost use Rattle.label.specs.Fetched.{halves, words};
-ghost use Rattle.label.specs.Sound.{nat, clusters_of, glyphs_of};
-ghost use Rattle.label.specs.Pick.{touched, pick_glyphs, pick_units};
+ghost use Rattle.std.specs.Prelude.{◌≡◌, ◌<◌, ◌≤◌, length};
+ghost use Rattle.label.specs.Fetched.{words};
+ghost use Rattle.label.specs.Sound.{clusters_of};
+ghost use Rattle.label.specs.Pick.{turned, touched, pick_glyphs, pick_units};
 ghost use Rattle.label.specs.Calls.{refusal, pick_outcome};
-ghost use Rattle.wire.specs.Numbers.{place};
+ghost use Rattle.picks.specs.Ways.{along, turn, total, pick_along};
 ghost use Rattle.sound.specs.Sounds.{unit_sum};
-ghost use Rattle.picks.specs.Ways.{way, pick_along};
+ghost use Rattle.wire.specs.Numbers.{as_cluster, as_places};
 
 use label::{Pick, Refusal, Stretch};
+use wire::{ClusterNumbers, Run};
 
 // ── the clusters touched ──
 
-// The count of units, or of glyphs, of the cluster whose two numbers begin at place i.
-fn count_at(cs: &[u8], i: usize, glyphs: bool) -> usize
-    requires { i + 1 < length (words cs.now) }
-    ensures value { result ≡ cond glyphs (nat (place (words cs.now) (i + 1))) (nat (place (words cs.now) i)) }
-    ensures bounds { result < 2147483648 }
-{
-    if glyphs {
-        wire::count(wire::number_at(cs, i + 1))
-    } else {
-        wire::count(wire::number_at(cs, i))
-    }
+// From glyphs to units, or from units to glyphs. Both are one walk, over the clusters or over them turned, with units for glyphs and glyphs for units.
+#[derive(Clone, Copy)]
+enum Way {
+    ToUnits,
+    ToGlyphs,
 }
 
-// Where the stretch starts, at the last cluster that begins no later than `first`: this one, which begins at `at`, or the one found before.
-fn start_at(passed: usize, first: usize, at: usize, start: usize) -> usize
-    ensures { result ≡ cond (leb passed first) at start }
-{
-    if passed <= first { at } else { start }
+impl Way {
+    fn turn(self, cluster: ClusterNumbers) -> ClusterNumbers
+        ensures { as_cluster result ≡ turn self (as_cluster cluster) }
+    {
+        match self {
+            Way::ToUnits => cluster,
+            Way::ToGlyphs => ClusterNumbers {
+                units: cluster.glyphs,
+                glyphs: cluster.units,
+            },
+        }
+    }
+
+    // How many a run has of what is picked from.
+    fn total(self, run: Run) -> usize
+        ensures { result ≡ total self (as_places run.entry) }
+    {
+        match self {
+            Way::ToUnits => run.glyph_count(),
+            Way::ToGlyphs => run.unit_count(),
+        }
+    }
 }
 
 // The units of all clusters touched by glyphs `first` up to and without `end`; turned, the glyphs of those touched by units.
-// `passed` glyphs and `at` units stand before the cluster at place i; turned, `passed` units and `at` glyphs.
-fn touched_by(cs: &[u8], turn: bool, first: usize, end: usize) -> Stretch
-    requires { (first < end) × (end < 4294967296) × (unit_sum (way turn (clusters_of (words cs.now))) < 4294967296) }
-    ensures { result ≡ touched first end (way turn (clusters_of (words cs.now))) }
+// `passed` glyphs and `at` units stand before cluster n, and `start` is the first unit of the last cluster that begins no later than glyph `first`.
+#[tactic(auto, using(crate::proofs::Touches::walk))]
+fn touched(run: Run, way: Way, first: usize, end: usize) -> Stretch
+    requires stretch { (first < end) × (end ≤ unit_sum (turned (along way (clusters_of (words run.clusters.now))))) }
+    requires bounds { (end < 4294967296) × (unit_sum (along way (clusters_of (words run.clusters.now))) < 4294967296) }
+    ensures { result ≡ touched first end (along way (clusters_of (words run.entry.clusters.now))) }
 {
-    let n = wire::number_count(cs);
     let mut passed = 0;
     let mut at = 0;
     let mut start = 0;
-    let mut i = 0;
-    while 2 <= n - i {
-        start = start_at(passed, first, at, start);
-        passed += count_at(cs, i, !turn);
-        at += count_at(cs, i, turn);
-        if end <= passed {
-            return Stretch {
-                first: start,
-                end: at,
-            };
+    for n in 0..run.cluster_count() {
+        let cluster = way.turn(ClusterNumbers::at(run.clusters, n));
+        if passed <= first {
+            start = at;
         }
-        i += 2;
+        passed += cluster.glyph_count();
+        at += cluster.unit_count();
+        if end <= passed {
+            break;
+        }
     }
     Stretch {
-        first: start_at(passed, first, at, start),
+        first: start,
         end: at,
     }
 }
@@ -72,41 +82,29 @@ fn refused(number: usize) -> Pick
     Pick::Refused(Refusal { number, place: 0 })
 }
 
-// How many glyphs a run has, or, turned, how many units.
-fn count_of(turn: bool, units: &[u8], glyphs: &[u8]) -> usize
-    ensures { result ≡ cond turn (length (halves units.now)) (length (glyphs_of (words glyphs.now))) }
+#[tactic(auto, using(crate::proofs::Picks::picking))]
+fn pick(run: Run, way: Way, first: usize, end: usize) -> Pick
+    ensures { pick_outcome result ≡ pick_along way (as_places run.entry) first end }
 {
-    if turn {
-        wire::unit_count(units)
-    } else {
-        wire::number_count(glyphs) / 4
-    }
-}
-
-// The pick from glyphs to units, or, turned, from units to glyphs.
-fn pick(units: &[u8], clusters: &[u8], glyphs: &[u8], turn: bool, first: usize, end: usize) -> Pick
-    ensures { pick_outcome result ≡ pick_along turn (places units.now clusters.now glyphs.now) first end }
-{
-    if !sound::is_sound(units, clusters, glyphs) {
+    if !sound::is_sound(run) {
         return refused(19);
     }
-    let count = count_of(turn, units, glyphs);
-    if !plain::both(first < end, end <= count) {
+    if !(first < end && end <= way.total(run)) {
         return refused(22);
     }
-    Pick::Picked(touched_by(clusters, turn, first, end))
+    Pick::Picked(touched(run, way, first, end))
 }
 
 // The code units of all clusters touched by glyphs `first` up to and without `end`.
-pub fn units_of(units: &[u8], clusters: &[u8], glyphs: &[u8], first: usize, end: usize) -> Pick
-    ensures { pick_outcome result ≡ pick_units (places units.now clusters.now glyphs.now) first end }
+pub fn units_of(run: Run, first: usize, end: usize) -> Pick
+    ensures { pick_outcome result ≡ pick_units (as_places run.entry) first end }
 {
-    pick(units, clusters, glyphs, false, first, end)
+    pick(run, Way::ToUnits, first, end)
 }
 
 // The glyphs of all clusters touched by code units `first` up to and without `end`.
-pub fn glyphs_of(units: &[u8], clusters: &[u8], glyphs: &[u8], first: usize, end: usize) -> Pick
-    ensures { pick_outcome result ≡ pick_glyphs (places units.now clusters.now glyphs.now) first end }
+pub fn glyphs_of(run: Run, first: usize, end: usize) -> Pick
+    ensures { pick_outcome result ≡ pick_glyphs (as_places run.entry) first end }
 {
-    pick(units, clusters, glyphs, true, first, end)
+    pick(run, Way::ToGlyphs, first, end)
 }

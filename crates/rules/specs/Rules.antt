@@ -1,32 +1,32 @@
 -- The rules of a sound run as the code tests them: how many, a glyph, a cluster.
 -- Assumes nothing.
-use Rattle.std.specs.Prelude.{ℕ, ◌+◌, ◌-◌, ◌%◌, Bool, cond, not, ◌&&◌, ◌||◌, List, leb, eqb, ℤ, length, get_or, drop}
+use Rattle.std.specs.Prelude.{ℕ, ◌%◌, Bool, not, ◌&&◌, ◌||◌, List, [], leb, eqb, drop}
+use Rattle.label.specs.Bytes.{empty}
 use Rattle.label.specs.Limits.{max_units, max_glyphs}
-use Rattle.label.specs.Text.{is_low, is_pair}
-use Rattle.label.specs.Sound.{choice, glyph_fits, is_font}
-use Rattle.wire.specs.Numbers.{glyph_of}
+use Rattle.label.specs.Run.{named}
+use Rattle.label.specs.Sound.{natural, choice, glyph_fits, is_font, may_open}
+use Rattle.label.specs.declared.Cluster.{Cluster}
+use Rattle.label.specs.declared.Glyph.{Glyph}
+use Rattle.wire.specs.Numbers.{as_cluster, as_glyph}
+use Rattle.wire.specs.declared.ClusterNumbers.{ClusterNumbers}
+use Rattle.wire.specs.declared.GlyphNumbers.{GlyphNumbers}
 
--- so many bytes are whole numbers
-abbrev pub whole_bytes : ℕ → ℕ → ℕ → Bool
-whole_bytes u c g = eqb (u % 2) 0 && eqb (c % 4) 0 && eqb (g % 4) 0
+-- so many bytes are whole units, clusters and glyphs
+abbrev pub whole_run : ℕ → ℕ → ℕ → Bool
+whole_run u c g = eqb (u % 2) 0 && eqb (c % 8) 0 && eqb (g % 16) 0
 
 -- so many units and glyphs are within the limits, and not none
 abbrev pub limited : ℕ → ℕ → Bool
 limited u g = leb u max_units && leb g max_glyphs && not (eqb u 0 && eqb g 0)
 
 -- a glyph's four numbers may stand; `t`: a pair of the tail stands before it
-unfoldable pub glyph_ok : Bool → ℤ → ℤ → ℤ → ℤ → Bool
-glyph_ok t i a u v = choice i && choice a && glyph_fits (glyph_of i a u v) && (not t || is_font (glyph_of i a u v))
+abbrev pub glyph_ok : Bool → GlyphNumbers → Bool
+glyph_ok t n = choice n.index && choice n.advance && glyph_fits (as_glyph n) && (not t || is_font (as_glyph n))
 
--- a cluster of a units and b glyphs may stand from unit `at` on; `bare`: the run has no units, `n`: the cluster's first glyph names an index, `f`: it is
--- wholly the font's
-unfoldable pub opens_at : Bool → List ℕ → ℕ → ℕ → ℕ → Bool → Bool → Bool
-opens_at bare us at a b n f =
-    cond bare
-    (eqb a 0 && eqb b 1 && n)
-    (leb 1 a && leb 1 b && leb a (length us - at) && not (is_low (get_or us (at + a) 0))
-    && (n || (eqb a 1 && eqb b 1) || (eqb a 2 && eqb b 1 && is_pair (drop at us) && f)))
+-- a cluster with this first glyph may stand from unit `at` on, if nothing is behind the glyph; its counts are not below 0
+unfoldable pub opens_at : List ℕ → ℕ → ClusterNumbers → GlyphNumbers → Bool
+opens_at us at c g = natural c.units && natural c.glyphs && may_open (empty us) (drop at us) (as_cluster c) (as_glyph g) []
 
 -- all glyphs behind the first of such a cluster have to be wholly the font's
-unfoldable pub owes : Bool → ℕ → ℕ → Bool
-owes n a b = not (n || (eqb a 1 && eqb b 1))
+abbrev pub owes : Cluster → Glyph → Bool
+owes c g = not (named g.index || (eqb c.units 1 && eqb c.glyphs 1))

@@ -1,87 +1,91 @@
 // The rules of a sound run, each by itself: how many, a glyph, a cluster over its units. The walk over a whole run is the crate `sound`.
 #![tactic(auto)]
 
-ghost use Rattle.std.specs.Prelude.{◌≡◌, ◌||◌, ◌/◌, ◌<◌, ◌≤◌, length};
-ghost use Rattle.label.specs.Fetched.{halves, signed};
-ghost use Rattle.label.specs.Sound.{glyph_fits};
-ghost use Rattle.wire.specs.Numbers.{glyph_of};
-ghost use Rattle.rules.specs.Rules.{whole_bytes, limited, glyph_ok, opens_at, owes};
+ghost use Rattle.std.specs.Prelude.{◌≡◌, [], ◌∷◌, ◌/◌, ◌≤◌, ◌&&◌, leb, length, drop};
+ghost use Rattle.label.specs.Fetched.{halves, words};
+ghost use Rattle.label.specs.Run.{keeps_pair};
+ghost use Rattle.label.specs.Sound.{nat, glyph_fits, glyphs_of, tail_pair};
+ghost use Rattle.wire.specs.Numbers.{as_cluster, as_glyph};
+ghost use Rattle.rules.specs.Rules.{whole_run, limited, glyph_ok, opens_at, owes};
+
+use label::Limits;
+use wire::{ClusterNumbers, GlyphNumbers, Run};
 
 // ── how many ──
 
-// Whether so many bytes are whole numbers.
-pub fn whole_bytes(units: usize, clusters: usize, glyphs: usize) -> bool
-    ensures { result ≡ whole_bytes units clusters glyphs }
+// Whether the bytes of a run are whole units, clusters and glyphs.
+pub fn is_whole(run: Run) -> bool
+    ensures { result ≡ whole_run (length run.entry.units.now) (length run.entry.clusters.now) (length run.entry.glyphs.now) }
 {
-    let pairs = plain::both(units % 2 == 0, clusters % 4 == 0);
-    plain::both(pairs, glyphs % 4 == 0)
+    run.units.len() % 2 == 0 && run.clusters.len() % 8 == 0 && run.glyphs.len() % 16 == 0
 }
 
-// Whether a run of so many units and glyphs is within the limits and not empty.
-pub fn is_limited(units: usize, glyphs: usize) -> bool
-    ensures { result ≡ limited units glyphs }
+// Whether a run is within the limits of units and glyphs, and not empty.
+pub fn is_limited(run: Run) -> bool
+    ensures { result ≡ limited (length (halves run.entry.units.now)) (length (glyphs_of (words run.entry.glyphs.now))) }
 {
-    let few = plain::both(
-        units <= label::Limits::UNITS,
-        glyphs <= label::Limits::GLYPHS,
-    );
-    plain::both(few, !plain::both(units == 0, glyphs == 0))
+    let units = run.unit_count();
+    let glyphs = run.glyph_count();
+    units <= Limits::UNITS && glyphs <= Limits::GLYPHS && !(units == 0 && glyphs == 0)
 }
 
-// ── a glyph, by its four numbers ──
+// ── a glyph ──
 
-fn keeps_limits(index: u32, advance: u32, u: u32, v: u32) -> bool
-    ensures { result ≡ glyph_fits (glyph_of (signed index) (signed advance) (signed u) (signed v)) }
+fn keeps_limits(glyph: GlyphNumbers) -> bool
+    ensures { result ≡ glyph_fits (as_glyph glyph) }
 {
-    let i = wire::count(index) as u64 <= label::Limits::INDEX;
-    let a = wire::count(advance) as u64 <= label::Limits::THOUSANDTHS;
-    let x = wire::size(u) as u64 <= label::Limits::THOUSANDTHS;
-    let y = wire::size(v) as u64 <= label::Limits::THOUSANDTHS;
-    plain::both(plain::both(plain::both(i, a), x), y)
+    glyph.index <= Limits::INDEX as i32
+        && glyph.advance <= Limits::THOUSANDTHS as i32
+        && glyph.u.unsigned_abs() <= Limits::THOUSANDTHS as u32
+        && glyph.v.unsigned_abs() <= Limits::THOUSANDTHS as u32
 }
 
-// Index and advance are not below -1, all four keep the limits, and the glyph is wholly the font's where a pair of the tail stands before it.
-pub fn glyph_ok(tail: bool, index: u32, advance: u32, u: u32, v: u32) -> bool
-    ensures { result ≡ glyph_ok tail (signed index) (signed advance) (signed u) (signed v) }
+// Index and advance are not below -1, all four numbers keep the limits, and the glyph is wholly the font's where a pair of the tail stands before it.
+pub fn glyph_ok(tail: bool, glyph: GlyphNumbers) -> bool
+    ensures { result ≡ glyph_ok tail glyph }
 {
-    let whole = plain::both(wire::is_choice(index), wire::is_choice(advance));
-    let limits = keeps_limits(index, advance, u, v);
-    let font = plain::either(!tail, wire::is_font(index, advance, u, v));
-    plain::both(plain::both(whole, limits), font)
+    -1 <= glyph.index && -1 <= glyph.advance && keeps_limits(glyph) && (!tail || glyph.is_font())
 }
 
-// ── a cluster of a units and b glyphs, from unit `at` on ──
+// ── a cluster with its first glyph ──
 
-// `bare`: the run has no units; `named`: the cluster's first glyph names an index; `font`: that glyph is wholly the font's.
-pub fn opens_at(
-    bare: bool,
-    us: &[u8],
-    at: usize,
-    a: usize,
-    b: usize,
-    named: bool,
-    font: bool,
-) -> bool
-    requires { (at ≤ length us.now / 2) × (a < 2147483648) }
-    ensures { result ≡ opens_at bare (halves us.now) at a b named font }
+// Whether all glyphs behind the first have to be wholly the font's: the cluster is not 1:1 and its glyph names no index, so it is a pair of the tail.
+pub fn owes_tail(cluster: ClusterNumbers, glyph: GlyphNumbers) -> bool
+    ensures { result ≡ owes (as_cluster cluster) (as_glyph glyph) }
 {
-    if bare {
-        return plain::both(plain::both(a == 0, b == 1), named);
+    !(glyph.is_named() || cluster.units == 1 && cluster.glyphs == 1)
+}
+
+// Whether there are as many units from unit `at` on as the cluster takes, at least one, and the one behind them is not the low half of a pair.
+fn has_units(run: Run, at: usize, cluster: ClusterNumbers) -> bool
+    requires { at ≤ length run.units.now / 2 }
+    ensures { let us = drop at (halves run.entry.units.now) in
+        let n = nat cluster.units in
+        result ≡ (leb 1 n && leb n (length us) && keeps_pair n us) }
+{
+    let n = cluster.unit_count();
+    1 <= n && n <= run.unit_count() - at && !units::is_low(wire::unit_at(run.units, at + n))
+}
+
+// Whether the cluster is a pair of the tail: the two units from unit `at` on, and one glyph that is wholly the font's.
+#[tactic(auto, unfolding(label::specs::Sound::all_font))]
+fn is_tail_pair(run: Run, at: usize, cluster: ClusterNumbers, glyph: GlyphNumbers) -> bool
+    requires { at ≤ length run.units.now / 2 }
+    ensures { result ≡ tail_pair (drop at (halves run.entry.units.now)) (as_cluster cluster) (as_glyph glyph ∷ []) }
+{
+    cluster.units == 2 && cluster.glyphs == 1 && units::is_pair_at(run.units, at) && glyph.is_font()
+}
+
+// Whether the cluster may stand from unit `at` on, as far as its first glyph tells. In a run without units a cluster has none.
+#[tactic(auto, using(label::proofs::Lists::empty_is), unfolding(crate::specs::Rules::opens_at))]
+pub fn opens_at(run: Run, at: usize, cluster: ClusterNumbers, glyph: GlyphNumbers) -> bool
+    requires { at ≤ length run.units.now / 2 }
+    ensures { result ≡ opens_at (halves run.entry.units.now) at cluster glyph }
+{
+    if run.unit_count() == 0 {
+        return cluster.units == 0 && cluster.glyphs == 1 && glyph.is_named();
     }
-    let counts = plain::both(1 <= a, 1 <= b);
-    let inside = plain::both(counts, a <= wire::unit_count(us) - at);
-    let split = units::is_low(wire::unit_at(us, at + a));
-    let stands = plain::both(inside, !split);
-    if plain::either(named, plain::both(a == 1, b == 1)) {
-        return stands;
-    }
-    let pair = plain::both(plain::both(a == 2, b == 1), units::is_pair_at(us, at));
-    plain::both(stands, plain::both(pair, font))
-}
-
-// Whether all glyphs behind a cluster's first have to be wholly the font's: so where they had to before, or the cluster is a pair of the tail.
-pub fn tail_from(tail: bool, named: bool, a: usize, b: usize) -> bool
-    ensures { result ≡ (tail || owes named a b) }
-{
-    plain::either(tail, !plain::either(named, plain::both(a == 1, b == 1)))
+    has_units(run, at, cluster)
+        && 1 <= cluster.glyphs
+        && (!owes_tail(cluster, glyph) || is_tail_pair(run, at, cluster, glyph))
 }

@@ -1,24 +1,17 @@
 -- What soundness says of a run's three lists: the limits, and that the clusters' counts add up; by label's laws of `fits`.
 -- Assumes nothing.
+use Rattle.std.proofs.Common.{◌≡◌, ℕ, ◌≤◌, true, List, [], ◌∷◌, length, refl, sym, ◌∙◌, ap, zero-add}
 use Rattle.label.specs.Limits.{max_units, max_glyphs}
 use Rattle.label.specs.Fetched.{halves, words}
 use Rattle.label.specs.Places.{places}
 use Rattle.label.specs.Sound.{clusters_of, glyphs_of, run_of, sound}
 use Rattle.label.specs.Pick.{turned}
 use Rattle.label.specs.Statements.Demands.{unit_counts, glyph_counts}
-use Rattle.label.proofs.Places.{sound_places}
-use mathlib.Core.Path.{◌≡◌, refl, sym, ◌∙◌, ap}
-use mathlib.Core.Bool.{true}
-use mathlib.Core.List.{List, [], ◌∷◌}
-use Prim.Native.Nat.{ℕ, ◌+◌, ◌*◌, ◌≤◌}
-use native.Mathlib.Nat.{zero-add}
-use native.Mathlib.Omega.{arith}
-use lib.ListN.{length}
 use Rattle.label.specs.declared.Cluster.{Cluster}
+use Rattle.label.proofs.Places.{sound_places}
 use Rattle.label.proofs.Parts.{sum, fits_units, fits_glyphs, turned_units}
 use Rattle.label.proofs.Sound.{SoundRun, sound_parts}
 use Rattle.sound.specs.Sounds.{unit_sum}
-use Rattle.sound.proofs.Parts.{glyph_count}
 
 unit_sum_holds : (cs : List Cluster) → unit_sum cs ≡ sum (unit_counts cs)
 unfolding unit_sum
@@ -36,9 +29,6 @@ module _ (us cs gs : List ℕ) (h : sound (places us cs gs) ≡ true) where
 
   pub few_glyphs : length (glyphs_of (words gs)) ≤ max_glyphs
   few_glyphs = parts.few_glyphs
-
-  pub few_numbers : length (words gs) ≤ 4 * max_glyphs + 3
-  few_numbers = let f = few_glyphs in omega (arith, glyph_count (words gs))
 
   pub units_add_up : unit_sum (clusters_of (words cs)) ≡ length (halves us)
   units_add_up = unit_sum_holds (clusters_of (words cs)) ∙ fits_units (glyphs_of (words gs)) _ (clusters_of (words cs)) (halves us) 0 parts.fit

@@ -1,4 +1,3 @@
-pub mod Parts
-pub mod Tests
+pub mod Walks
 pub mod Sounds
 pub mod Facts

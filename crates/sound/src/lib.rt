@@ -1,77 +1,89 @@
 // Whether the bytes of three buffers are a sound run: one that some accepted label reads as.
 #![tactic(auto)]
 
+ghost use Rattle.std.specs.Prelude.{◌≡◌, ◌+◌, ◌/◌, ◌<◌, ◌≤◌, length, false, IsTrue, MatchOption};
 ghost use Rattle.label.specs.Fetched.{halves, words};
-ghost use Rattle.label.specs.Places.{places};
-ghost use Rattle.label.specs.Sound.{sound};
-ghost use Rattle.std.specs.Prelude.{◌≡◌};
-ghost use Rattle.sound.specs.Sounds.{well_run};
+ghost use Rattle.label.specs.Sound.{clusters_of, sound};
+ghost use Rattle.rules.specs.Rules.{whole_run};
+ghost use Rattle.sound.specs.Sounds.{Within, well_from, well_run};
+ghost use Rattle.wire.specs.Numbers.{as_places};
+
+use wire::{ClusterNumbers, GlyphNumbers, Run};
 
 // ── the run ──
 
-// One walk over the clusters and the glyphs: whole numbers in range, and the clusters use up the units and the glyphs. `lack`: glyphs that the open cluster
-// still lacks; `tail`: all glyphs from here on have to be wholly the font's.
-fn well_run(us: &[u8], cs: &[u8], gs: &[u8]) -> bool
-    ensures { result ≡ well_run (halves us.now) (words cs.now) (words gs.now) }
+// Where the walk over a run stands: the units and clusters that are used up; the glyphs that the open cluster still lacks; whether all glyphs from here on have
+// to be wholly the font's.
+#[derive(Clone, Copy)]
+struct Walk {
+    units: usize,
+    clusters: usize,
+    lack: usize,
+    tail: bool,
+}
+
+// The walk behind glyph k, where that glyph may stand there, and so may its cluster where it opens one.
+#[tactic(auto, using(crate::proofs::Walks::steps))]
+fn step(run: Run, walk: Walk, k: usize) -> Option<Walk>
+    requires glyph { k < length run.glyphs.now / 16 }
+    requires within { Within (halves run.units.now) (words run.clusters.now) walk }
+    ensures { let us = halves run.entry.units.now in
+        let cs = words run.entry.clusters.now in
+        let gs = words run.entry.glyphs.now in
+        MatchOption result (well_from us cs gs walk k ≡ false)
+        (λ next. Within us cs next × (well_from us cs gs walk k ≡ well_from us cs gs next (k + 1))) }
 {
-    let units = wire::unit_count(us);
-    let counts = wire::number_count(cs);
-    let numbers = wire::number_count(gs);
-    let bare = units == 0;
-    let mut tail = false;
-    let mut lack = 0;
-    let mut at = 0;
-    let mut i = 0;
-    let mut k = 0;
-    while 4 <= numbers - k {
-        let index = wire::number_at(gs, k);
-        let advance = wire::number_at(gs, k + 1);
-        let u = wire::number_at(gs, k + 2);
-        let v = wire::number_at(gs, k + 3);
-        if !rules::glyph_ok(tail, index, advance, u, v) {
-            return false;
-        }
-        let named = wire::is_natural(index);
-        k += 4;
-        if 0 < lack {
-            if !named {
-                return false;
-            }
-            lack -= 1;
-            continue;
-        }
-        if counts - i < 2 {
-            return false;
-        }
-        let x = wire::number_at(cs, i);
-        let y = wire::number_at(cs, i + 1);
-        let whole = plain::both(wire::is_natural(x), wire::is_natural(y));
-        let a = wire::count(x);
-        let b = wire::count(y);
-        let font = wire::is_font(index, advance, u, v);
-        if !plain::both(whole, rules::opens_at(bare, us, at, a, b, named, font)) {
-            return false;
-        }
-        tail = rules::tail_from(tail, named, a, b);
-        at += a;
-        i += 2;
-        lack = plain::less_one(b);
+    let glyph = GlyphNumbers::at(run.glyphs, k);
+    if !rules::glyph_ok(walk.tail, glyph) {
+        return None;
     }
-    let used = plain::both(i == counts, k == numbers);
-    plain::both(plain::both(used, lack == 0), at == units)
+    if 0 < walk.lack {
+        let lack = walk.lack - 1;
+        return glyph.is_named().then_some(Walk { lack, ..walk });
+    }
+    if walk.clusters == run.cluster_count() {
+        return None;
+    }
+    let cluster = ClusterNumbers::at(run.clusters, walk.clusters);
+    if !rules::opens_at(run, walk.units, cluster, glyph) {
+        return None;
+    }
+    Some(Walk {
+        units: walk.units + cluster.unit_count(),
+        clusters: walk.clusters + 1,
+        lack: cluster.glyph_count().saturating_sub(1),
+        tail: walk.tail || rules::owes_tail(cluster, glyph),
+    })
+}
+
+// One walk over the glyphs and the clusters: the numbers are in range, and the clusters use up the units and the glyphs.
+#[tactic(auto, using(crate::proofs::Walks::whole))]
+fn well_run(run: Run) -> bool
+    requires { IsTrue (whole_run (length run.units.now) (length run.clusters.now) (length run.glyphs.now)) }
+    ensures { result ≡ well_run (halves run.entry.units.now) (words run.entry.clusters.now) (words run.entry.glyphs.now) }
+{
+    let mut walk = Walk {
+        units: 0,
+        clusters: 0,
+        lack: 0,
+        tail: false,
+    };
+    for k in 0..run.glyph_count() {
+        let Some(next) = step(run, walk, k) else {
+            return false;
+        };
+        walk = next;
+    }
+    walk.units == run.unit_count() && walk.clusters == run.cluster_count() && walk.lack == 0
 }
 
 // Whether some accepted label reads as these bytes.
-pub fn is_sound(units: &[u8], clusters: &[u8], glyphs: &[u8]) -> bool
-    ensures { result ≡ sound (places units.now clusters.now glyphs.now) }
+#[tactic(auto, using(crate::proofs::Sounds::sound_is))]
+pub fn is_sound(run: Run) -> bool
+    ensures { result ≡ sound (as_places run.entry) }
 {
-    let whole = rules::whole_bytes(units.len(), clusters.len(), glyphs.len());
-    let few = rules::is_limited(wire::unit_count(units), wire::number_count(glyphs) / 4);
-    if !plain::both(whole, few) {
-        return false;
-    }
-    if !units::proper_units(units) {
-        return false;
-    }
-    well_run(units, clusters, glyphs)
+    rules::is_whole(run)
+        && rules::is_limited(run)
+        && units::proper_units(run.units)
+        && well_run(run)
 }
