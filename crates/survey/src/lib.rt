@@ -123,7 +123,10 @@ fn survey_entry(text: &[u8], indices: &[u8], bare: bool, c: Cursor) -> Result<St
     let place = c.place;
     let byte = c.byte;
     let digits = number::digits_at(indices, place, 0);
-    if opens_here(bare, c) && text::is_plain(text, byte) && entry::is_index(indices, place, digits) {
+    if opens_here(bare, c)
+        && text::is_plain(text, byte)
+        && entry::is_index(indices, place, digits)
+    {
         return Ok(Step {
             next: advance(c, byte + 1, 1, 1, place + digits.count + 1),
             rounded: 0,

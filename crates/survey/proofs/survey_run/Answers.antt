@@ -17,7 +17,7 @@ taken : (c : In_ok-step)
     → let a = c.args in
     let l = c.loop-c in
     Underway a.text.now (units_from a.text.now a.start) a.indices.now c.in_ok-step.step.next (l.rounded + c.in_ok-step.step.rounded)
-        × (l.c.place < c.in_ok-step.step.next.place)
+    × (l.c.place < c.in_ok-step.step.next.place)
 taken c =
     let was : c.survey_entry.result ≡ Ok c.in_ok-step.step = search rules in
     surveyed_on _ _ _ _ _ c.loop-c.invariant c.loop-c-test.true _ c.requires.bounds.0 _ c.survey_entry.ensures _ was
