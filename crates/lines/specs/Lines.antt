@@ -9,13 +9,6 @@ use Rattle.label.specs.Calls.{counts, buffer_after, write_into}
 use Rattle.label.specs.declared.Counts.{Counts}
 use Rattle.label.specs.declared.Lengths.{Lengths}
 use Rattle.lines.specs.declared.Relabelled.{Relabelled}
-use Rattle.lines.specs.declared.Relabelling.{Relabelling}
-use Rattle.lines.specs.declared.Relabelling.TheVariants.{Ok, No}
-
--- document 01's number, place and values for each case of the answer
-abbrev pub relabel_outcome : Relabelling → Outcome Relabelled
-relabel_outcome (Ok x) = ok x
-relabel_outcome (No x) = no x.number x.place
 
 -- "`ok`, units, clusters, glyphs, then both normal lines"
 abbrev pub shown : Run → Relabelled

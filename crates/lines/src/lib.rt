@@ -4,30 +4,18 @@
 ghost use Rattle.std.specs.Prelude.{◌≡◌, ◌+◌, ◌*◌, ◌≤◌, ◌<◌, eqb, length, position};
 ghost use Rattle.label.specs.Limits.{max_text_bytes, max_indices_bytes, max_units, max_glyphs, max_line_bytes};
 ghost use Rattle.label.specs.Relabel.{line, relabel_read};
-ghost use Rattle.label.specs.Calls.{writing_outcome, lengths, text_after, indices_after, outputs};
+ghost use Rattle.label.specs.Calls.{outcome_of, lengths, text_after, indices_after, outputs};
 ghost use Rattle.std.specs.Iterator.{at_most};
 ghost use Rattle.lines.specs.Labels.{TwoLinesOf, GivesLabel};
-ghost use Rattle.lines.specs.Lines.{answered, places_written, relabel_outcome, relabelled, text_line, indices_line};
+ghost use Rattle.lines.specs.Lines.{answered, places_written, relabelled, text_line, indices_line};
 
-use label::{Counts, Lengths, Limits, Reading, Refusal, Writing};
+use label::{Cause, Counts, Lengths, Limits, Refusal};
+use wire::Run;
 
 #[derive(Clone, Copy)]
 pub struct Relabelled {
     pub read: Counts,
     pub written: Lengths,
-}
-
-#[derive(Clone, Copy)]
-pub enum Relabelling {
-    Ok(Relabelled),
-    No(Refusal),
-}
-
-// A line, and what follows it.
-#[derive(Clone, Copy)]
-pub struct Line<'a> {
-    pub bytes: &'a [u8],
-    pub rest: &'a [u8],
 }
 
 // Where the first line feed stands.
@@ -98,16 +86,6 @@ impl<'a> Iterator for Labels<'a> {
     }
 }
 
-// What was read and what was written, or the refusal.
-fn answer(read: Counts, w: Writing) -> Relabelling
-    ensures { relabel_outcome result ≡ answered read (writing_outcome w) }
-{
-    match w {
-        Writing::Written(written) => Relabelling::Ok(Relabelled { read, written }),
-        Writing::Refused(x) => Relabelling::No(x),
-    }
-}
-
 // Writes the run whose counts these are from the bytes at the front of three buffers: 2 a unit, 8 a cluster and 16 a glyph.
 fn write_places(
     n: Counts,
@@ -116,27 +94,22 @@ fn write_places(
     glyphs: &[u8],
     first: &mut [u8],
     second: &mut [u8],
-) -> Relabelling
+) -> Result<Relabelled, Refusal>
     requires { (2 * n.units ≤ length units.now) × (8 * n.clusters ≤ length clusters.now) × (16 * n.glyphs ≤ length glyphs.now) }
     ensures result { let room = outputs first.old second.old in
-        relabel_outcome result ≡ answered n (lengths (places_written n units.now clusters.now glyphs.now room)) }
+        outcome_of result ≡ answered n (lengths (places_written n units.now clusters.now glyphs.now room)) }
     ensures text { let room = outputs first.old second.old in
         first.new ≡ text_after (places_written n units.now clusters.now glyphs.now room) first.old }
     ensures indices { let room = outputs first.old second.old in
         second.new ≡ indices_after (places_written n units.now clusters.now glyphs.now room) second.old }
 {
-    let u = 2 * n.units;
-    let c = 8 * n.clusters;
-    let g = 16 * n.glyphs;
-    let w = writer::write_as(
-        false,
-        &units[..u],
-        &clusters[..c],
-        &glyphs[..g],
-        first,
-        second,
-    );
-    answer(n, w)
+    let run = Run {
+        units: &units[..2 * n.units],
+        clusters: &clusters[..8 * n.clusters],
+        glyphs: &glyphs[..16 * n.glyphs],
+    };
+    let written = writer::write_as(false, run, first, second)?;
+    Ok(Relabelled { read: n, written })
 }
 
 // The label of a text line and an indices line that is not too long, read into buffers that hold every run.
@@ -148,34 +121,27 @@ fn relabel_in(
     glyphs: &mut [u8],
     first: &mut [u8],
     second: &mut [u8],
-) -> Relabelling
+) -> Result<Relabelled, Refusal>
     requires indices_len_bound { length indices.now ≤ max_line_bytes }
     requires buffers { (length units.old ≡ 2 * max_units) × (length clusters.old ≡ 8 * max_glyphs) × (length glyphs.old ≡ 16 * max_glyphs) }
     requires outputs { (max_text_bytes ≤ length first.old) × (max_indices_bytes ≤ length second.old) }
-    ensures result { relabel_outcome result ≡ relabelled (relabel_read text.now indices.now) }
+    ensures result { outcome_of result ≡ relabelled (relabel_read text.now indices.now) }
     ensures text { first.new ≡ text_line (relabel_read text.now indices.now) first.old }
     ensures indices { second.new ≡ indices_line (relabel_read text.now indices.now) second.old }
 {
-    match reader::read(text, indices, units, clusters, glyphs) {
-        Reading::Refused(x) => Relabelling::No(x),
-        Reading::Read { counts, .. } => {
-            write_places(counts, units, clusters, glyphs, first, second)
-        }
-    }
+    let reading = reader::read(text, indices, units, clusters, glyphs)?;
+    write_places(reading.counts, units, clusters, glyphs, first, second)
 }
 
 // The label of a text line and an indices line: its counts and its normal lines, which are written to the two outputs, or the refusal.
-pub fn relabel(text: &[u8], indices: &[u8], first: &mut [u8], second: &mut [u8]) -> Relabelling
+pub fn relabel(text: &[u8], indices: &[u8], first: &mut [u8], second: &mut [u8]) -> Result<Relabelled, Refusal>
     requires { (max_text_bytes ≤ length first.old) × (max_indices_bytes ≤ length second.old) }
-    ensures result { relabel_outcome result ≡ relabelled (relabel_read text.now indices.now) }
+    ensures result { outcome_of result ≡ relabelled (relabel_read text.now indices.now) }
     ensures text { first.new ≡ text_line (relabel_read text.now indices.now) first.old }
     ensures indices { second.new ≡ indices_line (relabel_read text.now indices.now) second.old }
 {
     if Limits::LINE_BYTES < indices.len() {
-        return Relabelling::No(Refusal {
-            number: 1,
-            place: 0,
-        });
+        return Err(Cause::TooManyBytes.at(0));
     }
     let mut units = [0u8; 2 * Limits::UNITS];
     let mut clusters = [0u8; 8 * Limits::GLYPHS];
