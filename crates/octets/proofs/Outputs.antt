@@ -40,3 +40,6 @@ lacks_next {x = x} {r = r} f e g =
 -- nothing is left
 pub lacks_none : {old s : Output} {whole y : List ℕ} → Lacks old whole s y → y ≡ [] → Gains old whole s
 lacks_none f e = gains_as (sym (append-nil f.stored) ∙ ap (λ y. f.stored ++ y) (sym e) ∙ f.gives) f.gained
+
+pub lacks_as : {old s : Output} {whole x y : List ℕ} → x ≡ y → Lacks old whole s x → Lacks old whole s y
+lacks_as e f = record { stored = f.stored; gained = f.gained; gives = ap (λ y. f.stored ++ y) (sym e) ∙ f.gives }
