@@ -10,6 +10,7 @@ ghost use Rattle.octets.specs.Puts.{Put};
 ghost use Rattle.attribute.specs.Pieces.{IsReference, IsPiece, GivesPiece, Stores};
 
 use label::{Cause, Refusal};
+use octets::Output;
 
 // ── references ──
 
@@ -135,15 +136,15 @@ impl Iterator for Pieces<'_> {
 fn put_resolved(out: &mut [u8], raw: &[u8]) -> Result<usize, Refusal>
     ensures { Stores raw.now out.old result out.new }
 {
-    let mut n = 0;
+    let mut output = Output { bytes: out, at: 0 };
     let pieces = Pieces { raw, at: 0 };
     for piece in pieces {
-        n = match piece? {
-            Piece::Byte(b) => octets::put_byte(out, n, b),
-            Piece::Char(c) => text_bytes::put_utf8(out, n, u32::from(c)),
-        };
+        match piece? {
+            Piece::Byte(b) => output.put_byte(b),
+            Piece::Char(c) => text_bytes::put_char(&mut output, u32::from(c)),
+        }
     }
-    Ok(n)
+    Ok(output.at)
 }
 
 // ── the call ──

@@ -1,5 +1,6 @@
--- `attribute::put_resolved`: start, turn and both returns are laws of Storing.
-use Rattle.std.proofs.Common.{refl, sym, ap, ◌∙◌}
+-- `attribute::put_resolved`: start, turn and both returns are laws of Storing; what the output gains stands in the slice that it lends on.
+-- Assumes nothing.
+use Rattle.std.proofs.Common.{refl, sym, ap, ◌∙◌, rules, arith}
 use Rattle.std.proofs.lemmas.Result.{err_from_is_err_and}
 use Rattle.label.specs.Write.{utf8}
 use Rattle.attribute.specs.Pieces.{piece_bytes}
@@ -15,12 +16,14 @@ returns-in_err-b c =
     rw (p.1, p.2) (bad c.loop-piece.invariant _ c.in-Some.ensures.steps c.in_err-b.was)
 
 pub loop-piece-preserved-in-Byte : goal.loop-piece-preserved-in-Byte
-loop-piece-preserved-in-Byte c = good c.loop-piece.invariant _ c.in-Some.ensures.steps c.in_ok-b.was (sym (ap piece_bytes c.in-Byte.is))
-    c.put_byte-n.ensures.put
+loop-piece-preserved-in-Byte c = good c.loop-piece.invariant _ c.in-Some.ensures.steps c.in_ok-b.was (sym (ap piece_bytes c.in-Byte.is)) c.put_byte.ensures
 
 pub loop-piece-preserved : goal.loop-piece-preserved
 loop-piece-preserved c = good c.loop-piece.invariant _ c.in-Some.ensures.steps c.in_ok-b.was (ap utf8 c.from.ensures ∙ sym (ap piece_bytes c.in-Char.is))
-    c.put_utf8-n.ensures.put
+    c.put_char.ensures
 
 pub returns : goal.returns
-returns c = end c.loop-piece.invariant c.in-None.ensures.steps
+returns c =
+    let g = c.loop-piece.invariant in
+    let p = g.gained.put (omega (arith, g.few, g.inside)) in
+    (g.w, end g c.in-None.ensures.steps, search rules)
