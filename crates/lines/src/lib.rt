@@ -18,6 +18,13 @@ pub struct Relabelled {
     pub written: Lengths,
 }
 
+// A line, and what follows it.
+#[derive(Clone, Copy)]
+pub struct Line<'a> {
+    pub bytes: &'a [u8],
+    pub rest: &'a [u8],
+}
+
 // Where the first line feed stands.
 fn line_feed(input: &[u8]) -> Option<usize>
     ensures { result ≡ position (λ b. eqb b 10) input.now }
