@@ -5,12 +5,12 @@ ghost use Rattle.std.specs.Prelude.{◌≡◌, ◌<◌, ◌≤◌, length};
 ghost use Rattle.label.specs.Fetched.{words};
 ghost use Rattle.label.specs.Sound.{clusters_of};
 ghost use Rattle.label.specs.Pick.{turned, touched, pick_glyphs, pick_units};
-ghost use Rattle.label.specs.Calls.{refusal, pick_outcome};
+ghost use Rattle.label.specs.Calls.{outcome_of};
 ghost use Rattle.picks.specs.Ways.{along, turn, total, pick_along};
 ghost use Rattle.sound.specs.Sounds.{unit_sum};
 ghost use Rattle.wire.specs.Numbers.{as_cluster, as_places};
 
-use label::{Pick, Refusal, Stretch};
+use label::{Cause, Refusal, Stretch};
 use wire::{ClusterNumbers, Run};
 
 // ── the clusters touched ──
@@ -76,35 +76,29 @@ fn touched(run: Run, way: Way, first: usize, end: usize) -> Stretch
 
 // ── the calls ──
 
-fn refused(number: usize) -> Pick
-    ensures { result ≡ Pick.Refused (refusal number 0) }
-{
-    Pick::Refused(Refusal { number, place: 0 })
-}
-
 #[tactic(auto, using(crate::proofs::Picks::picking))]
-fn pick(run: Run, way: Way, first: usize, end: usize) -> Pick
-    ensures { pick_outcome result ≡ pick_along way (as_places run.entry) first end }
+fn pick(run: Run, way: Way, first: usize, end: usize) -> Result<Stretch, Refusal>
+    ensures { outcome_of result ≡ pick_along way (as_places run.entry) first end }
 {
     if !sound::is_sound(run) {
-        return refused(19);
+        return Err(Cause::UnsoundRun.at(0));
     }
     if !(first < end && end <= way.total(run)) {
-        return refused(22);
+        return Err(Cause::BadPick.at(0));
     }
-    Pick::Picked(touched(run, way, first, end))
+    Ok(touched(run, way, first, end))
 }
 
 // The code units of all clusters touched by glyphs `first` up to and without `end`.
-pub fn units_of(run: Run, first: usize, end: usize) -> Pick
-    ensures { pick_outcome result ≡ pick_units (as_places run.entry) first end }
+pub fn units_of(run: Run, first: usize, end: usize) -> Result<Stretch, Refusal>
+    ensures { outcome_of result ≡ pick_units (as_places run.entry) first end }
 {
     pick(run, Way::ToUnits, first, end)
 }
 
 // The glyphs of all clusters touched by code units `first` up to and without `end`.
-pub fn glyphs_of(run: Run, first: usize, end: usize) -> Pick
-    ensures { pick_outcome result ≡ pick_glyphs (as_places run.entry) first end }
+pub fn glyphs_of(run: Run, first: usize, end: usize) -> Result<Stretch, Refusal>
+    ensures { outcome_of result ≡ pick_glyphs (as_places run.entry) first end }
 {
     pick(run, Way::ToGlyphs, first, end)
 }

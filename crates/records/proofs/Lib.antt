@@ -1,4 +1,2 @@
-pub mod Parts
-pub mod Stored
-pub mod Planned
-pub mod Facts
+pub mod Filled
+pub mod Listed

@@ -1,131 +1,76 @@
 // The glyphs of a sound run as a list of glyph records.
 #![tactic(auto)]
 
-ghost use Rattle.label.specs.Places.{places};
-ghost use Rattle.std.specs.Prelude.{◌≡◌, ◌++◌, ◌≤◌, ◌<◌, ◌/◌, length, drop};
-ghost use Rattle.label.specs.Sound.{number_advance};
-ghost use Rattle.label.specs.Calls.{refusal, filling_outcome, filled_count, filled_after, list_into};
-ghost use Rattle.label.specs.Fetched.{words, signed};
-ghost use Rattle.records.specs.Records.{record_index, record_of, records, plan_of};
+ghost use Rattle.std.specs.Prelude.{◌≡◌, ◌≤◌, length, take, IsTrue};
+ghost use Rattle.label.specs.Calls.{outcome_of, filled_count, filled_after, list_into};
+ghost use Rattle.label.specs.Fetched.{words};
+ghost use Rattle.label.specs.Sound.{glyph_fits, glyphs_of};
+ghost use Rattle.records.specs.Records.{AllFit};
+ghost use Rattle.wire.specs.Numbers.{as_glyph, as_places};
 
-use label::{Advance, Filling, Glyph, Index, Refusal};
+use label::{Advance, Cause, Glyph, Index, Refusal};
+use wire::{GlyphNumbers, Run};
 
-// ── a record, by the bits of its numbers ──
-
-// A number from 0 to the largest index names an index; any other leaves it to the font.
-fn index_of(n: u32) -> Index
-    ensures { result ≡ record_index (signed n) }
+// The record of a glyph's numbers: a negative index or advance leaves it to the font.
+fn record_of(numbers: GlyphNumbers) -> Glyph
+    requires { IsTrue (glyph_fits (as_glyph numbers)) }
+    ensures { result ≡ as_glyph numbers }
 {
-    if label::Limits::INDEX < n as u64 {
-        return Index::Font;
-    }
-    Index::Named(n as u16)
-}
-
-// A number from 0 on is an advance; a negative one leaves it to the font.
-fn advance_of(n: u32) -> Advance
-    ensures { result ≡ number_advance (signed n) }
-{
-    if wire::is_natural(n) {
-        return Advance::Given(n);
-    }
-    Advance::Own
-}
-
-// The record of glyph k.
-fn glyph_at(glyphs: &[u8], k: usize) -> Glyph
-    requires { k < length glyphs.now / 16 }
-    ensures { result ≡ record_of (words glyphs.now) k }
-{
-    let i = 4 * k;
-    let index = index_of(wire::number_at(glyphs, i));
-    let advance = advance_of(wire::number_at(glyphs, i + 1));
-    let u = wire::signed_number(wire::number_at(glyphs, i + 2));
-    let v = wire::signed_number(wire::number_at(glyphs, i + 3));
     Glyph {
-        index,
-        advance,
-        u,
-        v,
+        index: u16::try_from(numbers.index).map_or(Index::Font, Index::Named),
+        advance: u32::try_from(numbers.advance).map_or(Advance::Own, Advance::Given),
+        u: numbers.u,
+        v: numbers.v,
     }
 }
 
-// ── the list ──
-
-// Stores the records of the first n glyphs; the records behind them stay.
-fn fill(out: &mut [Glyph], glyphs: &[u8], n: usize)
-    requires { (n ≤ length out.old) × (n ≤ length glyphs.now / 16) }
-    ensures { out.new ≡ records (words glyphs.now) n ++ drop n out.old }
+// Stores the records of the first glyphs, as many as `out` has.
+#[tactic(auto, using(crate::proofs::Filled::fills))]
+fn fill(out: &mut [Glyph], glyphs: &[u8])
+    requires room { length out.old ≤ length (glyphs_of (words glyphs.now)) }
+    requires fit { AllFit (words glyphs.now) }
+    ensures { out.new ≡ take (length out.old) (glyphs_of (words glyphs.now)) }
 {
-    let mut k = 0;
-    while k < n {
-        out[k] = glyph_at(glyphs, k);
-        k += 1;
-    }
-}
-
-// What the listing answers, and how many records it stores: none where it refuses.
-#[derive(Clone, Copy)]
-struct Plan {
-    count: usize,
-    answer: Filling,
-}
-
-// A refusal stores nothing.
-fn refuses(number: usize, place: usize) -> Plan
-    ensures { result ≡ record { count = 0; answer = Filling.Refused (refusal number place) } }
-{
-    Plan {
-        count: 0,
-        answer: Filling::Refused(Refusal { number, place }),
-    }
-}
-
-// Decides the listing of a run's glyphs into a list of `room` records.
-fn decide(units: &[u8], clusters: &[u8], glyphs: &[u8], room: usize) -> Plan
-    ensures { result ≡ plan_of room (places units.now clusters.now glyphs.now) }
-{
-    if !sound::is_sound(units, clusters, glyphs) {
-        return refuses(19, 0);
-    }
-    let n = glyphs.len() / 16;
-    if room < n {
-        return refuses(18, n);
-    }
-    Plan {
-        count: n,
-        answer: Filling::Filled(n),
+    for (k, record) in out.iter_mut().enumerate() {
+        *record = record_of(GlyphNumbers::at(glyphs, k));
     }
 }
 
 // Lists the glyphs of a run in `out`: 19 where the run is not sound, 18 where `out` is too short. The records behind stay, and a refusal changes none.
-pub fn list_records(units: &[u8], clusters: &[u8], glyphs: &[u8], out: &mut [Glyph]) -> Filling
-    ensures result { let p = places units.now clusters.now glyphs.now in
-        filling_outcome result ≡ filled_count (list_into (length out.old) p) }
-    ensures records { let p = places units.now clusters.now glyphs.now in
+#[tactic(auto, using(crate::proofs::Listed::listing))]
+pub fn list_records(run: Run, out: &mut [Glyph]) -> Result<usize, Refusal>
+    ensures result { let p = as_places run.entry in
+        outcome_of result ≡ filled_count (list_into (length out.old) p) }
+    ensures records { let p = as_places run.entry in
         out.new ≡ filled_after (list_into (length out.old) p) out.old }
 {
-    let plan = decide(units, clusters, glyphs, out.len());
-    fill(out, glyphs, plan.count);
-    plan.answer
+    if !sound::is_sound(run) {
+        return Err(Cause::UnsoundRun.at(0));
+    }
+    let n = run.glyph_count();
+    if out.len() < n {
+        return Err(Cause::GlyphRoom.at(n));
+    }
+    fill(&mut out[..n], run.glyphs);
+    Ok(n)
 }
 
 // Four records by value, and what the listing into them answers.
 #[derive(Clone, Copy)]
 pub struct Four {
-    pub answer: Filling,
+    pub answer: Result<usize, Refusal>,
     pub records: [Glyph; 4],
 }
 
 // The same with four records that are passed by value and handed back.
-pub fn list_four(units: &[u8], clusters: &[u8], glyphs: &[u8], records: [Glyph; 4]) -> Four
-    ensures result { let p = places units.now clusters.now glyphs.now in
-        filling_outcome result.answer ≡ filled_count (list_into 4 p) }
-    ensures records { let p = places units.now clusters.now glyphs.now in
+pub fn list_four(run: Run, records: [Glyph; 4]) -> Four
+    ensures result { let p = as_places run.entry in
+        outcome_of result.answer ≡ filled_count (list_into 4 p) }
+    ensures records { let p = as_places run.entry in
         result.records ≡ filled_after (list_into 4 p) records }
 {
     let mut out = records;
-    let answer = list_records(units, clusters, glyphs, &mut out);
+    let answer = list_records(run, &mut out);
     Four {
         answer,
         records: out,

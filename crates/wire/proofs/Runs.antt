@@ -6,6 +6,8 @@ use Rattle.std.specs.Simd.{first_chunks}
 use native.Mathlib.Nat.{suc-add}
 use Rattle.label.specs.Fetched.{halves, signed, words}
 use Rattle.label.specs.Sound.{clusters_of, glyphs_of}
+use Rattle.std.proofs.lemmas.List.{drop_more}
+use Rattle.label.specs.declared.Glyph.{Glyph}
 use Rattle.wire.specs.Numbers.{as_cluster, as_glyph, cluster_numbers, glyph_numbers}
 use Rattle.wire.proofs.Fetched.{words_length}
 use Rattle.wire.proofs.Signed.{signed_is}
@@ -94,3 +96,9 @@ glyphs_at (i ∷ a ∷ []) k h = absurd (omega arith)
 glyphs_at (i ∷ a ∷ u ∷ []) k h = absurd (omega arith)
 glyphs_at (i ∷ a ∷ u ∷ v ∷ s) zero h = unfold glyph_numbers in refl
 glyphs_at (i ∷ a ∷ u ∷ v ∷ s) (suc k) h = rw (suc-add k 1, glyphs_behind i a u v s k) (glyphs_at s k (omega arith))
+
+pub glyph_is : (s : List ℤ) (k : ℕ) (d : Glyph) → k < length (glyphs_of s) → get_or (glyphs_of s) k d ≡ as_glyph (glyph_numbers s k)
+glyph_is s k d h =
+    let e = drop_more (glyphs_of s) k d h in
+    let f = glyphs_at s k h in
+    cc

@@ -1,12 +1,8 @@
--- `records::fill`: the loop keeps that the records of the first k glyphs are stored, and the others are as they were (`stored`). Assumes nothing.
-use mathlib.Core.Path.{◌≡◌}
-use Prim.Native.Nat.{◌-◌, ◌≤◌}
+-- `records::fill`: the records of the first k glyphs are stored, and the others are as they were.
+use Rattle.std.proofs.Common.{◌≡◌, ◌++◌, take, drop}
 use Rattle.label.specs.Fetched.{words}
-use Rattle.records.proofs.Stored.{stored}
+use Rattle.label.specs.Sound.{glyphs_of}
 use Rattle.records.proofs.fill.Given as goal
 
 abbrev pub invariant-loop-k : goal.invariant-loop-k
-invariant-loop-k l = (l.k ≤ l.n) × (l.out ≡ stored (words l.glyphs) l.initial.out l.k)
-
-abbrev pub decreases-loop-k : goal.decreases-loop-k
-decreases-loop-k l = l.n - l.k
+invariant-loop-k l = l.out ≡ take l.k (glyphs_of (words l.glyphs)) ++ drop l.k l.initial.out
