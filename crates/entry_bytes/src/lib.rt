@@ -21,7 +21,8 @@ fn put_digit(out: &mut Output, n: u32)
     out.put_byte(b'0' + n as u8);
 }
 
-// A number, without leading zeros: all digits but the last, then the last.
+// A number, without leading zeros: all digits but the last, then the last. Of the kit's libraries only `std` is used, whose `write!` gives a Result: its
+// error, which no store here gives, would be an arm in every caller.
 fn put_decimal(out: &mut Output, n: u32)
     ensures { Gains out.old (decimal n) out.new }
 {

@@ -21,6 +21,7 @@ then {s} {t} {u} {x} {y} f g =
 -- the same bytes by another name
 pub gains_as : {s t : Output} {x y : List ℕ} → x ≡ y → Gains s x t → Gains s y t
 gains_as {s} {t} e f = subst (λ (w : List ℕ). Gains s w t) e f
+
 -- ── a loop: what is left to store gives the whole ──
 
 -- since old, now has gained the whole but for the rest

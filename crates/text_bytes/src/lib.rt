@@ -20,6 +20,7 @@ fn put_tail(out: &mut Output, c: u32)
     out.put_byte((0x80 + c % 64) as u8);
 }
 
+// A character's bytes. A lone half has some too, which is no `char` for `encode_utf8`.
 pub fn put_char(out: &mut Output, c: u32)
     requires { c < 2097152 }
     ensures { Gains out.old (utf8 c) out.new }
