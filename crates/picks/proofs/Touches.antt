@@ -43,10 +43,6 @@ module _ (first end : ℕ) where
   unfolding touched touched_from
   touched_start l s = rw (le-leb 0 first (omega arith), sub-zero first, sub-zero (end - 1))
 
-  touched_none : (n u s : ℕ) → touched_from first end [] n u s ≡ stretch (cond (leb n first) u s) u
-  unfolding touched_from holding
-  touched_none n u s = refl
-
   module _ (c : Cluster) (l : List Cluster) (n u s : ℕ) where
     -- the cluster holds the last one picked
     touched_stop : first < end → n < end → end ≤ n + c.glyphs → touched_from first end (c ∷ l) n u s ≡ stretch (cond (leb n first) u s) (u + c.units)

@@ -3,8 +3,9 @@
 
 ghost use Rattle.std.specs.Prelude.{◌≡◌, [], ◌∷◌, ◌/◌, ◌≤◌, ◌&&◌, leb, length, drop};
 ghost use Rattle.label.specs.Fetched.{halves, words};
+ghost use Rattle.label.specs.Limits.{max_thousandths};
 ghost use Rattle.label.specs.Run.{keeps_pair};
-ghost use Rattle.label.specs.Sound.{nat, glyph_fits, glyphs_of, tail_pair};
+ghost use Rattle.label.specs.Sound.{choice, nat, size, glyph_fits, glyphs_of, tail_pair};
 ghost use Rattle.wire.specs.Numbers.{as_cluster, as_glyph};
 ghost use Rattle.rules.specs.Rules.{whole_run, limited, glyph_ok, opens_at, owes};
 
@@ -31,20 +32,33 @@ pub fn is_limited(run: Run) -> bool
 
 // ── a glyph ──
 
+// Whether index and advance are not below 0, or -1, which leaves them to the font.
+fn has_choices(glyph: GlyphNumbers) -> bool
+    ensures { result ≡ (choice glyph.index && choice glyph.advance) }
+{
+    -1 <= glyph.index && -1 <= glyph.advance
+}
+
+fn has_offsets(glyph: GlyphNumbers) -> bool
+    ensures { result ≡ (leb (size glyph.u) max_thousandths && leb (size glyph.v) max_thousandths) }
+{
+    glyph.u.unsigned_abs() <= Limits::THOUSANDTHS as u32
+        && glyph.v.unsigned_abs() <= Limits::THOUSANDTHS as u32
+}
+
 fn keeps_limits(glyph: GlyphNumbers) -> bool
     ensures { result ≡ glyph_fits (as_glyph glyph) }
 {
     glyph.index <= Limits::INDEX as i32
         && glyph.advance <= Limits::THOUSANDTHS as i32
-        && glyph.u.unsigned_abs() <= Limits::THOUSANDTHS as u32
-        && glyph.v.unsigned_abs() <= Limits::THOUSANDTHS as u32
+        && has_offsets(glyph)
 }
 
 // Index and advance are not below -1, all four numbers keep the limits, and the glyph is wholly the font's where a pair of the tail stands before it.
 pub fn glyph_ok(tail: bool, glyph: GlyphNumbers) -> bool
     ensures { result ≡ glyph_ok tail glyph }
 {
-    -1 <= glyph.index && -1 <= glyph.advance && keeps_limits(glyph) && (!tail || glyph.is_font())
+    has_choices(glyph) && keeps_limits(glyph) && (!tail || glyph.is_font())
 }
 
 // ── a cluster with its first glyph ──
@@ -56,15 +70,18 @@ pub fn owes_tail(cluster: ClusterNumbers, glyph: GlyphNumbers) -> bool
     !(glyph.is_named() || cluster.units == 1 && cluster.glyphs == 1)
 }
 
-// Whether there are as many units from unit `at` on as the cluster takes, at least one, and the one behind them is not the low half of a pair.
-fn has_units(run: Run, at: usize, cluster: ClusterNumbers) -> bool
+// Whether the cluster has units and glyphs, as many units are left from unit `at` on, and the one behind them is not the low half of a pair.
+fn stands_at(run: Run, at: usize, cluster: ClusterNumbers) -> bool
     requires { at ≤ length run.units.now / 2 }
     ensures { let us = drop at (halves run.entry.units.now) in
         let n = nat cluster.units in
-        result ≡ (leb 1 n && leb n (length us) && keeps_pair n us) }
+        result ≡ (leb 1 n && leb 1 (nat cluster.glyphs) && leb n (length us) && keeps_pair n us) }
 {
     let n = cluster.unit_count();
-    1 <= n && n <= run.unit_count() - at && !units::is_low(wire::unit_at(run.units, at + n))
+    1 <= n
+        && 1 <= cluster.glyphs
+        && n <= run.unit_count() - at
+        && !units::is_low(wire::unit_at(run.units, at + n))
 }
 
 // Whether the cluster is a pair of the tail: the two units from unit `at` on, and one glyph that is wholly the font's.
@@ -85,7 +102,6 @@ pub fn opens_at(run: Run, at: usize, cluster: ClusterNumbers, glyph: GlyphNumber
     if run.unit_count() == 0 {
         return cluster.units == 0 && cluster.glyphs == 1 && glyph.is_named();
     }
-    has_units(run, at, cluster)
-        && 1 <= cluster.glyphs
+    stands_at(run, at, cluster)
         && (!owes_tail(cluster, glyph) || is_tail_pair(run, at, cluster, glyph))
 }

@@ -7,7 +7,7 @@ use native.Mathlib.Omega.{arith}
 use lib.IntN.{pos}
 use lib.ListN.{length, get_or, drop}
 use Rattle.label.specs.Fetched.{halves, signed, words}
-use Rattle.octets.specs.Words.{half_at, word_at}
+use Rattle.octets.specs.Words.{word_at}
 
 pub halves_length : (s : List ℕ) → length (halves s) ≡ length s / 2
 unfolding halves
@@ -30,16 +30,6 @@ halves_drop zero s = refl
 halves_drop (suc j) [] = let e : 2 * suc j ≡ suc (suc (2 * j)) = omega arith in rw e
 halves_drop (suc j) (a ∷ []) = let e : 2 * suc j ≡ suc (suc (2 * j)) = omega arith in rw e
 halves_drop (suc j) (a ∷ b ∷ s) = let e : 2 * suc j ≡ suc (suc (2 * j)) = omega arith in rw e (halves_drop j s)
-
-pub unit_is : (s : List ℕ) (j : ℕ) → j < length s / 2 → half_at s (2 * j) ≡ get_or (halves s) j 0
-unfolding halves half_at
-unit_is [] j h = absurd (omega arith)
-unit_is (a ∷ []) j h = absurd (omega arith)
-unit_is (a ∷ b ∷ s) zero h = omega arith
-unit_is (a ∷ b ∷ s) (suc j) h =
-    let e : 2 * suc j ≡ suc (suc (2 * j)) = omega arith in
-    let f : suc (suc (2 * j)) + 1 ≡ suc (suc (2 * j + 1)) = omega arith in
-    rw (e, f) (unit_is s j (omega arith))
 
 pub number_is : (s : List ℕ) (k : ℕ) → k < length s / 4 → signed (word_at s (4 * k)) ≡ get_or (words s) k (pos 0)
 unfolding words word_at

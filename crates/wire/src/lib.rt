@@ -1,5 +1,5 @@
 // A run's numbers where they stand, in its bytes: a unit is 2 bytes and every other number 4, two's complement, low byte first. Only the functions that
-// fetch and store know of bytes; a signed number in hand is its 32 bits.
+// fetch and store know of bytes.
 #![tactic(auto)]
 
 ghost use Rattle.std.specs.Prelude.{◌≡◌, ◌*◌, ◌/◌, ◌%◌, ◌<◌, length, get_or, pos, [], ◌∷◌};
