@@ -20,13 +20,12 @@ use Rattle.label.specs.Checks.{read}
 use Rattle.label.specs.Fetched.{halves, words}
 use Rattle.label.specs.Sound.{clusters_of, glyphs_of, run_of, sound}
 use Rattle.label.specs.Write.{Label, normal}
-use Rattle.label.specs.Pick.{holding, touched, turned, inside}
-use Rattle.label.specs.Calls.{reading_outcome, reading_rounded, filled_count, read_into, counted, asked_for, write_asked, lengths}
+use Rattle.label.specs.Pick.{holding, touched, turned, inside, pick_units, pick_glyphs}
+use Rattle.label.specs.Calls.{filled_count, read_into, counted, asked_for, write_asked, lengths}
 use Rattle.label.specs.Requests.RoundedCount.{rounded, beside}
 use Rattle.label.specs.Requests.Attribute.{is_good, further, raw_check, raw_checks, raw_gives, resolve_checks, resolve_into}
 use Rattle.label.specs.Requests.Sheet.{header, is_record, record_check, sheet_records, file_labels, file_checks, answers, sheet_checks, sheet_into}
 use Rattle.label.specs.declared.Cluster.{Cluster}
-use Rattle.label.specs.declared.Reading.{Reading}
 use Rattle.label.specs.declared.Stretch.{Stretch}
 use Rattle.label.proofs.Basics.{cases, no_ok}
 use Rattle.label.proofs.Sizes.{sound_roomy}
@@ -37,8 +36,6 @@ use Rattle.label.proofs.Refusals.{Placed, fine, refused, need_placed, bind_place
 use Rattle.label.proofs.Requests.Escaping.{asked_short}
 use Rattle.sound.specs.Sounds.{unit_sum}
 use Rattle.sound.proofs.Facts.{few_units, few_glyphs, units_add_up, glyphs_add_up}
-use Rattle.picks.specs.Ways.{pick_along}
-use Rattle.glyph_label.specs.Answers.{reading_answer}
 use Rattle.glyph_label.specs.Fits.{Small32, ReadingFits, WritingFits, StretchFits, FilledFits}
 
 -- ── a reading ──
@@ -73,15 +70,6 @@ bind_fits n (no i p) f h = omega arith
 pub rounded_fits : (room : Counts) (text indices : List ℕ) → Small32 (beside (rounded indices) (read_into room text indices))
 rounded_fits room text indices =
     rw (into_steps room text indices) (bind_fits (rounded indices) (read text indices) _ (λ r e. omega (arith, rounded_most text indices r e)))
-
--- a refusal's count is 0 in the answer too
-pub answer_beside : (o : Outcome Run) (n : ℕ) (a : Reading) → reading_outcome a ≡ counted o → reading_rounded a ≡ beside n o
-    → reading_answer (reading_outcome a) (reading_rounded a) ≡ reading_answer (counted o) n
-answer_beside o n a e h = rw (e, h) (go o)
-  where
-    go : (o : Outcome Run) → reading_answer (counted o) (beside n o) ≡ reading_answer (counted o) n
-    go (ok r) = refl
-    go (no i p) = refl
 
 -- ── a writing ──
 
@@ -217,12 +205,14 @@ pick_fits false q x h = (omega arith, omega arith)
 pick_fits true false x h = (omega arith, omega arith)
 pick_fits true true x h = h refl
 
-pub stretch_fits : (turn : Bool) (us cs gs : List ℕ) (first end : ℕ) → StretchFits (pick_along turn (places us cs gs) first end)
-stretch_fits false us cs gs first end =
+pub units_fits : (us cs gs : List ℕ) (first end : ℕ) → StretchFits (pick_units (places us cs gs) first end)
+units_fits us cs gs first end =
     rw (units_steps (places us cs gs) first end)
     (pick_fits (sound (places us cs gs)) (inside first end (length (glyphs_of (words gs)))) (touched first end (clusters_of (words cs)))
     (λ s. touched_fits first end (clusters_of (words cs)) (let e = units_add_up us cs gs s in omega (arith, few_units us cs gs s))))
-stretch_fits true us cs gs first end =
+
+pub glyphs_fits : (us cs gs : List ℕ) (first end : ℕ) → StretchFits (pick_glyphs (places us cs gs) first end)
+glyphs_fits us cs gs first end =
     rw (glyphs_steps (places us cs gs) first end)
     (pick_fits (sound (places us cs gs)) (inside first end (length (halves us))) (touched first end (turned (clusters_of (words cs))))
     (λ s. touched_fits first end (turned (clusters_of (words cs))) (let e = glyphs_add_up us cs gs s in omega (arith, few_glyphs us cs gs s))))

@@ -4,7 +4,7 @@ use Prim.Native.Nat.{ℕ, zero, suc, ◌+◌, ◌-◌, ◌<◌, ◌≤◌}
 use native.Mathlib.Omega.{arith}
 use mathlib.Core.Path.{◌≡◌, refl, ap, ◌∙◌}
 use mathlib.Core.Logic.{⊎_elim}
-use mathlib.Core.Bool.{Bool, true, false, cond, ◌&&◌}
+use mathlib.Core.Bool.{true, false, ◌&&◌}
 use mathlib.Core.List.{List, [], ◌∷◌}
 use borrow.Author.Tests.{lt-ltb, ltb-true, leb-true, eqb-true}
 use lib.Dec.{leb, ltb, eqb}
@@ -12,7 +12,9 @@ use lib.ListN.{length, get_or, take, drop, length-drop}
 use lib.Seq.{take_all}
 use Rattle.label.specs.Bytes.{on_first, split}
 use Rattle.label.specs.Entry.{entries}
-use Rattle.label.specs.Fault.{of_text, of_entry, entry_start, portion, fault_part}
+use Rattle.label.specs.Fault.{of_text, of_entry, entry_start, portion, of_source, fault_part}
+use Rattle.label.specs.declared.Source.{Source}
+use Rattle.label.specs.declared.Source.TheVariants.{Text, Indices}
 use Rattle.label.specs.declared.Part.{Part}
 use Rattle.label.proofs.Basics.{and_l, and_r, or_cases, cases}
 use Rattle.label.proofs.Splits.{split_nil, split_hit, split_miss}
@@ -67,8 +69,8 @@ entry_stands (b ∷ s) k l = split_stands (b ∷ s) k l
 
 -- ── the part ──
 
-shown : (w : Bool) (s n : ℕ) (a : GlyphLabelPart) (x : Part) (own bytes : List ℕ) → a ≡ part_answer x → x ≡ portion w s n → s + n ≤ length own
-    → take n (drop s own) ≡ bytes → (a.start ≡ s) × Shown a (cond w 1 0) own bytes
+shown : (w : Source) (s n : ℕ) (a : GlyphLabelPart) (x : Part) (own bytes : List ℕ) → a ≡ part_answer x → x ≡ portion w s n → s + n ≤ length own
+    → take n (drop s own) ≡ bytes → (a.start ≡ s) × Shown a (of_source 0 1 w) own bytes
 shown w s n a x own bytes h e l q =
     let f : a ≡ part_answer (portion w s n) = h ∙ ap part_answer e in
     rw f (refl, record { slice = refl; inside = l; is = q })
@@ -85,18 +87,18 @@ no_text n h =
 module _ (t i : List ℕ) (n p : ℕ) (a : GlyphLabelPart) (h : a ≡ part_answer (fault_part t i n p)) where
   of_text_holds : of_text n ≡ true → p < length t → (a.start ≡ p) × Shown a 0 t (drop p t)
   of_text_holds o l =
-      shown false p (length t - p) a (fault_part t i n p) t (drop p t) h (unfold fault_part in (rw (o, lt-ltb p (length t) l))) (omega arith)
+      shown Text p (length t - p) a (fault_part t i n p) t (drop p t) h (unfold fault_part in (rw (o, lt-ltb p (length t) l))) (omega arith)
       (take_all (length t - p) (drop p t) (omega (arith, length-drop p t)))
 
   of_entry_holds : of_entry n ≡ true → p < length (entries i) → (a.start ≡ entry_start (entries i) p) × Shown a 1 i (get_or (entries i) p [])
   of_entry_holds o l =
       let (m, e) = entry_stands i p l in
-      shown true (entry_start (entries i) p) (length (get_or (entries i) p [])) a (fault_part t i n p) i (get_or (entries i) p []) h
+      shown Indices (entry_start (entries i) p) (length (get_or (entries i) p [])) a (fault_part t i n p) i (get_or (entries i) p []) h
       (unfold fault_part in (rw (no_text n o, o, lt-ltb p (length (entries i)) l))) m e
 
   of_none : (of_text n ≡ true → p < length t → ⊥) → (of_entry n ≡ true → p < length (entries i) → ⊥) → (a.start ≡ 0) × Shown a 0 t []
   of_none x y =
-      shown false 0 0 a (fault_part t i n p) t [] h
+      shown Text 0 0 a (fault_part t i n p) t [] h
       (unfold fault_part in
       (cases (of_text n && ltb p (length t))
       (λ q. absurd (x (and_l (of_text n) (ltb p (length t)) q) (ltb-true p (length t) (and_r (of_text n) (ltb p (length t)) q))))

@@ -1,10 +1,9 @@
--- `glyph_label::glyph_label_units_of`: the pick's outcome as an answer: two equations, joined; that it fits 32 bits is a law of Bounds. Assumes nothing.
+-- `glyph_label::glyph_label_units_of`: that the pick's outcome fits 32 bits is a law of Bounds. Assumes nothing.
 use mathlib.Core.Path.{sym, subst}
-use mathlib.Core.Bool.{false}
 use Rattle.glyph_label.specs.Fits.{StretchFits}
-use Rattle.glyph_label.proofs.Bounds.{stretch_fits}
+use Rattle.glyph_label.proofs.Bounds.{units_fits}
 use Rattle.glyph_label.proofs.glyph_label_units_of.Goals as goal
 
 pub stretch_answer-requires : goal.stretch_answer-requires
 stretch_answer-requires c = let a = c.args in
-    subst StretchFits (sym c.units_of.ensures) (stretch_fits false a.units.now a.clusters.now a.glyphs.now a.first a.end)
+    subst StretchFits (sym c.units_of.ensures) (units_fits a.units.now a.clusters.now a.glyphs.now a.first a.end)
