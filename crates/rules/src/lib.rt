@@ -1,7 +1,7 @@
 // The rules of a sound run, each by itself: how many, a glyph, a cluster over its units. The walk over a whole run is the crate `sound`.
 #![tactic(auto)]
 
-ghost use Rattle.std.specs.Prelude.{◌≡◌, [], ◌∷◌, ◌/◌, ◌≤◌, ◌&&◌, leb, length, drop};
+ghost use Rattle.std.specs.Prelude.{◌≡◌, [], ◌∷◌, ◌/◌, ◌≤◌, ◌&&◌, leb, length};
 ghost use Rattle.label.specs.Fetched.{halves, words};
 ghost use Rattle.label.specs.Limits.{max_thousandths};
 ghost use Rattle.label.specs.Run.{keeps_pair};
@@ -70,31 +70,29 @@ pub fn owes_tail(cluster: ClusterNumbers, glyph: GlyphNumbers) -> bool
     !(glyph.is_named() || cluster.units == 1 && cluster.glyphs == 1)
 }
 
-// Whether the cluster has units and glyphs, as many units are left from unit `at` on, and the one behind them is not the low half of a pair.
-fn stands_at(run: Run, at: usize, cluster: ClusterNumbers) -> bool
-    requires { at ≤ length run.units.now / 2 }
-    ensures { let us = drop at (halves run.entry.units.now) in
+// Of the units from a cluster on: whether it takes some of them, for some glyphs, and the one behind those is not the low half of a pair.
+fn stands(cluster: ClusterNumbers, units: &[u8]) -> bool
+    ensures { let us = halves units.now in
         let n = nat cluster.units in
         result ≡ (leb 1 n && leb 1 (nat cluster.glyphs) && leb n (length us) && keeps_pair n us) }
 {
     let n = cluster.unit_count();
     1 <= n
         && 1 <= cluster.glyphs
-        && n <= run.unit_count() - at
-        && !units::is_low(wire::unit_at(run.units, at + n))
+        && n <= wire::unit_count(units)
+        && !units::is_low(wire::unit_at(units, n))
 }
 
-// Whether the cluster is a pair of the tail: the two units from unit `at` on, and one glyph that is wholly the font's.
+// Whether it is a pair of the tail: the first two of them, and one glyph that is wholly the font's.
 #[tactic(auto, unfolding(label::specs::Sound::all_font))]
-fn is_tail_pair(run: Run, at: usize, cluster: ClusterNumbers, glyph: GlyphNumbers) -> bool
-    requires { at ≤ length run.units.now / 2 }
-    ensures { result ≡ tail_pair (drop at (halves run.entry.units.now)) (as_cluster cluster) (as_glyph glyph ∷ []) }
+fn is_tail_pair(cluster: ClusterNumbers, glyph: GlyphNumbers, units: &[u8]) -> bool
+    ensures { result ≡ tail_pair (halves units.now) (as_cluster cluster) (as_glyph glyph ∷ []) }
 {
-    cluster.units == 2 && cluster.glyphs == 1 && units::is_pair_at(run.units, at) && glyph.is_font()
+    cluster.units == 2 && cluster.glyphs == 1 && units::is_pair_at(units, 0) && glyph.is_font()
 }
 
 // Whether the cluster may stand from unit `at` on, as far as its first glyph tells. In a run without units a cluster has none.
-#[tactic(auto, using(label::proofs::Lists::empty_is), unfolding(crate::specs::Rules::opens_at))]
+#[tactic(auto, using(crate::proofs::Units::from_a_unit), unfolding(crate::specs::Rules::opens_at))]
 pub fn opens_at(run: Run, at: usize, cluster: ClusterNumbers, glyph: GlyphNumbers) -> bool
     requires { at ≤ length run.units.now / 2 }
     ensures { result ≡ opens_at (halves run.entry.units.now) at cluster glyph }
@@ -102,6 +100,6 @@ pub fn opens_at(run: Run, at: usize, cluster: ClusterNumbers, glyph: GlyphNumber
     if run.unit_count() == 0 {
         return cluster.units == 0 && cluster.glyphs == 1 && glyph.is_named();
     }
-    stands_at(run, at, cluster)
-        && (!owes_tail(cluster, glyph) || is_tail_pair(run, at, cluster, glyph))
+    let left = &run.units[2 * at..];
+    stands(cluster, left) && (!owes_tail(cluster, glyph) || is_tail_pair(cluster, glyph, left))
 }
