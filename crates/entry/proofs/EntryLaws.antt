@@ -1,10 +1,10 @@
 -- Laws that the code's map, front, fields and entry are the definitions'; the parts are rewritten by the bytes met, the entry's answers by `bridge` of
 -- EntryBridge.
 -- Assumes nothing.
-use Rattle.std.proofs.Common.{◌≡◌, refl, cond, ap, sym, ◌∙◌, Bool, true, false, not, ◌&&◌, ◌||◌, List, [], ◌∷◌, ℕ, zero, suc, ◌+◌, ◌≤◌, ◌<◌, min, arith, leb, ltb, eqb, length, drop, get_or, Option, Some, None, Ok, Err, is_some, ℤ, add_assoc, option_and_then}
+use Rattle.std.proofs.Common.{◌≡◌, refl, cond, ap, sym, ◌∙◌, Bool, true, false, not, ◌&&◌, ◌||◌, List, [], ◌∷◌, ℕ, zero, suc, ◌+◌, ◌≤◌, ◌<◌, min, arith, leb, ltb, eqb, length, drop, get_or, pos, Option, Some, None, Ok, Err, is_some, ℤ, add_assoc, option_and_then}
 use Rattle.std.specs.Option.{option_map}
 use mathlib.Core.Bool.{or-true}
-use native.Mathlib.Nat.{zero-add}
+use native.Mathlib.Nat.{add-zero, zero-add}
 use lib.ListN.{length-drop}
 use lib.Seq.{drop-drop, get_or-drop}
 use borrow.Author.Tests.{eq-eqb, ne_eqb, eqb-true, le-leb, lt-leb, lt-ltb, leb-true, leb-false}
@@ -26,10 +26,11 @@ use Rattle.number.proofs.DigitLaws.{head_drop}
 use Rattle.entry.specs.declared.MapPart.{MapPart}
 use Rattle.entry.specs.declared.Front.{Front}
 use Rattle.entry.specs.declared.Field.{Field}
+use Rattle.entry.specs.declared.Offsets.{Offsets}
 use Rattle.entry.specs.declared.Parts.{Parts as Cut}
 use Rattle.label.specs.Outcome as O
 use Rattle.entry.specs.Items.{is_semi, entry_read, entry_here, IsIndex}
-use Rattle.entry.specs.Parts.{map_of, map_with, no_map, lead_at, cut_map, index_at, front_ok, front_with, front_of, FieldPart, field_of, cut_field, advance_within, advance_choice, offset_within, offset_by, rounded_number, rounded_by, is_minus, field_with, not_given, given_by, Parts, parts_of, well_parted, cut_parts, rounded_parts, glyph_within, index_within, cut_index, index_choice, judged, scanned}
+use Rattle.entry.specs.Parts.{map_of, map_with, no_map, lead_at, cut_map, index_at, front_ok, front_with, front_of, FieldPart, field_of, cut_field, cut_offsets, offsets_of, advance_within, advance_choice, offset_within, offset_by, rounded_number, rounded_by, is_minus, field_with, not_given, given_by, Parts, parts_of, well_parted, cut_parts, rounded_parts, glyph_within, index_within, cut_index, index_choice, judged, scanned}
 use Rattle.entry.proofs.EntryBridge.{bridge}
 
 -- ── the map ──
@@ -191,11 +192,7 @@ minus_told : (g n : Bool) (z : Option Thousandths) → (g ≡ false → n ≡ fa
 minus_told true n z h = refl
 minus_told false n z h = sym (h refl)
 
--- ── the parts ──
-
--- what the code tells of them
-abbrev pub told_parts : List ℕ → Option Cut
-told_parts s = let p = parts_of s in then_some (well_parted p s) (cut_parts p)
+-- ── the offsets ──
 
 -- a field that was told, and one that is not well formed
 field_ok : (t : List ℕ) (x : Field) → Some x ≡ told_field t → ((field_of t).ok ≡ true) × (cut_field (field_of t) ≡ x)
@@ -203,6 +200,51 @@ field_ok t x e = told_some (field_of t).ok (cut_field (field_of t)) x e
 
 field_ill : (t : List ℕ) → None ≡ told_field t → (field_of t).ok ≡ false
 field_ill t e = told_none (field_of t).ok (cut_field (field_of t)) e
+
+module _ (s : List ℕ) (at : ℕ) where
+  pub no_offsets : (get_or s at 0 ≡ 44 → ⊥) → Some (record { used = 0; u = Some (pos 0); v = Some (pos 0); rounded = 0 }) ≡ offsets_of (drop at s)
+  unfolding offsets_of
+  no_offsets h = let e : field_of (drop at s) ≡ not_given 0 = field_none (drop at s) (rw head_drop h) in rw (e, e)
+
+  pub ill_u : None ≡ told_field (drop at s) → None ≡ offsets_of (drop at s)
+  unfolding offsets_of
+  ill_u e = rw (field_ill (drop at s) e)
+
+  module _ (y : Field) (ey : Some y ≡ told_field (drop at s)) where
+    u_told : ((field_of (drop at s)).ok ≡ true) × (cut_field (field_of (drop at s)) ≡ y)
+    u_told = field_ok (drop at s) y ey
+
+    behind_is : drop (field_of (drop at s)).used (drop at s) ≡ drop (at + y.used) s
+    behind_is = rw (drop-drop, ← u_told.1)
+
+    pub ill_v : None ≡ told_field (drop (at + y.used) s) → None ≡ offsets_of (drop at s)
+    unfolding offsets_of
+    ill_v e = rw (u_told.0, behind_is, field_ill (drop (at + y.used) s) e)
+
+    pub code_offsets : (z : Field) → Some z ≡ told_field (drop (at + y.used) s) → (u v : Option ℤ) → u ≡ offset_within y.number
+        → v ≡ offset_within z.number → (n : ℕ) → n ≡ rounded_number y.number + rounded_number z.number
+        → Some (record { used = y.used + z.used; u = u; v = v; rounded = n }) ≡ offsets_of (drop at s)
+    unfolding offsets_of
+    code_offsets z ez u v eu ev n en =
+        let w = field_ok (drop (at + y.used) s) z ez in
+        rw (
+          eu,
+          ev,
+          en,
+          ← ap (λ (r : Field). r.number) u_told.1,
+          ← ap (λ (r : Field). r.used) w.1,
+          ← ap (λ (r : Field). r.number) w.1,
+          behind_is,
+          u_told.0,
+          w.0,
+          ap (λ (r : Field). r.used) u_told.1,
+        )
+
+-- ── the parts ──
+
+-- what the code tells of them
+abbrev pub told_parts : List ℕ → Option Cut
+told_parts s = let p = parts_of s in then_some (well_parted p s) (cut_parts p)
 
 pub no_front : (s : List ℕ) → None ≡ front_of s → None ≡ told_parts s
 unfolding front_of parts_of
@@ -223,9 +265,6 @@ module _ (s : List ℕ) (f : Front) (ef : Some f ≡ front_of s) where
   unfolding parts_of
   first_is = rw front_used
 
-  test_front : (a b c d : Bool) → a ≡ false → ((true && ((a && b) && c)) && d) ≡ false
-  test_front a b c d e = rw e
-
   pub no_first : None ≡ told_field (drop f.used s) → None ≡ told_parts s
   unfolding parts_of
   no_first e = rw (front_told.0, front_used, field_ill (drop f.used s) e)
@@ -245,61 +284,45 @@ module _ (s : List ℕ) (f : Front) (ef : Some f ≡ front_of s) where
     minus_first e = rw (front_told.0, front_used, x_told.0, sym x_minus ∙ e)
 
     module _ (n : is_minus x.number ≡ false) where
-      pub no_second : None ≡ told_field (drop (f.used + x.used) s) → None ≡ told_parts s
+      abbrev second : FieldPart
+      second = field_of (drop (f.used + x.used) s)
+
+      abbrev third : FieldPart
+      third = field_of (drop (f.used + x.used + second.used) s)
+
+      offsets_are : offsets_of (drop (f.used + x.used) s) ≡ then_some (second.ok && third.ok) (cut_offsets second third)
+      unfolding offsets_of
+      offsets_are = rw drop-drop
+
+      pub ill_offsets : None ≡ offsets_of (drop (f.used + x.used) s) → None ≡ told_parts s
       unfolding parts_of
-      no_second e = rw (front_told.0, front_used, x_told.0, sym x_minus ∙ n, x_used, field_ill (drop (f.used + x.used) s) e)
+      ill_offsets e =
+          rw (front_told.0, front_used, x_told.0, sym x_minus ∙ n, x_used, told_none (second.ok && third.ok) (cut_offsets second third) (e ∙ offsets_are))
 
-      module _ (y : Field) (ey : Some y ≡ told_field (drop (f.used + x.used) s)) where
-        abbrev second : FieldPart
-        second = field_of (drop (f.used + x.used) s)
+      module _ (o : Offsets) (eo : Some o ≡ offsets_of (drop (f.used + x.used) s)) where
+        o_told : ((second.ok && third.ok) ≡ true) × (cut_offsets second third ≡ o)
+        o_told = told_some (second.ok && third.ok) (cut_offsets second third) o (eo ∙ offsets_are)
 
-        y_told : (second.ok ≡ true) × (cut_field second ≡ y)
-        y_told = field_ok (drop (f.used + x.used) s) y ey
-
-        y_used : second.used ≡ y.used
-        y_used = ap (λ (r : Field). r.used) y_told.1
-
-        pub no_third : None ≡ told_field (drop (f.used + x.used + y.used) s) → None ≡ told_parts s
+        pub code_parts : (e : Bool) → e ≡ ends is_semi (drop (f.used + x.used + o.used) s)
+            → then_some e (record { map = f.map; index = f.index; advance = x.number; offsets = o; used = f.used + x.used + o.used }) ≡ told_parts s
         unfolding parts_of
-        no_third e = rw (front_told.0, front_used, x_told.0, sym x_minus ∙ n, x_used, y_told.0, y_used, field_ill (drop (f.used + x.used + y.used) s) e)
-
-        module _ (z : Field) (ez : Some z ≡ told_field (drop (f.used + x.used + y.used) s)) where
-          abbrev third : FieldPart
-          third = field_of (drop (f.used + x.used + y.used) s)
-
-          z_told : (third.ok ≡ true) × (cut_field third ≡ z)
-          z_told = field_ok (drop (f.used + x.used + y.used) s) z ez
-
-          z_used : third.used ≡ z.used
-          z_used = ap (λ (r : Field). r.used) z_told.1
-
-          pub code_parts : (e : Bool) → e ≡ ends is_semi (drop (f.used + x.used + y.used + z.used) s)
-              → then_some e (record {
-                map = f.map;
-                index = f.index;
-                advance = x.number;
-                u = y.number;
-                v = z.number;
-                used = f.used + x.used + y.used + z.used;
-              }) ≡ told_parts s
-          unfolding parts_of
-          code_parts e h = rw (
-            ← ap (λ (r : Front). r.map) front_told.1,
-            ← ap (λ (r : Front). r.index) front_told.1,
-            ← ap (λ (r : Field). r.number) x_told.1,
-            ← ap (λ (r : Field). r.number) y_told.1,
-            ← ap (λ (r : Field). r.number) z_told.1,
-            h,
-            front_told.0,
-            front_used,
-            x_told.0,
-            sym x_minus ∙ n,
-            x_used,
-            y_told.0,
-            y_used,
-            z_told.0,
-            z_used,
-          )
+        code_parts e h =
+            let w : e ≡ ends is_semi (drop (f.used + x.used + second.used + third.used) s) =
+            rw (← o_told.1, ← add_assoc (f.used + x.used) second.used third.used) at h in
+            rw (
+              ← ap (λ (r : Front). r.map) front_told.1,
+              ← ap (λ (r : Front). r.index) front_told.1,
+              ← ap (λ (r : Field). r.number) x_told.1,
+              ← o_told.1,
+              w,
+              front_told.0,
+              front_used,
+              x_told.0,
+              sym x_minus ∙ n,
+              x_used,
+              ← add_assoc (f.used + x.used) second.used third.used,
+              o_told.0,
+            )
 
 -- ── the entry ──
 
@@ -315,8 +338,8 @@ index_cut (b ∷ ds) =
     rw (lt-leb (min (value (b ∷ ds)) cap) max_index l, e)))
 
 -- the three numbers together
-glyph_told : (i : Index) (a b c : Bool) (x : Advance) (u v : ℤ) (p : Cut) → advance_within p.advance ≡ then_some a x → offset_within p.u ≡ then_some b u
-    → offset_within p.v ≡ then_some c v
+glyph_told : (i : Index) (a b c : Bool) (x : Advance) (u v : ℤ) (p : Cut) → advance_within p.advance ≡ then_some a x → p.offsets.u ≡ then_some b u
+    → p.offsets.v ≡ then_some c v
     → glyph_within i p ≡ then_some (a && b && c) (record { index = i; advance = x; u = u; v = v })
 glyph_told i a b c x u v p ex eu ev = rw (ex, eu, ev) (go a b c)
   where
@@ -405,16 +428,17 @@ module _ (k : ℕ) (s : List ℕ) where
       pub code_limits : None ≡ glyph_within i p → O.no 9 k ≡ entry_here k s
       code_limits e = let l : fit ≡ false = told_none fit glyph (e ∙ glyph_is) in rw (told.0, near.0, l) at said_well
 
-      rounded_is : rounded_number p.advance + rounded_number p.u + rounded_number p.v ≡ rounded_parts P
+      rounded_is : rounded_number p.advance + p.offsets.rounded ≡ rounded_parts P
       rounded_is =
           rw (
             ← told.1,
             rounded_told P.x.given P.x.negative P.x.size fair_x.size,
             rounded_told P.y.given P.y.negative P.y.size fair_y.size,
             rounded_told P.z.given P.z.negative P.z.size fair_z.size,
+            ← add_assoc (rounded_by P.x.size) (rounded_by P.y.size) (rounded_by P.z.size),
           )
 
-      pub code_read : (g : Glyph) → Some g ≡ glyph_within i p → (n : ℕ) → n ≡ rounded_number p.advance + rounded_number p.u + rounded_number p.v
+      pub code_read : (g : Glyph) → Some g ≡ glyph_within i p → (n : ℕ) → n ≡ rounded_number p.advance + p.offsets.rounded
           → O.ok (record { mapped = p.map.mapped; units = p.map.units; glyphs = p.map.glyphs; glyph = g; used = p.used; rounded = n }) ≡ entry_here k s
       code_read g e n en =
           let l = told_some fit glyph g (e ∙ glyph_is) in
@@ -437,7 +461,7 @@ index_alone : (t : List ℕ) (d : Digits) → d ≡ digits_from 0 t → d.count 
     → ends is_semi (drop d.count t) ≡ true → IsIndex t d
 index_alone t d ed bound some l w =
     let n : ℕ = d.count in
-    let sum : n + 0 + 0 + 0 ≡ n = omega arith in
+    let sum : n + 0 + 0 ≡ n = omega arith in
     let comma : get_or t n 0 ≡ 44 → ⊥ = no_comma t n w in
     let m : Some (record { used = 0; mapped = false; units = 1; glyphs = 1 }) ≡ told_map t =
     code_none t (λ h. omega (arith, some, ap (λ (r : Digits). r.count) ed, no_digit t h)) in
@@ -446,16 +470,15 @@ index_alone t d ed bound some l w =
       used = n;
       index = then_some (ltb 0 n) d.value;
     }) ≡ front_of t = rw zero-add at (code_front t _ m d ed (rw (or-true (ltb 0 n)))) in
-    let absent : (k : ℕ) → k ≡ n → Some (record { used = 0; number = None }) ≡ told_field (drop k t) = λ k e. rw e (code_absent t n comma) in
+    let x : Some (record { used = 0; number = None }) ≡ told_field (drop n t) = code_absent t n comma in
+    let o : Some (record { used = 0; u = Some (pos 0); v = Some (pos 0); rounded = 0 }) ≡ offsets_of (drop (n + 0) t) = rw add-zero (no_offsets t n comma) in
     let p : Some (record {
       map = record { used = 0; mapped = false; units = 1; glyphs = 1 };
       index = then_some (ltb 0 n) d.value;
       advance = None;
-      u = None;
-      v = None;
-      used = n + 0 + 0 + 0;
-    }) ≡ told_parts t =
-    code_parts t _ f _ (absent n refl) refl _ (absent (n + 0) (omega arith)) _ (absent (n + 0 + 0) (omega arith)) true (rw sum (sym w)) in (
+      offsets = record { used = 0; u = Some (pos 0); v = Some (pos 0); rounded = 0 };
+      used = n + 0 + 0;
+    }) ≡ told_parts t = code_parts t _ f _ x refl _ o true (rw sum (sym w)) in (
       l,
       λ k. sym (rw sum at (code_read k t _ p (rw sum bound) (Named d.value) (rw (lt-ltb 0 n some, le-leb d.value max_index l)) _ refl 0 refl)),
     )

@@ -18,6 +18,7 @@ use Rattle.entry.specs.declared.MapPart.{MapPart}
 use Rattle.entry.specs.declared.Front.{Front}
 use Rattle.entry.specs.declared.Signed.{Signed}
 use Rattle.entry.specs.declared.Field.{Field}
+use Rattle.entry.specs.declared.Offsets.{Offsets}
 use Rattle.entry.specs.declared.Parts.{Parts as Cut}
 use Rattle.label.specs.declared.Glyph.{Glyph}
 use Rattle.entry.specs.Items.{is_semi}
@@ -211,10 +212,7 @@ scanned k t = judged k (parts_of t) t
 
 -- ── the parts as the code keeps them ──
 
-abbrev pub cut_parts : Parts → Cut
-cut_parts p = record { map = cut_map p.map; index = cut_index p.digits; advance = cut_number p.x; u = cut_number p.y; v = cut_number p.z; used = p.used }
-
--- what the code makes of them; none where a number is above its limit
+-- the index, the advance and an offset; none where the number is above its limit
 abbrev pub index_within : Option ℕ → Option Index
 index_within (Some n) = cond (leb n max_index) (Some (Named n)) None
 index_within None = Some Font
@@ -231,7 +229,26 @@ abbrev pub rounded_number : Option Signed → ℕ
 rounded_number (Some n) = rounded_by n.size
 rounded_number None = 0
 
+abbrev pub cut_offsets : FieldPart → FieldPart → Offsets
+cut_offsets y z =
+    record {
+      used = y.used + z.used;
+      u = offset_within (cut_number y);
+      v = offset_within (cut_number z);
+      rounded = rounded_number (cut_number y) + rounded_number (cut_number z);
+    }
+
+-- both offsets in front
+abbrev pub offsets_with : FieldPart → FieldPart → Option Offsets
+offsets_with y z = then_some (y.ok && z.ok) (cut_offsets y z)
+
+unfoldable pub offsets_of : List ℕ → Option Offsets
+offsets_of t = offsets_with (field_of t) (field_of (drop (field_of t).used t))
+
+abbrev pub cut_parts : Parts → Cut
+cut_parts p = record { map = cut_map p.map; index = cut_index p.digits; advance = cut_number p.x; offsets = cut_offsets p.y p.z; used = p.used }
+
 abbrev pub glyph_within : Index → Cut → Option Glyph
 glyph_within i p =
     option_and_then (λ (a : Advance). option_and_then (λ (u : ℤ). option_map (λ (v : ℤ). record { index = i; advance = a; u = u; v = v })
-    (offset_within p.v)) (offset_within p.u)) (advance_within p.advance)
+    p.offsets.v) p.offsets.u) (advance_within p.advance)

@@ -1,13 +1,13 @@
 // One entry of the indices, read in one pass over its bytes.
 #![tactic(auto)]
 
-ghost use Rattle.std.specs.Prelude.{◌≡◌, true, false, ◌&&◌, ◌+◌, ◌≤◌, leb, ltb, length, get_or, drop, IfSome};
+ghost use Rattle.std.specs.Prelude.{◌≡◌, true, false, ◌&&◌, ◌+◌, ◌≤◌, leb, ltb, length, drop, IfSome};
 ghost use Rattle.std.specs.Bool.{then_some};
 ghost use Rattle.label.specs.Limits.{max_index};
 ghost use Rattle.label.specs.Calls.{outcome_of};
 ghost use Rattle.number.specs.Digits.{ends, is_break, digits_from};
 ghost use Rattle.entry.specs.Items.{is_semi, entry_here, index_item, IsIndex};
-ghost use Rattle.entry.specs.Parts.{map_of, cut_map, front_of, field_of, cut_field, parts_of, well_parted, cut_parts, index_within, advance_within, offset_within, glyph_within, rounded_number, SmallNumber};
+ghost use Rattle.entry.specs.Parts.{map_of, cut_map, front_of, field_of, cut_field, offsets_of, parts_of, well_parted, cut_parts, index_within, advance_within, offset_within, glyph_within, rounded_number, SmallNumber};
 
 use label::{Advance, Cause, Glyph, Index, Limits, Refusal};
 use number::{Digits, Thousandths};
@@ -138,30 +138,6 @@ struct Field {
     number: Option<Signed>,
 }
 
-// The field behind a comma, where it is well formed.
-fn field_behind(s: &[u8], comma: usize) -> Option<Field>
-    requires { get_or s.now comma 0 ≡ 44 }
-    ensures value { let f = field_of (drop comma s.now) in result ≡ then_some f.ok (cut_field f) }
-    ensures bounds { IfSome result (λ f. comma + f.used ≤ length s.now) }
-    ensures small { IfSome result (λ f. SmallNumber f.number) }
-{
-    if breaks_at(s, comma + 1) {
-        return Some(Field {
-            used: 1,
-            number: None,
-        });
-    }
-    let from = 1 + number::sign_length(s, comma + 1);
-    let n = number::number_at(s, comma + from)?;
-    Some(Field {
-        used: from + n.used,
-        number: Some(Signed {
-            negative: s.get(comma + 1) == Some(&b'-'),
-            size: n.size,
-        }),
-    })
-}
-
 // The field at a place, where it is well formed.
 fn field_at(s: &[u8], at: usize) -> Option<Field>
     requires { at ≤ length s.now }
@@ -169,12 +145,26 @@ fn field_at(s: &[u8], at: usize) -> Option<Field>
     ensures bounds { IfSome result (λ f. at + f.used ≤ length s.now) }
     ensures small { IfSome result (λ f. SmallNumber f.number) }
 {
-    if s.get(at) == Some(&b',') {
-        return field_behind(s, at);
+    if s.get(at) != Some(&b',') {
+        return Some(Field {
+            used: 0,
+            number: None,
+        });
     }
+    if breaks_at(s, at + 1) {
+        return Some(Field {
+            used: 1,
+            number: None,
+        });
+    }
+    let from = 1 + number::sign_length(s, at + 1);
+    let n = number::number_at(s, at + from)?;
     Some(Field {
-        used: 0,
-        number: None,
+        used: from + n.used,
+        number: Some(Signed {
+            negative: s.get(at + 1) == Some(&b'-'),
+            size: n.size,
+        }),
     })
 }
 
@@ -226,6 +216,40 @@ fn offset_of(number: Option<Signed>) -> Option<i32>
     }
 }
 
+// Both offsets, where their sizes are within the limit; the bytes of their fields, and how many of these were rounded.
+#[derive(Clone, Copy)]
+struct Offsets {
+    used: usize,
+    u: Option<i32>,
+    v: Option<i32>,
+    rounded: usize,
+}
+
+// The offsets behind the advance, where both are well formed.
+fn offsets_at(s: &[u8], at: usize) -> Option<Offsets>
+    requires { at ≤ length s.now }
+    ensures value { result ≡ offsets_of (drop at s.now) }
+    ensures bounds { IfSome result (λ o. (at + o.used ≤ length s.now) × (o.rounded ≤ 2)) }
+{
+    // Most entries have none.
+    if s.get(at) != Some(&b',') {
+        return Some(Offsets {
+            used: 0,
+            u: Some(0),
+            v: Some(0),
+            rounded: 0,
+        });
+    }
+    let y = field_at(s, at)?;
+    let z = field_at(s, at + y.used)?;
+    Some(Offsets {
+        used: y.used + z.used,
+        u: offset_of(y.number),
+        v: offset_of(z.number),
+        rounded: rounded_of(y.number) + rounded_of(z.number),
+    })
+}
+
 // ── an entry ──
 
 // The parts of an entry, and the bytes of all of them.
@@ -234,8 +258,7 @@ struct Parts {
     map: MapPart,
     index: Option<u64>,
     advance: Option<Signed>,
-    u: Option<Signed>,
-    v: Option<Signed>,
+    offsets: Offsets,
     used: usize,
 }
 
@@ -243,39 +266,34 @@ struct Parts {
 fn parts_of(s: &[u8], first: Digits) -> Option<Parts>
     requires { (first ≡ digits_from 0 s.now) × (first.count ≤ length s.now) }
     ensures value { let p = parts_of s.now in result ≡ then_some (well_parted p s.now) (cut_parts p) }
-    ensures bounds { IfSome result (λ p. p.used ≤ length s.now) }
-    ensures small { IfSome result (λ p. SmallNumber p.u × SmallNumber p.v) }
+    ensures bounds { IfSome result (λ p. (p.used ≤ length s.now) × (p.offsets.rounded ≤ 2)) }
 {
     let front = front_of(s, first)?;
     let x = field_at(s, front.used)?;
     if x.number.is_some_and(|n| n.negative) {
         return None;
     }
-    let at_u = front.used + x.used;
-    let y = field_at(s, at_u)?;
-    let at_v = at_u + y.used;
-    let z = field_at(s, at_v)?;
-    let used = at_v + z.used;
+    let at = front.used + x.used;
+    let offsets = offsets_at(s, at)?;
+    let used = at + offsets.used;
     ends_at(s, used).then_some(Parts {
         map: front.map,
         index: front.index,
         advance: x.number,
-        u: y.number,
-        v: z.number,
+        offsets,
         used,
     })
 }
 
 // The glyph record with this index, where the sizes are within the limit.
 fn glyph_of(index: Index, p: Parts) -> Option<Glyph>
-    requires { SmallNumber p.u × SmallNumber p.v }
     ensures { result ≡ glyph_within index p }
 {
     Some(Glyph {
         index,
         advance: advance_of(p.advance)?,
-        u: offset_of(p.u)?,
-        v: offset_of(p.v)?,
+        u: p.offsets.u?,
+        v: p.offsets.v?,
     })
 }
 
@@ -293,7 +311,7 @@ pub fn read_entry(s: &[u8], first: Digits, k: usize) -> Result<Item, Refusal>
         glyphs: p.map.glyphs,
         glyph,
         used: p.used,
-        rounded: rounded_of(p.advance) + rounded_of(p.u) + rounded_of(p.v),
+        rounded: rounded_of(p.advance) + p.offsets.rounded,
     })
 }
 

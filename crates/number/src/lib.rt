@@ -208,11 +208,12 @@ fn to_thousandths(m: Mantissa, x: Exponent) -> Option<Thousandths>
     ensures { result ≡ sized (scaled m.value m.behind x.negative x.value) (is_whole m.value m.behind x.negative x.value) }
 {
     let e = x.value as usize;
-    if x.negative {
-        shifted(m.value, 3, m.behind + e)
+    let (up, down) = if x.negative {
+        (3, m.behind + e)
     } else {
-        shifted(m.value, e + 3, m.behind)
-    }
+        (e + 3, m.behind)
+    };
+    shifted(m.value, up, down)
 }
 
 // The number at a place, where one is well formed there.

@@ -1,4 +1,4 @@
--- `entry::front_of`: each return is one law of EntryLaws over what map and digits come to: `no_map_front`, `no_index` or `code_front`.
+-- `entry::front_of`: each return is one law of EntryLaws over what map and digits come to: `no_map_front`, `no_index` or `code_front`. Assumes nothing.
 use Rattle.std.proofs.Common.{◌≡◌, ◌∙◌, rules, drop}
 use Rattle.number.specs.Digits.{digits_from}
 use Rattle.entry.proofs.EntryLaws.{no_map_front, no_index, code_front}

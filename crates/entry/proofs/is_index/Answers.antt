@@ -1,4 +1,4 @@
--- `entry::is_index`: `index_told` of EntryLaws says that, where all three tests hold, the entry is an index alone.
+-- `entry::is_index`: `index_told` of EntryLaws says that, where all three tests hold, the entry is an index alone. Assumes nothing.
 use Rattle.std.proofs.Common.{sym, ◌∙◌}
 use Rattle.entry.proofs.EntryLaws.{index_told}
 use Rattle.entry.proofs.is_index.Goals as goal

@@ -1,4 +1,5 @@
 -- `entry::map_of`: each of six returns is one law of EntryLaws, chosen by the bytes met: `code_none`, `code_odd`, `code_open`, `code_one` or `code_two`.
+-- Assumes nothing.
 use Rattle.std.proofs.Common.{◌∙◌, rules}
 use Rattle.entry.proofs.EntryLaws.{code_none, code_one, code_two, code_odd, code_open}
 use Rattle.entry.proofs.map_of.Goals as goal

@@ -1,4 +1,4 @@
--- `entry::read_entry`: each return is one law of EntryLaws over the parts: `code_wrong`, `code_index`, `code_limits` or `code_read`.
+-- `entry::read_entry`: each return is one law of EntryLaws over the parts: `code_wrong`, `code_index`, `code_limits` or `code_read`. Assumes nothing.
 use Rattle.std.proofs.Common.{◌≡◌, None, Some, Err, ap, ◌∙◌, rules}
 use Rattle.label.specs.Calls.{refusal, outcome_of}
 use Rattle.label.specs.declared.Cause.TheVariants as C
