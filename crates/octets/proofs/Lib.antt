@@ -1,4 +1,3 @@
-pub mod Words
 pub mod Puts
 pub mod Finds
 pub mod Outputs

@@ -6,7 +6,6 @@ ghost use Rattle.std.specs.Prelude.{◌≡◌, [], ◌∷◌, ◌+◌, ◌%◌, 
 ghost use Rattle.label.specs.Fetched.{halves};
 ghost use Rattle.label.specs.Write.{utf8, paired, unit_bytes, units_bytes, text_of};
 ghost use Rattle.label.specs.Requests.Attribute.{escape_byte, as_asked};
-ghost use Rattle.octets.specs.Puts.{Put};
 ghost use Rattle.octets.specs.Outputs.{Gains};
 
 use octets::Output;
@@ -40,17 +39,6 @@ pub fn put_char(out: &mut Output, c: u32)
         put_tail(out, c / 64);
         put_tail(out, c);
     }
-}
-
-// The same, stored from `at` on; the place behind it.
-pub fn put_utf8(out: &mut [u8], at: usize, c: u32) -> usize
-    requires { (at < 9223372036854775808) × (c < 2097152) }
-    ensures put { Put out.old at (utf8 c) result out.new }
-    ensures bounds { result ≤ at + 4 }
-{
-    let mut out = Output { bytes: out, at };
-    put_char(&mut out, c);
-    out.at
 }
 
 // ── a unit ──
