@@ -1,29 +1,22 @@
--- Laws of the character at a place: each way to find it, and what reading makes of it; by rewriting and by Rows.
+-- Laws of the character at a place: each way to find it, by rewriting and by Rows.
 -- Assumes nothing.
-use Rattle.label.proofs.Steps.{decode_char}
-use Prim.Native.Nat.{ℕ, suc, ◌+◌, ◌≤◌, ◌<◌}
+use Prim.Native.Nat.{ℕ, ◌+◌, ◌≤◌, ◌<◌}
 use native.Mathlib.Omega.{arith}
 use native.Mathlib.Nat.{add-zero}
-use native.Mathlib.Numerals.{add-one}
-use mathlib.Core.Path.{◌≡◌, ◌∙◌, ap, subst}
+use mathlib.Core.Path.{◌≡◌, ◌∙◌}
 use mathlib.Core.Bool.{true, false}
 use mathlib.Core.List.{List}
 use Rattle.std.proofs.lemmas.Grind.{common_steps}
-use lib.ListN.{length, get_or, drop, length-drop}
-use lib.Seq.{drop-cons, drop-drop}
-use Rattle.std.specs.Prelude.{Some, None, Result, Ok, Err}
-use Rattle.label.specs.Outcome.{Outcome, no}
-use Rattle.label.specs.Text.{within, starts_char, following, scalar, code_point, xml_char, units_of}
-use Rattle.label.specs.Steps.{decode}
-use Rattle.label.proofs.Basics.{cases, within_lo, within_hi}
+use lib.ListN.{get_or, drop}
+use Rattle.std.specs.Prelude.{Some, None, Err}
+use Rattle.label.specs.Text.{within, starts_char, following, scalar, xml_char}
+use Rattle.label.proofs.Basics.{within_lo, within_hi}
 use Rattle.label.proofs.Cursors.{part_rest, onto, decode_skip}
 use Rattle.utf8.specs.Rows.{lead, trail}
 use Rattle.utf8.specs.Chars.{read_char, standing, char_at}
 use Rattle.utf8.specs.declared.Trailing.{Trailing}
-use Rattle.utf8.specs.declared.Char.{Char}
-use Rattle.utf8.specs.declared.CharFault.{CharFault}
-use Rattle.utf8.specs.declared.CharFault.TheVariants.{IllFormed, Barred}
-use Rattle.utf8.proofs.Rows.{trail_fits, starts_is, following_is, following_inside, starts_one}
+use Rattle.utf8.specs.declared.CharFault.TheVariants.{IllFormed}
+use Rattle.utf8.proofs.Rows.{trail_fits, starts_is, following_is, starts_one}
 
 -- ── the character at a place ──
 
@@ -68,53 +61,3 @@ module _ (s : List ℕ) (i : ℕ) (r : Trailing) (e : lead (get_or s i 0) ≡ So
 
 -- what `char_at` is proved by: these ways, and that the bytes of a row are within the text
 pub ruleset found = (char_one, char_no_row, char_cut, char_whole, trail_fits, part_rest)
-
--- ── what the character at a place tells ──
-
--- what is read from place i on, where x is the character there
-abbrev pub reading : List ℕ → ℕ → Result Char CharFault → Outcome (List ℕ)
-reading s i (Ok c) = onto (units_of c.code) (decode 0 c.next (drop c.next s))
-reading s i (Err IllFormed) = no 2 i
-reading s i (Err Barred) = no 3 i
-
--- a character that may stand is one of XML's, and its bytes are there
-abbrev pub Standing : List ℕ → ℕ → Result Char CharFault → Type 0
-Standing s i (Ok c) = (xml_char c.code ≡ true) × (i < c.next) × (c.next ≤ length s)
-Standing s i (Err f) = Unit {0}
-
-module _ (s : List ℕ) (i : ℕ) (l : i < length s) where
-  reads_here : decode 0 i (drop i s) ≡ reading s i (char_at s i)
-  unfolding char_at
-  reads_here =
-      let b = get_or s i 0 in
-      let bs = drop (suc i) s in
-      let n = following b bs in
-      cases (starts_char b bs)
-      (λ t. cases (xml_char (code_point b bs))
-      (λ x. rw (drop-cons s i 0 l, decode_char i b bs, add-one i, t, x, decode_skip n (suc i) bs, drop-drop n (suc i) s))
-      (λ x. rw (drop-cons s i 0 l, decode_char i b bs, add-one i, t, x)))
-      (λ t. rw (drop-cons s i 0 l, decode_char i b bs, add-one i, t))
-
-  stands_here : Standing s i (char_at s i)
-  unfolding char_at
-  stands_here =
-      let b = get_or s i 0 in
-      let bs = drop (i + 1) s in
-      cases (starts_char b bs)
-      (λ t. cases (xml_char (code_point b bs))
-      (λ x. rw (t, x) (x, omega arith, omega (arith, following_inside b bs t, length-drop (i + 1) s)))
-      (λ x. rw (t, x) tt))
-      (λ t. rw t tt)
-
-  module _ {x : Result Char CharFault} (h : char_at s i ≡ x) where
-    -- what the code found there decides what is read
-    pub char_reads : decode 0 i (drop i s) ≡ reading s i x
-    char_reads = reads_here ∙ ap (λ (y : Result Char CharFault). reading s i y) h
-
-    -- and whether it may stand
-    pub char_stands : Standing s i x
-    char_stands = subst (λ (y : Result Char CharFault). Standing s i y) h stands_here
-
--- its bytes are within the text
-pub char_inside : (s : List ℕ) (i : ℕ) (c : Char) → i < length s → char_at s i ≡ Ok c → (i < c.next) × (c.next ≤ length s)
-char_inside s i c l h = let x = char_stands s i l h in (x.1, x.2)

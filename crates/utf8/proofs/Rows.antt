@@ -191,14 +191,6 @@ pub following_is : (b : ℕ) (bs : List ℕ) → starts_char b bs ≡ true → f
 unfolding starts_char lead following
 following_is b bs h = (same table 0 rising all_trailed b bs).more h
 
--- its bytes are there
-pub following_inside : (b : ℕ) (bs : List ℕ) → starts_char b bs ≡ true → following b bs ≤ length bs
-following_inside b bs h = rw (following_is b bs h) (inside (lead b) (sym (starts_is b bs) ∙ h))
-  where
-    inside : (x : Option Trailing) → fits_row x bs ≡ true → more_of x ≤ length bs
-    inside None t = absurd (false≢true t)
-    inside (Some x) t = trail_inside x.more x.lo x.hi bs t
-
 -- a byte below 128 is a character
 pub starts_one : (b : ℕ) (bs : List ℕ) → b ≤ 127 → (starts_char b bs ≡ true) × (following b bs ≡ 0)
 unfolding trail table

@@ -14,9 +14,10 @@ read_char c j = Ok (record { code = c; next = j })
 abbrev pub standing : ℕ → ℕ → Result Char CharFault
 standing c j = cond (xml_char c) (read_char c j) (Err Barred)
 
--- the character that starts at place i and the place behind it, or that it is ill-formed (2), or outside XML's Char (3)
+-- the character that starts at place i, whose first byte is b, with bs behind it; or that it is ill-formed (2), or outside XML's Char (3)
+abbrev pub char_of : ℕ → ℕ → List ℕ → Result Char CharFault
+char_of i b bs = cond (starts_char b bs) (standing (code_point b bs) (i + 1 + following b bs)) (Err IllFormed)
+
+-- the one of a text
 unfoldable pub char_at : List ℕ → ℕ → Result Char CharFault
-char_at s i =
-    let b = get_or s i 0 in
-    let bs = drop (i + 1) s in
-    cond (starts_char b bs) (standing (code_point b bs) (i + 1 + following b bs)) (Err IllFormed)
+char_at s i = char_of i (get_or s i 0) (drop (i + 1) s)
