@@ -1,13 +1,10 @@
--- The answers of counting a text's units and of surveying it: how many units its run has and where they start, or the refusal.
+-- How many units a text has and where those of its run start, or the refusal.
 -- Assumes nothing.
-use Rattle.std.specs.Prelude.{ℕ, cond, List, leb, length, Result, Ok, Err}
-use Rattle.label.specs.Limits.{max_units}
+use Rattle.std.specs.Prelude.{ℕ, cond, List, length, Result, Ok, Err}
 use Rattle.label.specs.Outcome.{Outcome, ok, no}
-use Rattle.label.specs.Text.{marked}
-use Rattle.label.specs.Steps.{text_units}
+use Rattle.label.specs.Text.{braced, marked}
 use Rattle.label.specs.Calls.{refusal}
 use Rattle.label.specs.declared.Refusal.{Refusal}
-use Rattle.text.specs.declared.TextUnits.{TextUnits}
 
 -- how many units there are, or the refusal
 abbrev pub text_count : Outcome (List ℕ) → Result ℕ Refusal
@@ -18,17 +15,6 @@ text_count (no n p) = Err (refusal n p)
 unfoldable pub units_start : List ℕ → ℕ
 units_start t = cond (marked t) 2 0
 
-abbrev pub units_at : ℕ → ℕ → TextUnits
-units_at n at = record { count = n; start = at }
-
--- what becomes of a text, whose units start at that byte
-abbrev pub units_read : ℕ → Outcome (List ℕ) → Result TextUnits Refusal
-units_read at (ok us) = Ok (units_at (length us) at)
-units_read at (no n p) = Err (refusal n p)
-
-unfoldable pub text_read : List ℕ → Result TextUnits Refusal
-text_read t = units_read (units_start t) (text_units t)
-
--- so many units from that byte on, or "above 4,096 units" (5)
-unfoldable pub units_within : ℕ → ℕ → Result TextUnits Refusal
-units_within n at = cond (leb n max_units) (Ok (units_at n at)) (Err (refusal 5 0))
+-- that byte, or "begins with `{` but not with `{}`" (4)
+unfoldable pub start_read : List ℕ → Result ℕ Refusal
+start_read t = cond (marked t) (Ok 2) (cond (braced t) (Err (refusal 4 0)) (Ok 0))
