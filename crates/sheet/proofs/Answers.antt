@@ -55,8 +55,5 @@ module _ (room : ℕ) (file L : List ℕ) where
       pub short : (x : Refusal) → x ≡ refusal AnswerRoom n → room / 2 < n → Answer (sheet_into room file) (Err x) L L
       short = let (ls, f, c) = was_counted (labels_from 0 0 rest) e in short_of ls f c
 
-      pub accepted : n ≤ room / 2 → Accepted rest room
-      accepted m = let (ls, f, c) = was_counted (labels_from 0 0 rest) e in record { labels = ls; are = f; room_for = omega arith }
-
       pub stored : n ≤ room / 2 → {L' : List ℕ} → L' ≡ numbers_after (answers_of rest) L → Answer (sheet_into room file) (Ok (2 * n)) L L'
       stored m k = let (ls, f, c) = was_counted (labels_from 0 0 rest) e in stored_of ls f c m k

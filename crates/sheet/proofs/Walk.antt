@@ -52,6 +52,7 @@ module _ {all : List ℕ} {s : Records} {n : ℕ} {before : List Label} (g : Wal
         let r : IsRecord s.rest.now l t.rest.now = k.1 in
         record {
           count = omega (arith, g.count, length-append before (label_of l ∷ []));
-          far = g.far ∙ rw (labels_whole n s.rest.now (omega (arith, k.0)) r.whole, r.label, ← r.behind, ← add-one n) (onto_more before (label_of l) (labels_from 0 (n + 1) t.rest.now));
+          far = g.far ∙ rw (labels_whole n s.rest.now (omega (arith, k.0)) r.whole, r.label, ← r.behind, ← add-one n)
+              (onto_more before (label_of l) (labels_from 0 (n + 1) t.rest.now));
           few = omega (arith, g.few, r.shorter);
         }

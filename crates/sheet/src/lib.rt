@@ -22,7 +22,7 @@ struct Label<'a> {
     indices: &'a [u8],
 }
 
-// The label of the record that stands first, and the bytes behind it: two lengths, of 2 and of 4 bytes, the text and the indices. None: the bytes end inside it.
+// The label of the record that stands first, two lengths, of 2 and of 4 bytes, the text and the indices; and the bytes behind it. None: they end inside it.
 #[tactic(auto, using(crate::proofs::Splits::splits))]
 fn split_record(bytes: &[u8]) -> Option<(Label<'_>, &[u8])>
     ensures { MatchOption result (is_record bytes.now ≡ false) (λ p. IsRecord bytes.now p.0 p.1.now) }

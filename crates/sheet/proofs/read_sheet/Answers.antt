@@ -18,8 +18,5 @@ returns-in_err-labels c =
 pub returns-then-number_count-labels : goal.returns-then-number_count-labels
 returns-then-number_count-labels c = short _ _ _ c.in_ok-records.ensures.0 c.in_ok-records.ensures.1 c.in_ok-labels.ensures _ c.at.ensures (search rules)
 
-pub put_answers-requires : goal.put_answers-requires
-put_answers-requires c = accepted _ _ c.args.answers.now c.in_ok-records.ensures.0 c.in_ok-records.ensures.1 c.in_ok-labels.ensures (search rules)
-
 pub returns : goal.returns
 returns c = stored _ _ _ c.in_ok-records.ensures.0 c.in_ok-records.ensures.1 c.in_ok-labels.ensures (search rules) c.put_answers.ensures
