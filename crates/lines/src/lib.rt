@@ -141,7 +141,12 @@ fn relabel_in(
 }
 
 // The label of a text line and an indices line: its counts and its normal lines, which are written to the two outputs, or the refusal.
-pub fn relabel(text: &[u8], indices: &[u8], first: &mut [u8], second: &mut [u8]) -> Result<Relabelled, Refusal>
+pub fn relabel(
+    text: &[u8],
+    indices: &[u8],
+    first: &mut [u8],
+    second: &mut [u8],
+) -> Result<Relabelled, Refusal>
     requires { (max_text_bytes ≤ length first.old) × (max_indices_bytes ≤ length second.old) }
     ensures result { outcome_of result ≡ relabelled (relabel_read text.now indices.now) }
     ensures text { first.new ≡ text_line (relabel_read text.now indices.now) first.old }

@@ -2,9 +2,8 @@
 #![tactic(auto)]
 
 use label::{Advance, Glyph, Index};
-use std::fmt;
-use std::io;
 use std::io::Write;
+use std::{fmt, io};
 use wire::Run;
 
 // A record as a line prints it: index, advance, u offset and v offset.

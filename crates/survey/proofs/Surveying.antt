@@ -109,7 +109,8 @@ pub refuses : (t s : List ℕ) (x : Refusal) → said_no x ≡ counted (read t s
 refuses t s x h = record { reading_value = h; rounded = rw (counted_no (read t s) (cause_number x.cause) x.place (sym h)); start = tt }
 
 -- an answer that is handed on
-pub judges : (t s : List ℕ) (x : Surveyed) → ok x.reading.counts ≡ counted (read t s) → x.reading.rounded ≡ rounded s → x.start ≡ units_start t → Surveys t s (Ok x)
+pub judges : (t s : List ℕ) (x : Surveyed) → ok x.reading.counts ≡ counted (read t s) → x.reading.rounded ≡ rounded s → x.start ≡ units_start t
+    → Surveys t s (Ok x)
 judges t s x e h a = record { reading_value = e; rounded = h ∙ go (read t s) (sym e); start = a }
   where
     go : (o : Outcome Run) → counted o ≡ ok x.reading.counts → rounded s ≡ beside (rounded s) o

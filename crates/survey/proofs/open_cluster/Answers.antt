@@ -7,7 +7,9 @@ pub returns-in-Ok : goal.returns-in-Ok
 returns-in-Ok c = opens_to _ _ _ _ _ _ _ _ c.move_past.ensures c.in-Ok.is c.advance.ensures
 
 pub returns-in-Err-PastEnd : goal.returns-in-Err-PastEnd
-returns-in-Err-PastEnd c = opens_past _ _ _ _ _ _ _ c.move_past.ensures (c.in-Err-PastEnd.is ∙ ap Err c.in-Err-PastEnd.field-0-is) c.at.ensures
+returns-in-Err-PastEnd c =
+    opens_past _ _ _ _ _ _ _ c.move_past.ensures (c.in-Err-PastEnd.is ∙ ap Err c.in-Err-PastEnd.field-0-is) c.at.ensures
 
 pub returns-in-Err-InsidePair : goal.returns-in-Err-InsidePair
-returns-in-Err-InsidePair c = opens_half _ _ _ _ _ _ _ c.move_past.ensures (c.in-Err-InsidePair.is ∙ ap Err c.in-Err-InsidePair.field-0-is) c.at-in-Err-InsidePair.ensures
+returns-in-Err-InsidePair c =
+    opens_half _ _ _ _ _ _ _ c.move_past.ensures (c.in-Err-InsidePair.is ∙ ap Err c.in-Err-InsidePair.field-0-is) c.at-in-Err-InsidePair.ensures
