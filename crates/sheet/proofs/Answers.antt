@@ -14,7 +14,7 @@ use Rattle.label.specs.declared.Refusal.{Refusal}
 use Rattle.label.proofs.Basics.{no_ok}
 use Rattle.label.proofs.Requests.Sheet.{length_answers}
 use Rattle.label.proofs.Steps.{file_steps, sheet_steps}
-use Rattle.sheet.specs.Records.{Accepted, answers_of}
+use Rattle.sheet.specs.Records.{answers_of}
 
 -- the two clauses of the call
 abbrev Answer : Outcome (List ℤ) → Result ℕ Refusal → List ℕ → List ℕ → Type 0

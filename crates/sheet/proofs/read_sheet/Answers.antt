@@ -2,7 +2,7 @@
 -- Assumes nothing.
 use Rattle.std.proofs.Common.{rules}
 use Rattle.std.proofs.lemmas.Result.{err_from_is_err_and}
-use Rattle.sheet.proofs.Answers.{bad_mark, cut, short, accepted, stored}
+use Rattle.sheet.proofs.Answers.{bad_mark, cut, short, stored}
 use Rattle.sheet.proofs.read_sheet.Goals as goal
 
 pub returns-in_err-records : goal.returns-in_err-records
