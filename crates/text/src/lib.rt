@@ -44,11 +44,20 @@ impl<'a> Iterator for Characters<'a> {
 
     ghost remaining = { item_count left };
 
+    // Most characters are of one byte from space to 127: they are taken without a look at the rows, for speed.
     #[tactic(auto, using(crate::proofs::Walk::steps))]
     fn next(&mut self) -> Option<Result<Char, Refusal>> {
         let place = self.at;
         if self.text.len() <= place {
             return None;
+        }
+        let byte = self.text[place];
+        if matches!(byte, 0x20..=0x7f) {
+            self.at = place + 1;
+            return Some(Ok(Char {
+                code: u32::from(byte),
+                next: place + 1,
+            }));
         }
         match utf8::char_at(self.text, place) {
             Ok(c) => {
