@@ -17,7 +17,7 @@ use Rattle.label.specs.Text.{within, is_low, units_of}
 use Rattle.label.specs.Steps.{decode}
 use Rattle.label.specs.declared.Refusal.{Refusal}
 use Rattle.label.proofs.Cursors.{onto}
-use Rattle.label.proofs.Basics.{no_ok, cases, within_is, within_hi}
+use Rattle.label.proofs.Basics.{no_ok, cases, within_is, within_lo, within_hi}
 use Rattle.label.proofs.Run.{ok_path}
 use Rattle.label.proofs.Text.{proper_first}
 use Rattle.label.proofs.Sound.{decode_proper}
@@ -95,7 +95,7 @@ module _ (s : List ℕ) (i : ℕ) (f : well_formed s i ≡ true) (l : i < length
   plain_left =
       let b = get_or s i 0 in
       let c : Char = record { code = b; next = i + 1 } in
-      let e : characters_from s i ≡ Ok c ∷ characters_from s (i + 1) = good_first s i c l (char_plain s i w) in
+      let e : characters_from s i ≡ Ok c ∷ characters_from s (i + 1) = good_first s i c l (char_plain s i (within_lo 32 127 b w) (within_hi 32 127 b w)) in
       let h : Left (units_from s i) 0 (Ok c ∷ characters_from s (i + 1)) = rw e at (left_all s i f) in
       let k : b ≤ 127 = within_hi 32 127 b w in
       let n : 1 ≡ 0 + length (units_of b) = rw (le-leb b 0xffff (omega arith)) in (

@@ -37,7 +37,7 @@ fn refused(fault: CharFault, place: usize) -> Refusal
 }
 
 // The characters from byte `at` on, up to the first that is refused, which is the last.
-#[derive(Clone, Copy)]
+#[derive(Drop)]
 struct Characters<'a> {
     text: &'a [u8],
     at: usize,
@@ -50,6 +50,7 @@ impl<'a> Iterator for Characters<'a> {
 
     ghost remaining = { item_count left };
 
+    #[inline(always)]
     #[tactic(auto, using(crate::proofs::Walk::steps))]
     fn next(&mut self) -> Option<Result<Char, Refusal>> {
         let place = self.at;
@@ -67,6 +68,12 @@ impl<'a> Iterator for Characters<'a> {
             }
         }
     }
+}
+
+fn characters(text: &[u8], at: usize) -> Characters<'_>
+    ensures { result ≡ record { text = text.entry; at = at } }
+{
+    Characters { text, at }
 }
 
 // ── a text's units ──
@@ -87,7 +94,7 @@ fn count_units(text: &[u8]) -> Result<usize, Refusal>
     ensures { result ≡ text_count (decode 0 0 text.now) }
 {
     let mut n = 0;
-    for c in (Characters { text, at: 0 }) {
+    for c in characters(text, 0) {
         n += unit_count(c?.code);
     }
     Ok(n)
@@ -170,21 +177,12 @@ pub enum MoveFault {
 }
 
 impl<'a> Passage<'a> {
-    fn characters(self) -> Characters<'a>
-        ensures { result ≡ record { text = self.entry.text; at = self.entry.at } }
-    {
-        Characters {
-            text: self.text,
-            at: self.at,
-        }
-    }
-
     // What stands behind the first `count` units.
     #[tactic(auto, using(crate::proofs::Moves::moves))]
     pub fn move_past(self, count: usize) -> Result<Passage<'a>, MoveFault>
         ensures { Moves self.entry count result }
     {
-        let mut rest = self.characters();
+        let mut rest = characters(self.text, self.at);
         let mut left = count;
         while left != 0 {
             let c = match rest.next() {
@@ -224,7 +222,7 @@ impl<'a> Passage<'a> {
         ensures { out.new ≡ filled (from_halves (units self.entry)) out.old }
     {
         let mut n = 0;
-        for c in self.characters() {
+        for c in characters(self.text, self.at) {
             match c {
                 Ok(c) => n = put_char(out, n, c.code),
                 Err(_) => unreachable!(),
@@ -237,6 +235,6 @@ impl<'a> Passage<'a> {
         requires { length (units self) ≤ max_units }
         ensures { result ≡ length (tail (units self.entry)).clusters }
     {
-        self.characters().count()
+        characters(self.text, self.at).count()
     }
 }
