@@ -2,7 +2,7 @@
 -- or after a digit.
 -- Assumes nothing.
 use mathlib.Core.Path.{◌≡◌, refl, ap, ◌∙◌}
-use mathlib.Core.Bool.{Bool, true, false}
+use mathlib.Core.Bool.{true, false}
 use mathlib.Core.List.{List, [], ◌∷◌}
 use Prim.Native.Nat.{ℕ, suc, ◌+◌, ◌-◌, ◌*◌, ◌≤◌, ◌<◌, min}
 use native.Mathlib.Omega.{arith}
@@ -13,9 +13,9 @@ use lib.Seq.{drop-cons, get_or-drop}
 use lib.Dec.{leb}
 use borrow.Author.Tests.{leb-true}
 use Rattle.label.specs.Bytes.{is_digit, value_from}
-use Rattle.label.proofs.Basics.{and_l, and_r}
+use Rattle.label.proofs.Basics.{and_r}
 use Rattle.number.specs.declared.Digits.{Digits}
-use Rattle.number.specs.Digits.{cap, head_of, ends, lead, pushed, digits_from}
+use Rattle.number.specs.Digits.{cap, head_of, lead, pushed, digits_from}
 
 -- ── bytes ──
 
@@ -23,17 +23,7 @@ use Rattle.number.specs.Digits.{cap, head_of, ends, lead, pushed, digits_from}
 pub head_drop : (s : List ℕ) (i : ℕ) → head_of (drop i s) ≡ get_or s i 0
 head_drop s i = rw (get_or-drop, add-zero)
 
--- before the end the next byte decides
-pub ends_at : (t : ℕ → Bool) (s : List ℕ) (i : ℕ) → i < length s → ends t (drop i s) ≡ t (get_or s i 0)
-ends_at t s i h = rw (drop-cons s i 0 h)
-
-pub ends_end : (t : ℕ → Bool) (s : List ℕ) (i : ℕ) → length s ≤ i → ends t (drop i s) ≡ true
-ends_end t s i h = rw (drop_of_length-le s h)
-
 -- ── digits ──
-
-pub digit_low : (b : ℕ) → is_digit b ≡ true → 48 ≤ b
-digit_low b e = leb-true 48 b (and_l (leb 48 b) (leb b 57) e)
 
 pub digit_high : (b : ℕ) → is_digit b ≡ true → b ≤ 57
 digit_high b e = leb-true b 57 (and_r (leb 48 b) (leb b 57) e)

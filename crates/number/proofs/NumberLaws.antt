@@ -13,11 +13,10 @@ use lib.Dec.{leb, ltb, eqb}
 use lib.ListN.{length, drop, get_or, length-append}
 use borrow.Author.Tests.{le-leb, leb-true, eq-eqb, ne_eqb}
 use lib.Seq.{drop-drop, get_or-drop}
-use Rattle.label.specs.Limits.{max_thousandths}
 use Rattle.label.specs.Bytes.{is_digit, value_from, value}
 use Rattle.label.specs.Entry.{is_e, scaled}
 use Rattle.label.specs.Requests.RoundedCount.{is_whole}
-use Rattle.label.proofs.Basics.{and_l, and_r, cases}
+use Rattle.label.proofs.Basics.{and_l, and_r}
 use Rattle.label.proofs.Decimals.{value_append}
 use Rattle.std.specs.Bool.{then_some}
 use Rattle.std.proofs.Common.{Option, Some, None}
@@ -26,7 +25,7 @@ use Rattle.number.specs.declared.Digits.{Digits}
 use Rattle.number.specs.declared.Mantissa.{Mantissa}
 use Rattle.number.specs.declared.Exponent.{Exponent}
 use Rattle.number.specs.Digits.{cap, head_of, lead, digits_from}
-use Rattle.number.specs.Numbers.{sized, Small, Mant, Expo, pointed, plain, unraised, mantissa_of, exponent_of, sign_length, size_of, number_of, cut_mantissa, cut_exponent, formed, raised_by}
+use Rattle.number.specs.Numbers.{sized, Mant, Expo, pointed, plain, unraised, mantissa_of, exponent_of, sign_length, size_of, number_of, cut_mantissa, cut_exponent, formed, raised_by}
 use Rattle.number.proofs.DigitLaws.{head_drop, lead_yes, lead_no, digit_high, cut_from}
 use Rattle.number.proofs.ValueLaws.{ten_mono}
 
@@ -246,19 +245,3 @@ module _ (s : List ℕ) (at : ℕ) (m : Mantissa) (em : Some m ≡ told_mantissa
         → z ≡ sized (scaled m.value m.behind x.negative x.value) (is_whole m.value m.behind x.negative x.value)
         → Some (record { used = m.used + x.used; size = z }) ≡ formed (number_of t)
     code_sized h k z e = number_told z (rw (size_is, le-leb m.count 18 h, le-leb x.count 2 k) e)
-
--- a size is within its limit
-sized_small : (v : ℕ) (x : Bool) → Small (sized v x)
-sized_small v x = cases (leb v max_thousandths) (λ e. rw e (leb-true v max_thousandths e)) (λ e. rw e tt)
-
-size_small : (m : Mant) (x : Expo) → Small (size_of m x)
-size_small m x = go (leb (length m.digits) 18 && leb (length x.digits) 2) refl
-  where
-    go : (b : Bool) → (leb (length m.digits) 18 && leb (length x.digits) 2) ≡ b → Small (size_of m x)
-    go true e = rw e (sized_small (scaled (value m.digits) m.behind x.negative (value x.digits))
-        (is_whole (value m.digits) m.behind x.negative (value x.digits)))
-    go false e = rw e tt
-
-pub number_small : (t : List ℕ) → Small (number_of t).size
-unfolding number_of
-number_small t = size_small (mantissa_of t) (exponent_of (drop (mantissa_of t).used t))

@@ -2,7 +2,7 @@
 -- doubled remainder against the divisor.
 -- Assumes nothing.
 use mathlib.Core.Path.{◌≡◌, refl, sym, ap, ◌∙◌}
-use mathlib.Core.Bool.{Bool, true, false, cond, not}
+use mathlib.Core.Bool.{Bool, true}
 use Prim.Native.Nat.{ℕ, suc, zero, ◌+◌, ◌-◌, ◌*◌, ◌/◌, ◌%◌, ◌^◌, ◌≤◌, ◌<◌}
 use native.Mathlib.Omega.{arith}
 use native.Mathlib.Nat.{add-zero, zero-mul, mul-div-mul_right, mul-div_cancel, mul-mod_left, div-eq_of_lt, mul_assoc, one-le-pow, mod-eq_of_lt, lt_of_lt_of_le, pow-le-pow_right, mul-le-mul_right, mul-lt-mul_of_pos_right}
@@ -11,8 +11,7 @@ use lib.Pow.{pow-add}
 use lib.Dec.{ltb, eqb, lit<}
 use borrow.Author.Tests.{lt-leb, lt-ltb, le-ltb, ltb-true, ltb-false, ne_eqb}
 use Rattle.label.specs.Limits.{max_thousandths}
-use Rattle.label.specs.Entry.{nearest, scaled}
-use Rattle.label.specs.Requests.RoundedCount.{is_whole}
+use Rattle.label.specs.Entry.{nearest}
 use Rattle.label.proofs.Basics.{cases}
 use Rattle.label.proofs.Values.{nearest_exact}
 use Rattle.label.proofs.Statements.Rounding.{nearest_below, nearest_above, nearest_half, three}
@@ -73,12 +72,6 @@ scale_shrink m up down h = rw (ten_split down up h) (nearest_cancel m (10 ^ (dow
 pub shrink_none : (m k : ℕ) → m < cap → 18 < k → nearest m (10 ^ k) ≡ 0
 shrink_none m k h b = nearest_none m (10 ^ k) (omega (arith, ten_mono 19 k b))
 
--- the exponent's two signs as one shift
-pub scaled_is : (m f : ℕ) (n : Bool) (e : ℕ) → nearest (m * 10 ^ (cond n 0 e + 3)) (10 ^ (f + cond (not n) 0 e)) ≡ scaled m f n e
-unfolding scaled
-scaled_is m f true e = refl
-scaled_is m f false e = rw (add-zero f)
-
 -- ── exactness ──
 
 product_zero : (a c : ℕ) → 0 < c → eqb (a * c) 0 ≡ eqb a 0
@@ -96,11 +89,6 @@ shrink_whole m up down h =
 pub none_whole : (m k : ℕ) → m < cap → 18 < k → eqb (m % 10 ^ k) 0 ≡ eqb m 0
 none_whole m k h b =
     let l : m < 10 ^ k = lt_of_lt_of_le h (ten_mono 18 k (omega arith)) in rw (mod-eq_of_lt l)
-
-pub whole_is : (m f : ℕ) (n : Bool) (e : ℕ) → eqb (m * 10 ^ (cond n 0 e + 3) % 10 ^ (f + cond (not n) 0 e)) 0 ≡ is_whole m f n e
-unfolding is_whole
-whole_is m f true e = refl
-whole_is m f false e = rw (add-zero f)
 
 -- ── the limit ──
 

@@ -7,7 +7,7 @@ ghost use Rattle.label.specs.Bytes.{is_digit};
 ghost use Rattle.label.specs.Entry.{nearest, scaled};
 ghost use Rattle.label.specs.Requests.RoundedCount.{is_whole};
 ghost use Rattle.number.specs.Digits.{cap, pushed, digits_from};
-ghost use Rattle.number.specs.Numbers.{sized, mantissa_of, cut_mantissa, sign_length, exponent_of, cut_exponent, number_of, formed};
+ghost use Rattle.number.specs.Numbers.{sized, Small, mantissa_of, cut_mantissa, sign_length, exponent_of, cut_exponent, number_of, formed};
 
 use label::Limits;
 
@@ -208,11 +208,12 @@ fn to_thousandths(m: Mantissa, x: Exponent) -> Option<Thousandths>
     ensures { result ≡ sized (scaled m.value m.behind x.negative x.value) (is_whole m.value m.behind x.negative x.value) }
 {
     let e = x.value as usize;
-    if x.negative {
-        shifted(m.value, 3, m.behind + e)
+    let (up, down) = if x.negative {
+        (3, m.behind + e)
     } else {
-        shifted(m.value, e + 3, m.behind)
-    }
+        (e + 3, m.behind)
+    };
+    shifted(m.value, up, down)
 }
 
 // The number at a place, where one is well formed there.
@@ -220,6 +221,7 @@ pub fn number_at(s: &[u8], at: usize) -> Option<Number>
     requires { at ≤ length s.now }
     ensures value { result ≡ formed (number_of (drop at s.now)) }
     ensures bounds { IfSome result (λ n. at + n.used ≤ length s.now) }
+    ensures small { IfSome result (λ n. Small n.size) }
 {
     let m = mantissa_at(s, at)?;
     let x = exponent_at(s, at + m.used)?;

@@ -1,4 +1,4 @@
--- `number::digits_at`: `scan_step` and `scan_stop` of DigitLaws over the slice from the place on, which `take_rest` names as `drop` does.
+-- `number::digits_at`: `scan_step` and `scan_stop` of DigitLaws over the slice from the place on, which `take_rest` names as `drop` does. Assumes nothing.
 use Rattle.std.proofs.Common.{sym, ◌∙◌, arith}
 use Rattle.std.proofs.lemmas.List.{take_rest}
 use Rattle.number.proofs.DigitLaws.{scan_step, scan_stop, scan_end}

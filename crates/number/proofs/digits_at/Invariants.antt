@@ -1,4 +1,4 @@
--- `number::digits_at`: what the digits left come to, read behind `value`, is what all come to behind `start` (`Scanned` of DigitLaws).
+-- `number::digits_at`: what the digits left come to, read behind `value`, is what all come to behind `start` (`Scanned` of DigitLaws). Assumes nothing.
 use Rattle.number.proofs.DigitLaws.{Scanned}
 use Rattle.number.proofs.digits_at.Given as goal
 

@@ -1,4 +1,4 @@
--- `number::exponent_at`: two cases by the letter: `code_raised` or `code_unraised` of NumberLaws over what the calls ensure.
+-- `number::exponent_at`: two cases by the letter: `code_raised` or `code_unraised` of NumberLaws over what the calls ensure. Assumes nothing.
 use Rattle.std.proofs.Common.{◌∙◌, rules}
 use Rattle.number.proofs.NumberLaws.{code_raised, code_unraised}
 use Rattle.number.proofs.exponent_at.Goals as goal

@@ -1,4 +1,4 @@
--- `number::grown`: past 9 places, or above the limit, the product is above the limit by `grow_over` and `grow_large` of ValueLaws.
+-- `number::grown`: past 9 places, or above the limit, the product is above the limit by `grow_over` and `grow_large` of ValueLaws. Assumes nothing.
 use Rattle.std.proofs.Common.{sym, arith}
 use Rattle.number.proofs.ValueLaws.{sized_over, grow_over, grow_large}
 use Rattle.number.proofs.grown.Goals as goal

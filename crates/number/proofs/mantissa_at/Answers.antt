@@ -1,5 +1,5 @@
 -- `number::mantissa_at`: two cases by the byte behind the first digits: a point gives `code_pointed`, any other byte or the end `code_plain`, both of
--- NumberLaws.
+-- NumberLaws. Assumes nothing.
 use Rattle.std.proofs.Common.{◌∙◌, rules}
 use Rattle.number.proofs.NumberLaws.{code_pointed, code_plain}
 use Rattle.number.proofs.mantissa_at.Goals as goal

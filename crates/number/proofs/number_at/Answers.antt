@@ -1,4 +1,5 @@
 -- `number::number_at`: each return is one law of NumberLaws; `mant_asked` and `expo_asked` give what `to_thousandths` requires from the two counts of digits.
+-- Assumes nothing.
 use Rattle.std.proofs.Common.{◌≡◌, false, ◌&&◌, leb, ◌∙◌, arith, rules}
 use Rattle.number.proofs.NumberLaws.{no_mantissa, no_exponent, code_sized, code_over, mant_asked, expo_asked}
 use Rattle.number.proofs.number_at.Goals as goal

@@ -1,5 +1,5 @@
 -- `number::shrunk`: past 18 places `shrink_none` and `none_whole` give 0; else the test on quotient and remainder decides `round_up` or `round_down`, all
--- of ValueLaws.
+-- of ValueLaws. Assumes nothing.
 use Rattle.std.proofs.Common.{arith}
 use Rattle.number.proofs.ValueLaws.{shrink_none, none_whole, round_up, round_down, ten_pos}
 use Rattle.number.proofs.shrunk.Goals as goal
