@@ -32,9 +32,13 @@ abbrev pub entry_read : ℕ → ℕ → Outcome Entry → Result Item Refusal
 entry_read n r (ok e) = Ok (cut_item n r e)
 entry_read n r (no i p) = Err (refusal i p)
 
--- the same for the entry that a list begins with, entry number k
+-- the answer for the entry of these bytes, entry number k
+abbrev pub entry_result : ℕ → List ℕ → Result Item Refusal
+entry_result k e = entry_read (length e) (rounded_entry e) (entry k e)
+
+-- the same for the entry that a list begins with
 abbrev pub entry_here : ℕ → List ℕ → Result Item Refusal
-entry_here k t = entry_read (length (here t)) (rounded_entry (here t)) (entry k (here t))
+entry_here k t = entry_result k (here t)
 
 -- what the digits d alone say
 abbrev pub index_item : Digits → Item
