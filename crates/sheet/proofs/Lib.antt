@@ -1,2 +1,5 @@
-pub mod Records
+pub mod Splits
+pub mod Walk
+pub mod Told
+pub mod Storing
 pub mod Answers

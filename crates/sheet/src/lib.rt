@@ -1,146 +1,140 @@
 // A sheet's labels in one call: the records of its file are found, and each label is judged where it stands in the file.
 #![tactic(auto)]
 
-ghost use Rattle.std.specs.Prelude.{◌≡◌, [], ◌∷◌, ◌≤◌, length};
-ghost use Rattle.label.specs.Calls.{filling_outcome, filled_count, numbers_after};
-ghost use Rattle.label.specs.Requests.Sheet.{answer as label_answer, list_room, sheet_into};
-ghost use Rattle.sheet.specs.Records.{record_at, label_in, Accepted};
+ghost use Rattle.std.specs.Prelude.{◌≡◌, ◌+◌, ◌*◌, ◌/◌, ◌^◌, ◌≤◌, ◌<◌, false, length, MatchOption};
+ghost use Rattle.std.specs.Iterator.{at_most};
+ghost use Rattle.label.specs.Calls.{outcome_of, filled_count, numbers_after};
+ghost use Rattle.label.specs.Requests.Sheet.{is_record, answer, list_room, sheet_into};
+ghost use Rattle.label.specs.Steps.{labels_from};
+ghost use Rattle.label.specs.Wire.{bits_of, four_bytes};
+ghost use Rattle.octets.specs.Outputs.{Gains};
+ghost use Rattle.sheet.specs.Records.{label_of, IsRecord, GivesRecord, Opens, Accepted, answers_of};
 
-use label::Filling;
+use label::{Cause, Refusal};
+use octets::Output;
 
 // ── records ──
 
-// Where the first record starts: behind the mark `SLB` and the version.
-const FIRST: usize = 5;
-
-// Where a record's text and indices start, and where it ends.
+// A label where it stands in the file: nothing of it is copied.
 #[derive(Clone, Copy)]
-struct Record {
-    text: usize,
-    indices: usize,
-    end: usize,
+struct Label<'a> {
+    text: &'a [u8],
+    indices: &'a [u8],
 }
 
-// A record, or that the file ends inside it.
+// The label of the record that stands first, two lengths, of 2 and of 4 bytes, the text and the indices; and the bytes behind it. None: they end inside it.
+#[tactic(auto, using(crate::proofs::Splits::splits))]
+fn split_record(bytes: &[u8]) -> Option<(Label<'_>, &[u8])>
+    ensures { MatchOption result (is_record bytes.now ≡ false) (λ p. IsRecord bytes.now p.0 p.1.now) }
+{
+    let (text_length, rest) = bytes.split_first_chunk::<2>()?;
+    let (indices_length, rest) = rest.split_first_chunk::<4>()?;
+    let (text, rest) = rest.split_at_checked(usize::from(u16::from_le_bytes(*text_length)))?;
+    let (indices, rest) = rest.split_at_checked(u32::from_le_bytes(*indices_length) as usize)?;
+    Some((Label { text, indices }, rest))
+}
+
+// The labels of the records that are left; none for a record in which the file ends, and behind it there are no more.
 #[derive(Clone, Copy)]
-enum Found {
-    Whole(Record),
-    Cut,
+struct Records<'a> {
+    rest: &'a [u8],
 }
 
-// The record at a place: two lengths, of 2 and of 4 bytes, the text and the indices.
-fn record_at(file: &[u8], at: usize) -> Found
-    requires { at ≤ length file.now }
-    ensures { result ≡ record_at file.now at }
-{
-    if file.len() - at < 6 {
-        return Found::Cut;
+impl<'a> Records<'a> {
+    // Those of a file: behind the mark `SLB` and the version.
+    fn of(file: &'a [u8]) -> Result<Records<'a>, Refusal>
+        ensures { Opens file.now result }
+    {
+        match file.strip_prefix(b"SLB\x01\x00") {
+            Some(rest) => Ok(Records { rest }),
+            None => Err(Cause::BadSheetMark.at(0)),
+        }
     }
-    let text = at + 6;
-    let indices = text + octets::get_u16(file, at) as usize;
-    let end = indices + plain::widened(octets::get_u32(file, at + 2));
-    if file.len() < end {
-        return Found::Cut;
-    }
-    Found::Whole(Record { text, indices, end })
 }
 
-// ── the file ──
+impl<'a> Iterator for Records<'a> {
+    type Item = Option<Label<'a>>;
 
-// 25 to 27 of a file and an answer list of `room` numbers, or how many numbers the answers are.
-fn judge(file: &[u8], room: usize) -> Filling
-    ensures { filling_outcome result ≡ filled_count (sheet_into room file.now) }
-{
-    if !octets::stands_at(file, 0, b"SLB\x01\x00") {
-        return Filling::refused(25, 0);
-    }
-    let mut n = 0;
-    let mut at = FIRST;
-    while at < file.len() {
-        match record_at(file, at) {
-            Found::Whole(x) => {
-                n += 1;
-                at = x.end;
+    ghost next_gives = { GivesRecord };
+
+    ghost remaining = { λ s. at_most (length s.rest.now) };
+
+    fn next(&mut self) -> Option<Option<Label<'a>>> {
+        if self.rest.is_empty() {
+            return None;
+        }
+        match split_record(self.rest) {
+            Some((label, rest)) => {
+                self.rest = rest;
+                Some(Some(label))
             }
-            Found::Cut => {
-                return Filling::refused(26, n);
+            None => {
+                self.rest = &[];
+                Some(None)
             }
         }
     }
-    if room / 2 < n {
-        return Filling::refused(27, n);
+}
+
+// How many labels there are.
+fn count_labels(records: Records) -> Result<usize, Refusal>
+    ensures { outcome_of result ≡ filled_count (labels_from 0 0 records.entry.rest.now) }
+{
+    let mut count = 0;
+    for label in records {
+        label.ok_or(Cause::CutSheet.at(count))?;
+        count += 1;
     }
-    Filling::Filled(2 * n)
+    Ok(count)
 }
 
 // ── answers ──
 
-// The answer to a label: number and place of its refusal, 0 and 0 where it is accepted.
-#[derive(Clone, Copy)]
-struct Answer {
-    number: i32,
-    place: i32,
-}
-
-// The answer to the label of a record. It is a part of the file: nothing of it is copied, and no run is stored.
-fn answer_to(file: &[u8], x: Record) -> Answer
-    requires { (x.text ≤ x.indices) × (x.indices ≤ x.end) × (x.end ≤ length file.now) }
-    ensures { (result.number ∷ result.place ∷ []) ≡ label_answer (label_in file.now x) }
+// The answer to a label: the number and the place of its refusal, 0 and 0 where it is accepted. No run is stored.
+fn answer_to(label: Label) -> [i32; 2]
+    ensures { result ≡ answer (label_of label.entry) }
 {
-    let text = x.text;
-    let indices = x.indices;
-    let end = x.end;
-    let found = survey::survey(&file[text..indices], &file[indices..end]);
-    let reading = found.reading;
-    match reading {
-        label::Reading::Read { .. } => Answer {
-            number: 0,
-            place: 0,
-        },
-        label::Reading::Refused(r) => {
-            let number = r.number as i32;
-            let place = r.place as i32;
-            Answer { number, place }
-        }
+    match survey::survey(label.text, label.indices) {
+        Ok(_) => [0, 0],
+        Err(x) => [x.cause.number() as i32, x.place as i32],
     }
 }
 
-// Stores the answers to all labels, two numbers each, from the start of the list on.
-fn put_answers(file: &[u8], answers: &mut [u8])
-    requires { Accepted file.now (list_room answers.old) }
-    ensures { answers.new ≡ numbers_after (sheet_into (list_room answers.old) file.now) answers.old }
+fn put_number(list: &mut Output, n: i32)
+    ensures { Gains list.old (four_bytes (bits_of n)) list.new }
 {
-    let mut k = 0;
-    let mut at = FIRST;
-    while at < file.len() {
-        match record_at(file, at) {
-            Found::Whole(x) => {
-                let a = answer_to(file, x);
-                wire::put_number(answers, k, a.number);
-                wire::put_number(answers, k + 1, a.place);
-                k += 2;
-                at = x.end;
-            }
-            // An accepted file has no such record.
-            Found::Cut => {
-                return;
-            }
-        }
+    list.put_bytes(&n.to_le_bytes());
+}
+
+// Stores the answers to all labels, two numbers each, from the start of the list on. A file that was judged ends inside no record.
+fn put_answers(records: Records, answers: &mut [u8])
+    requires { Accepted records.rest.now (list_room answers.old) }
+    ensures { answers.new ≡ numbers_after (answers_of records.entry.rest.now) answers.old }
+{
+    let mut list = Output {
+        bytes: answers,
+        at: 0,
+    };
+    for label in records {
+        let Some(label) = label else { unreachable!() };
+        let [number, place] = answer_to(label);
+        put_number(&mut list, number);
+        put_number(&mut list, place);
     }
 }
 
 // ── the call ──
 
 // The answers to the labels of a sheet's file as bytes, two numbers each, where none of 25 to 27 holds.
-pub fn read_sheet(file: &[u8], answers: &mut [u8]) -> Filling
-    ensures result { filling_outcome result ≡ filled_count (sheet_into (list_room answers.old) file.now) }
+pub fn read_sheet(file: &[u8], answers: &mut [u8]) -> Result<usize, Refusal>
+    ensures result { outcome_of result ≡ filled_count (sheet_into (list_room answers.old) file.now) }
     ensures answers { answers.new ≡ numbers_after (sheet_into (list_room answers.old) file.now) answers.old }
 {
-    match judge(file, wire::number_count(answers)) {
-        Filling::Filled(n) => {
-            put_answers(file, answers);
-            Filling::Filled(n)
-        }
-        Filling::Refused(x) => Filling::Refused(x),
+    let records = Records::of(file)?;
+    let labels = count_labels(records)?;
+    if wire::number_count(answers) / 2 < labels {
+        return Err(Cause::AnswerRoom.at(labels));
     }
+    put_answers(records, answers);
+    Ok(2 * labels)
 }

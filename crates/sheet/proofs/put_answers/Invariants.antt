@@ -1,12 +1,7 @@
--- `sheet::put_answers`: the loop keeps `Stored`: the answers to the labels left, stored from here on, give all; an accepted file ends inside no record. Assumes
--- nothing.
-use Prim.Native.Nat.{◌-◌}
-use lib.ListN.{length}
-use Rattle.sheet.proofs.Answers.{Stored}
+-- `sheet::put_answers`: the list has gained the answers to the labels that were walked (`Stored`).
+-- Assumes nothing.
+use Rattle.sheet.proofs.Storing.{Stored}
 use Rattle.sheet.proofs.put_answers.Given as goal
 
-abbrev pub invariant-loop-at : goal.invariant-loop-at
-invariant-loop-at l = Stored l.file l.initial.answers l.answers l.k l.at
-
-abbrev pub decreases-loop-at : goal.decreases-loop-at
-decreases-loop-at l = length l.file - l.at
+abbrev pub invariant-loop-label : goal.invariant-loop-label
+invariant-loop-label l = Stored l.fn.records.rest.now l.initial.list l.label-iterator l.list

@@ -1,7 +1,22 @@
--- `sheet::read_sheet`: what `judge` says of the file is what the call says; accepted, `put_answers` has stored the answers, refused, the list is as it was.
+-- `sheet::read_sheet`: each return is one law of Answers, by what the records are.
 -- Assumes nothing.
-use Rattle.sheet.proofs.Answers.{accepts}
+use Rattle.std.proofs.Common.{rules}
+use Rattle.std.proofs.lemmas.Result.{err_from_is_err_and}
+use Rattle.sheet.proofs.Answers.{bad_mark, cut, short, stored}
 use Rattle.sheet.proofs.read_sheet.Goals as goal
 
-pub put_answers-requires : goal.put_answers-requires
-put_answers-requires c = rw (← c.number_count.ensures.bounds) (accepts _ _ c.judge.ensures c.in-Filled.is)
+pub returns-in_err-records : goal.returns-in_err-records
+returns-in_err-records c =
+    let p = err_from_is_err_and c.from_residual.result c.from_residual.ensures.1 in
+    rw (p.1, p.2) (bad_mark _ _ _ _ c.in_err-records.ensures.1 c.in_err-records.ensures.0)
+
+pub returns-in_err-labels : goal.returns-in_err-labels
+returns-in_err-labels c =
+    let p = err_from_is_err_and c.from_residual-in_err-labels.result c.from_residual-in_err-labels.ensures.1 in
+    rw (p.1, p.2) (cut _ _ _ c.in_ok-records.ensures.0 c.in_ok-records.ensures.1 _ c.in_err-labels.ensures)
+
+pub returns-then-number_count-labels : goal.returns-then-number_count-labels
+returns-then-number_count-labels c = short _ _ _ c.in_ok-records.ensures.0 c.in_ok-records.ensures.1 c.in_ok-labels.ensures _ c.at.ensures (search rules)
+
+pub returns : goal.returns
+returns c = stored _ _ _ c.in_ok-records.ensures.0 c.in_ok-records.ensures.1 c.in_ok-labels.ensures (search rules) c.put_answers.ensures
