@@ -1,17 +1,12 @@
--- `faults::find_entry`: the loop keeps "entry k of all is entry `rest` of those from here on" (`part_from`); each return is one law of Faults. Assumes nothing.
-use mathlib.Core.Path.{sym, ◌∙◌}
-use Rattle.faults.proofs.Faults.{from_start, from_next, from_here, from_none}
+-- `faults::find_entry`
+-- Assumes nothing.
+use Rattle.std.proofs.Common.{rules, tests, ◌==◌, length}
+use Rattle.std.proofs.lemmas.Iterator.Consumers.{YieldsList-turn, YieldsList-end, YieldsList-from_enumerate}
+use Rattle.std.proofs.lemmas.Iterator.Splits.{YieldsList-from_slice_split}
+use Rattle.faults.proofs.Entries.{split_is}
 use Rattle.faults.proofs.find_entry.Goals as goal
 
-pub loop-place-init : goal.loop-place-init
-loop-place-init c = from_start _ _ _ c.first_place-place.ensures
-
-pub returns-then-rest-eq0 : goal.returns-then-rest-eq0
-returns-then-rest-eq0 c = c.part_of.ensures ∙ from_here _ _ _ c.loop-place-test.true c.entry_end-end.ensures.value _ c.if-rest-eq0.true
-    ∙ sym c.loop-place.invariant
-
-pub loop-place-preserved : goal.loop-place-preserved
-loop-place-preserved c = c.loop-place.invariant ∙ from_next _ _ _ c.loop-place-test.true c.entry_end-end.ensures.value _ c.if-rest-eq0.false
-
-pub returns : goal.returns
-returns c = c.part_of-2.ensures ∙ from_none _ _ _ c.loop-place-test.false ∙ sym c.loop-place.invariant
+pub returns-then-number-k : goal.returns-then-number-k
+returns-then-number-k c =
+    let t = YieldsList-turn (YieldsList-from_enumerate (YieldsList-from_slice_split _ (λ b. b == 59) c.args.indices.now ? ? ? (λ x r q k. ?)) ?) c.loop-number.yielded _ c.loop-number.yielded_by _ _ (c.in-Some.number, c.in-Some.entry) c.in-Some.is c.next.ensures.steps in
+    ?
