@@ -1,5 +1,6 @@
 pub mod Digits
 pub mod Names
-pub mod Joins
+pub mod Ends
 pub mod Storing
 pub mod Answers
+pub mod Opened

@@ -1,96 +1,46 @@
--- Laws of a reference by its name: `hit` where one stands there, `missed` where none does; carried by `begins_is`, that a name with its `;` in front is what
--- stands up to the first `;`.
+-- Laws of the five names: each is told by its length and its bytes at their places (`by_places`), as the code's `match` tells it.
 -- Assumes nothing.
-use Prim.Native.Nat.{ℕ, ◌+◌}
-use native.Mathlib.Omega.{arith}
-use mathlib.Core.Path.{◌≡◌, refl, sym, ◌∙◌}
-use mathlib.Core.Bool.{Bool, true, false, not, ◌&&◌, and-false}
-use mathlib.Core.List.{List, [], ◌∷◌, ◌++◌}
-use borrow.Author.Tests.{ne_eqb, eqb-true, not-true}
-use lib.Dec.{eqb}
-use lib.ListN.{length, drop}
-use Rattle.label.specs.Bytes.{ascii, begins}
+use Rattle.std.proofs.Common.{◌≡◌, ℕ, suc, Bool, true, false, cond, ◌&&◌, eqb, List, [], ◌∷◌, length, get_or, refl, ap, arith}
+use mathlib.Core.Bool.{and-false}
+use Rattle.std.proofs.lemmas.Bool.Decides.{nat_tests}
+use Rattle.label.specs.Bytes.{ascii}
 use Rattle.label.specs.Text.{xml_char}
-use Rattle.label.specs.Requests.Attribute.{same_bytes, predefined, body, is_closed}
-use Rattle.label.proofs.Requests.Attribute.{closed_none, closed_here, body_here, closed_further, body_further}
-use Rattle.label.proofs.Basics.{and_l, and_r, clash, cases}
-use Rattle.label.proofs.Splits.{none}
-use Rattle.attribute.specs.declared.Reference.TheVariants.{To, Bad}
-use Rattle.attribute.specs.References.{reference_by}
+use Rattle.label.specs.Requests.Attribute.{same_bytes, predefined}
 
--- ── a reference by its name ──
+-- the bytes w stand from place i on
+abbrev pub at_places : List ℕ → ℕ → List ℕ → Bool
+at_places s i [] = true
+at_places s i (b ∷ w) = eqb (get_or s i 0) b && at_places s (suc i) w
 
-shuffle : (f q r : Bool) → (q && (f && r)) ≡ (f && (q && r))
-shuffle true q r = refl
-shuffle false q r = and-false q
+deeper : (x : ℕ) (s : List ℕ) (i : ℕ) (w : List ℕ) → at_places s i w ≡ at_places (x ∷ s) (suc i) w
+deeper x s i [] = refl
+deeper x s i (b ∷ w) = ap (λ (t : Bool). eqb (get_or s i 0) b && t) (deeper x s (suc i) w)
 
--- a name with its `;` stands at the front exactly where it is what stands up to the first `;`
-begins_is : (w t : List ℕ) → none (λ b. eqb b 59) w ≡ true → begins (w ++ (59 ∷ [])) t ≡ (is_closed t && same_bytes (body t) w)
-unfolding begins same_bytes
-begins_is [] [] h = rw closed_none
-begins_is [] (b ∷ t) h = cases (eqb b 59) (λ e. rw (e, closed_here b t e, body_here b t e))
-    (λ e. rw (e, closed_further b t e, body_further b t e) (sym (and-false (is_closed t))))
-begins_is (c ∷ w) [] h = rw closed_none
-begins_is (c ∷ w) (b ∷ t) h =
-    let n : eqb c 59 ≡ false = not-true (eqb c 59) (and_l (not (eqb c 59)) (none (λ x. eqb x 59) w) h) in
-    cases (eqb b 59)
-    (λ e. rw (closed_here b t e, body_here b t e, ne_eqb b c (λ k. clash (eqb c 59) (rw k at e) n)))
-    (λ e. rw (closed_further b t e, body_further b t e, begins_is w t (and_r (not (eqb c 59)) (none (λ x. eqb x 59) w) h))
-    (shuffle (is_closed t) (eqb b c) (same_bytes (body t) w)))
+front : (e p q : Bool) → (e && (p && q)) ≡ (p && (e && q))
+front true p q = refl
+front false p q = rw (and-false p)
 
-same_is : (x y : List ℕ) → same_bytes x y ≡ true → x ≡ y
+same : (s w : List ℕ) → same_bytes s w ≡ (eqb (length s) (length w) && at_places s 0 w)
 unfolding same_bytes
-same_is [] [] h = refl
-same_is [] (b ∷ y) h = clash false h refl
-same_is (a ∷ x) [] h = clash false h refl
-same_is (a ∷ x) (b ∷ y) h = rw (eqb-true a b (and_l (eqb a b) (same_bytes x y) h), same_is x y (and_r (eqb a b) (same_bytes x y) h))
+same [] [] = refl
+same (x ∷ s) [] = grind (arith, nat_tests)
+same [] (b ∷ w) = grind (arith, nat_tests)
+same (x ∷ s) (b ∷ w) =
+    let e : eqb (suc (length s)) (suc (length w)) ≡ eqb (length s) (length w) = grind (arith, nat_tests) in
+    rw (same s w, deeper x s 0 w, e) (front (eqb x b) (eqb (length s) (length w)) (at_places (x ∷ s) 1 w))
 
-module _ (s : List ℕ) (at : ℕ) where
-  -- what stands up to the first `;`
-  abbrev name : List ℕ
-  name = body (drop at s)
+pub by_places : (s : List ℕ) → predefined s
+    ≡ cond (eqb (length s) 3 && at_places s 0 (97 ∷ 109 ∷ 112 ∷ [])) 38
+    (cond (eqb (length s) 2 && at_places s 0 (108 ∷ 116 ∷ [])) 60
+    (cond (eqb (length s) 2 && at_places s 0 (103 ∷ 116 ∷ [])) 62
+    (cond (eqb (length s) 4 && at_places s 0 (113 ∷ 117 ∷ 111 ∷ 116 ∷ [])) 34
+    (cond (eqb (length s) 4 && at_places s 0 (97 ∷ 112 ∷ 111 ∷ 115 ∷ [])) 39 0))))
+unfolding predefined ascii
+by_places s = simp same
 
-  -- the name w stands there, and its character is c
-  is_named : (w : List ℕ) (c : ℕ) → (is_closed (drop at s) && same_bytes name w) ≡ true → predefined w ≡ c → xml_char c ≡ true
-      → To c (at + (length w + 1)) ≡ reference_by predefined s at
-  unfolding reference_by
-  is_named w c h n x =
-      let e : name ≡ w = same_is name w (and_r (is_closed (drop at s)) (same_bytes name w) h) in
-      let p : at + length w + 1 ≡ at + (length w + 1) = omega arith in
-      rw (and_l (is_closed (drop at s)) (same_bytes name w) h, e, n, x, p)
+pub zero_none : xml_char 0 ≡ false
+unfolding xml_char
+zero_none = refl
 
-  -- none of the names stands there
-  not_named : predefined name ≡ 0 → Bad ≡ reference_by predefined s at
-  unfolding reference_by xml_char
-  not_named h = rw (h, and-false (is_closed (drop at s)))
-
-  module _ (w : List ℕ) (f : none (λ b. eqb b 59) w ≡ true) {x : Bool} (e : x ≡ begins (w ++ (59 ∷ [])) (drop at s)) where
-    -- the code found w with its `;`
-    pub hit : (c : ℕ) → predefined w ≡ c → xml_char c ≡ true → x ≡ true → To c (at + (length w + 1)) ≡ reference_by predefined s at
-    hit c n k h = is_named w c (sym (begins_is w (drop at s) f) ∙ sym e ∙ h) n k
-
-    miss : is_closed (drop at s) ≡ true → x ≡ false → same_bytes name w ≡ false
-    miss k h = rw k at (sym (begins_is w (drop at s) f) ∙ sym e ∙ h)
-
-  -- the code found none
-  module _ {a l g q p : Bool} (ea : a ≡ begins (ascii "amp;") (drop at s)) (el : l ≡ begins (ascii "lt;") (drop at s))
-      (eg : g ≡ begins (ascii "gt;") (drop at s))
-      (eq : q ≡ begins (ascii "quot;") (drop at s)) (ep : p ≡ begins (ascii "apos;") (drop at s)) where
-    pub missed : a ≡ false → l ≡ false → g ≡ false → q ≡ false → p ≡ false → Bad ≡ reference_by predefined s at
-    unfolding ascii
-    missed ha hl hg hq hp =
-        cases (is_closed (drop at s))
-        (λ k. not_named (unfold predefined in rw (
-          miss (ascii "amp") refl ea k ha,
-          miss (ascii "lt") refl el k hl,
-          miss (ascii "gt") refl eg k hg,
-          miss (ascii "quot") refl eq k hq,
-          miss (ascii "apos") refl ep k hp,
-        )))
-        (λ k. unfold reference_by in rw k)
-
--- the characters of the five names
-pub names : (predefined (ascii "amp") ≡ 38) × (predefined (ascii "lt") ≡ 60) × (predefined (ascii "gt") ≡ 62) × (predefined (ascii "quot") ≡ 34) × (predefined
-    (ascii "apos") ≡ 39)
-unfolding predefined same_bytes ascii
-names = (refl, refl, refl, refl, refl)
+-- what the check tries at each return
+pub ruleset names = (by_places, nat_tests, zero_none)

@@ -1,224 +1,163 @@
 // Raw XML attribute values: references resolved and white space replaced, as XML 1.0 says.
 #![tactic(auto)]
 
-ghost use Rattle.std.specs.Prelude.{◌≡◌, ◌+◌, ◌*◌, ◌≤◌, ◌<◌, min, length};
-ghost use Rattle.label.specs.Calls.{filling_outcome, filled_count, filled_after};
-ghost use Rattle.label.specs.Requests.Attribute.{predefined, digit_value, numbered, referred, spaced, resolve_into};
-ghost use Rattle.attribute.specs.References.{beyond, number_at, reference_by};
-ghost use Rattle.attribute.specs.Stores.{width_at, Stores};
+ghost use Rattle.std.specs.Prelude.{◌≡◌, ◌+◌, ◌-◌, ◌*◌, ◌^◌, ◌≤◌, ◌<◌, ◌==◌, false, length, position, MatchOption, SomeIff};
+ghost use Rattle.std.specs.Iterator.{at_most};
+ghost use Rattle.label.specs.Text.{xml_char};
+ghost use Rattle.label.specs.Calls.{outcome_of, filled_count, filled_after};
+ghost use Rattle.label.specs.Requests.Attribute.{predefined, numbered, referred, is_reference, body, is_good, gives, further, resolve_into};
+ghost use Rattle.octets.specs.Puts.{Put};
+ghost use Rattle.attribute.specs.Pieces.{IsReference, IsPiece, GivesPiece, Stores};
 
-use label::Filling;
+use label::{Cause, Refusal};
+use octets::Output;
 
 // ── references ──
 
-// The character that a reference stands for and the place behind its `;`; or no reference.
-#[derive(Clone, Copy)]
-enum Reference {
-    To { code: u32, next: usize },
-    Bad,
+// One more digit of the base behind n, if the number is not too large for any character.
+fn with_digit(n: u32, base: u32, digit: u32) -> Option<u32>
+    ensures { SomeIff result (n * base + digit < 2 ^ 32) (n * base + digit) }
+{
+    n.checked_mul(base)?.checked_add(digit)
 }
 
-// A digit of base ten or sixteen as a number; 16 for any other byte.
-fn digit_value(b: u8) -> u32
-    ensures value { result ≡ digit_value b }
-    ensures bounds { result ≤ 16 }
+// The character whose number the digits of base ten or sixteen are. None: there are none, or another byte stands among them, or no character has the number.
+fn numbered(digits: &[u8], base: u32) -> Option<char>
+    requires { (2 ≤ base) × (base ≤ 16) }
+    ensures { MatchOption result (xml_char (numbered base digits.now) ≡ false) (λ c. c ≡ numbered base digits.now) }
 {
-    match b {
-        b'0'..=b'9' => octets::wide(b) - 48,
-        b'a'..=b'f' => octets::wide(b) - 87,
-        b'A'..=b'F' => octets::wide(b) - 55,
-        _ => 16,
+    if digits.is_empty() {
+        return None;
     }
-}
-
-// The first number behind every character, where numbers are cut: it is no character, and no digit more makes it one.
-const BEYOND: u32 = 0x110000;
-
-// One more digit of the base behind n.
-fn with_digit(n: u32, base: u32, d: u32) -> u32
-    requires { (n ≤ beyond) × (base ≤ 16) × (d ≤ 16) }
-    ensures { result ≡ min (n * base + d) beyond }
-{
-    let m = n * base + d;
-    if m < BEYOND { m } else { BEYOND }
-}
-
-// The digits at a place: their value, cut, and the place behind them.
-#[derive(Clone, Copy)]
-struct Number {
-    value: u32,
-    end: usize,
-}
-
-fn number_at(s: &[u8], at: usize, base: u32) -> Number
-    requires { (at ≤ length s.now) × (1 ≤ base) × (base ≤ 16) }
-    ensures value { result ≡ number_at base s.now at }
-    ensures bounds { (at ≤ result.end) × (result.end ≤ length s.now) }
-{
     let mut n = 0;
-    let mut i = at;
-    while i < s.len() {
-        let d = digit_value(s[i]);
-        if base <= d {
-            return Number { value: n, end: i };
-        }
-        n = with_digit(n, base, d);
-        i += 1;
+    for b in digits {
+        let digit = char::from(*b).to_digit(base)?;
+        n = with_digit(n, base, digit)?;
     }
-    Number { value: n, end: i }
+    char::from_u32(n)
 }
 
-// The reference whose digits stand at a place. Without digits the value is 0, which is no character.
-fn numbered_at(s: &[u8], at: usize, base: u32) -> Reference
-    requires { (at ≤ length s.now) × (1 ≤ base) × (base ≤ 16) }
-    ensures { result ≡ reference_by (numbered base) s.now at }
+// The character of one of the five names.
+#[tactic(auto, using(crate::proofs::Names::names))]
+fn predefined(name: &[u8]) -> Option<char>
+    ensures { MatchOption result (xml_char (predefined name.now) ≡ false) (λ c. c ≡ predefined name.now) }
 {
-    let n = number_at(s, at, base);
-    let end = n.end;
-    if octets::byte_or_zero(s, end) != b';' {
-        return Reference::Bad;
-    }
-    if !utf8::is_xml(n.value) {
-        return Reference::Bad;
-    }
-    Reference::To {
-        code: n.value,
-        next: end + 1,
+    match name {
+        b"amp" => Some('&'),
+        b"lt" => Some('<'),
+        b"gt" => Some('>'),
+        b"quot" => Some('"'),
+        b"apos" => Some('\''),
+        _ => None,
     }
 }
 
-// The reference whose name stands at a place.
-fn named_at(s: &[u8], at: usize) -> Reference
-    requires { at ≤ length s.now }
-    ensures { result ≡ reference_by predefined s.now at }
+// The character of what stands between `&` and `;`: `#x` with hexadecimal digits, `#` with decimal ones, or a name.
+#[tactic(auto, unfolding(label::specs::Requests::Attribute::referred))]
+fn referred(body: &[u8]) -> Option<char>
+    ensures { MatchOption result (xml_char (referred body.now) ≡ false) (λ c. c ≡ referred body.now) }
 {
-    if octets::stands_at(s, at, b"amp;") {
-        return Reference::To {
-            code: 38,
-            next: at + 4,
-        };
+    match body {
+        [b'#', b'x', digits @ ..] => numbered(digits, 16),
+        [b'#', digits @ ..] => numbered(digits, 10),
+        name => predefined(name),
     }
-    if octets::stands_at(s, at, b"lt;") {
-        return Reference::To {
-            code: 60,
-            next: at + 3,
-        };
-    }
-    if octets::stands_at(s, at, b"gt;") {
-        return Reference::To {
-            code: 62,
-            next: at + 3,
-        };
-    }
-    if octets::stands_at(s, at, b"quot;") {
-        return Reference::To {
-            code: 34,
-            next: at + 5,
-        };
-    }
-    if octets::stands_at(s, at, b"apos;") {
-        return Reference::To {
-            code: 39,
-            next: at + 5,
-        };
-    }
-    Reference::Bad
 }
 
-// The reference whose `&` stands before a place.
-fn reference_at(s: &[u8], at: usize) -> Reference
-    requires { at ≤ length s.now }
-    ensures { result ≡ reference_by referred s.now at }
+// How many bytes stand up to the first `;`, if there is one.
+fn find_end(behind: &[u8]) -> Option<usize>
+    ensures { result ≡ position (λ b. b == 59) behind.now }
 {
-    if octets::byte_or_zero(s, at) != b'#' {
-        return named_at(s, at);
-    }
-    if octets::byte_or_zero(s, at + 1) != b'x' {
-        return numbered_at(s, at + 1, 10);
-    }
-    numbered_at(s, at + 2, 16)
+    behind.iter().position(|b| *b == b';')
+}
+
+// The character of the reference whose `&` stands before these bytes, and how many of them it has.
+fn read_reference(behind: &[u8]) -> Option<(char, usize)>
+    ensures { MatchOption result (is_reference behind.now ≡ false) (λ r. IsReference behind.now r.0 r.1) }
+{
+    let end = find_end(behind)?;
+    let c = referred(&behind[..end])?;
+    utf8::is_xml(u32::from(c)).then_some((c, end + 1))
 }
 
 // ── raw values ──
 
-// A raw tab, line feed or carriage return becomes a space.
-fn spaced_byte(b: u8) -> u8
-    ensures { result ≡ spaced b }
-{
-    if plain::either(plain::either(b == b'\t', b == b'\n'), b == b'\r') {
-        return b' ';
-    }
-    b
-}
-
-// How many bytes become one byte at a place: a carriage return with its line feed are two, any other is one.
-fn width_at(s: &[u8], at: usize) -> usize
-    requires { at < length s.now }
-    ensures value { result ≡ width_at s.now at }
-    ensures bounds { (1 ≤ result) × (result ≤ 2) }
-{
-    if s[at] != b'\r' {
-        return 1;
-    }
-    if octets::byte_or_zero(s, at + 1) != b'\n' {
-        return 1;
-    }
-    2
-}
-
-// How many bytes came out, or the place of a bad reference or a raw `<`.
+// What comes out of a piece of a raw value: a byte, or the character of a reference.
 #[derive(Clone, Copy)]
-enum Stored {
-    Bytes(usize),
-    Bad(usize),
+enum Piece {
+    Byte(u8),
+    Char(char),
+}
+
+// The piece that starts with a byte, before those behind it, and how many bytes it has. None: the byte is a raw `<`, or begins a bad reference.
+#[tactic(auto, using(crate::proofs::Opened::opened))]
+fn read_piece(b: u8, behind: &[u8]) -> Option<(Piece, usize)>
+    ensures { MatchOption result (is_good b behind.now ≡ false) (λ p. IsPiece b behind.now p.0 p.1) }
+{
+    match b {
+        b'<' => None,
+        b'&' => {
+            let (c, length) = read_reference(behind)?;
+            Some((Piece::Char(c), 1 + length))
+        }
+        b'\r' if behind.first() == Some(&b'\n') => Some((Piece::Byte(b' '), 2)),
+        b'\t' | b'\n' | b'\r' => Some((Piece::Byte(b' '), 1)),
+        _ => Some((Piece::Byte(b), 1)),
+    }
+}
+
+// The pieces of a raw value from a place on; behind a bad reference or a raw `<`, which is refused, there are none.
+#[derive(Clone, Copy)]
+struct Pieces<'a> {
+    raw: &'a [u8],
+    at: usize,
+}
+
+impl Iterator for Pieces<'_> {
+    type Item = Result<Piece, Refusal>;
+
+    ghost next_gives = { GivesPiece };
+
+    ghost remaining = { λ s. at_most (length s.raw.now - s.at) };
+
+    fn next(&mut self) -> Option<Result<Piece, Refusal>> {
+        let at = self.at;
+        let b = *self.raw.get(at)?;
+        let Some((piece, length)) = read_piece(b, &self.raw[at + 1..]) else {
+            self.at = self.raw.len();
+            return Some(Err(Cause::BadReference.at(at)));
+        };
+        self.at += length;
+        Some(Ok(piece))
+    }
 }
 
 // Stores what the raw value resolves to from the start of `out`, as far as there is room, and counts it.
-fn put_resolved(out: &mut [u8], raw: &[u8]) -> Stored
+fn put_resolved(out: &mut [u8], raw: &[u8]) -> Result<usize, Refusal>
     ensures { Stores raw.now out.old result out.new }
 {
-    let mut n = 0;
-    let mut i = 0;
-    while i < raw.len() {
-        let b = raw[i];
-        if b == b'<' {
-            return Stored::Bad(i);
-        }
-        if b != b'&' {
-            n = octets::put_byte(out, n, spaced_byte(b));
-            i += width_at(raw, i);
-            continue;
-        }
-        match reference_at(raw, i + 1) {
-            Reference::To { code, next } => {
-                n = text_bytes::put_utf8(out, n, code);
-                i = next;
-            }
-            Reference::Bad => {
-                return Stored::Bad(i);
-            }
+    let mut output = Output { bytes: out, at: 0 };
+    let pieces = Pieces { raw, at: 0 };
+    for piece in pieces {
+        match piece? {
+            Piece::Byte(b) => output.put_byte(b),
+            Piece::Char(c) => text_bytes::put_char(&mut output, u32::from(c)),
         }
     }
-    Stored::Bytes(n)
+    Ok(output.at)
 }
 
 // ── the call ──
 
-// One raw attribute value resolved into `out`, where no reference is bad, no raw `<` stands in it, and `out` has room. A first pass judges and measures, a
-// second one stores.
-pub fn resolve(raw: &[u8], out: &mut [u8]) -> Filling
-    ensures result { filling_outcome result ≡ filled_count (resolve_into (length out.old) raw.now) }
+// One raw attribute value resolved into `out`, where no reference is bad, no raw `<` stands in it, and `out` has room. A first pass judges and measures, with
+// room for nothing; a second one stores.
+pub fn resolve(raw: &[u8], out: &mut [u8]) -> Result<usize, Refusal>
+    ensures result { outcome_of result ≡ filled_count (resolve_into (length out.old) raw.now) }
     ensures out { out.new ≡ filled_after (resolve_into (length out.old) raw.now) out.old }
 {
-    let mut none = [0u8; 1];
-    match put_resolved(&mut none, raw) {
-        Stored::Bad(place) => Filling::refused(23, place),
-        Stored::Bytes(n) => {
-            if out.len() < n {
-                return Filling::refused(24, n);
-            }
-            put_resolved(out, raw);
-            Filling::Filled(n)
-        }
+    let n = put_resolved(&mut [], raw)?;
+    if out.len() < n {
+        return Err(Cause::ResolvedRoom.at(n));
     }
+    put_resolved(out, raw)
 }

@@ -22,7 +22,7 @@ use Rattle.label.proofs.Basics.{and_l, and_r, clash, cases}
 use Rattle.label.proofs.Splits.{none, empty_nil}
 use Rattle.label.proofs.Cursors.{split_rest, split_all}
 use Rattle.number.specs.Digits.{ends, is_break}
-use Rattle.number.specs.Numbers.{number_within}
+use Rattle.std.proofs.Common.{is_some}
 use Rattle.number.proofs.Scan.{Cutting, whole, parted, cutting, none_or, none_left, none_right}
 use Rattle.entry.specs.Items.{is_semi, entry_read, entry_here}
 use Rattle.entry.specs.Parts.{Parts, parts_of, map_of, index_at, front_ok, field_of, well_parted, index_choice, advance_choice, offset_by, rounded_by, rounded_parts, scanned}
@@ -279,7 +279,7 @@ field_says : (x r t : List ℕ) → is_offset x ≡ true → Fielded x r t → F
 field_says x r t h (fb.good o k d v m z) = record { rest = d; given = v; negative = m; size = z }
 field_says x r t h (fb.wrong o w) = clash (is_offset x) h o
 
-within_is : (x : List ℕ) → number_within (field_size x) ≡ field_fits x
+within_is : (x : List ℕ) → is_some (field_size x) ≡ field_fits x
 unfolding field_fits
 within_is [] = refl
 within_is (b ∷ x) = cases (number_fits (unsigned (b ∷ x))) (λ e. rw e) (λ e. rw e)
@@ -333,7 +333,7 @@ defined_by p0 p1 p2 p3 =
 
 answer : (n k : ℕ) (p0 p1 p2 p3 : List ℕ)
     → entry_read n (rounded_by (field_size p1) + rounded_by (field_size p2) + rounded_by (field_size p3))
-    (checked k (leb (value (index_digits p0)) max_index) (number_within (field_size p1) && number_within (field_size p2) && number_within (field_size p3))
+    (checked k (leb (value (index_digits p0)) max_index) (is_some (field_size p1) && is_some (field_size p2) && is_some (field_size p3))
     (scanned_by p0 p1 p2 p3))
     ≡ entry_read n (rounded_field p1 + rounded_field p2 + rounded_field p3)
     (checked k (leb (value (index_digits p0)) max_index) (field_fits p1 && field_fits p2 && field_fits p3) (defined_by p0 p1 p2 p3))
@@ -349,7 +349,7 @@ answer n k p0 p1 p2 p3 =
 
 module _ (k : ℕ) (t en r0 : List ℕ) (te : t ≡ en ++ r0) (k0 : ends is_semi r0 ≡ true) (c : Comma en) (x : Next c.r r0) (y : Next x.r' r0)
     (z : Next y.r' r0)
-    (bound : (parts_of t).used ≤ length t) where
+    (bound : well_parted (parts_of t) t ≡ true → (parts_of t).used ≤ length t) where
   module _ (e : well_formed en ≡ true) where
     tests : (empty z.r' && is_index_part c.p && is_advance x.p && is_offset y.p && is_offset z.p) ≡ true
     unfolding well_formed
@@ -416,7 +416,13 @@ module _ (k : ℕ) (t en r0 : List ℕ) (te : t ≡ en ++ r0) (k0 : ends is_semi
         ∙ ap (λ (v : List ℕ). v ++ r0) (empty_nil z.r' (and_l (empty z.r') (is_index_part c.p) test_1))
 
     used_same : (parts_of t).used ≡ length en
-    used_same = omega (arith, bound, sym (length-drop (parts_of t).used t) ∙ ap length z_rest, ap length te ∙ length-append en r0)
+    used_same = omega (
+      arith,
+      bound (well_same t en r0 te k0 c x y z ∙ e),
+      sym (length-drop (parts_of t).used t) ∙ ap length z_rest,
+      ap length te
+          ∙ length-append en r0,
+    )
 
     map_same : (parts_of t).map ≡ map_of t
     unfolding parts_of
@@ -461,7 +467,8 @@ module _ (k : ℕ) (t en r0 : List ℕ) (te : t ≡ en ++ r0) (k0 : ends is_semi
   bridge_parts = cases (well_formed en) well_bridge (λ e. rw (entry_steps k en, well_same t en r0 te k0 c x y z, e))
 
 -- an entry en and what follows it
-bridge_entry : (k : ℕ) (t en r0 : List ℕ) → t ≡ en ++ r0 → none is_semi en ≡ true → ends is_semi r0 ≡ true → (parts_of t).used ≤ length t
+bridge_entry : (k : ℕ) (t en r0 : List ℕ) → t ≡ en ++ r0 → none is_semi en ≡ true → ends is_semi r0 ≡ true
+    → (well_parted (parts_of t) t ≡ true → (parts_of t).used ≤ length t)
     → entry_read (parts_of t).used (rounded_parts (parts_of t)) (scanned k t) ≡ entry_read (length en) (rounded_entry en) (entry k en)
 bridge_entry k t en r0 te n k0 b =
     let c : Comma en = comma en n in
@@ -470,7 +477,8 @@ bridge_entry k t en r0 te n k0 b =
     bridge_parts k t en r0 te k0 c x y (next y.r' r0 y.end y.semi k0) b
 
 -- for every list of bytes: what the scan answers is what the definitions answer of the entry in front
-pub bridge : (k : ℕ) (t : List ℕ) → (parts_of t).used ≤ length t → entry_read (parts_of t).used (rounded_parts (parts_of t)) (scanned k t) ≡ entry_here k t
+pub bridge : (k : ℕ) (t : List ℕ) → (well_parted (parts_of t) t ≡ true → (parts_of t).used ≤ length t)
+    → entry_read (parts_of t).used (rounded_parts (parts_of t)) (scanned k t) ≡ entry_here k t
 bridge k t b = go (cutting is_semi t)
   where
     go : Cutting is_semi t → entry_read (parts_of t).used (rounded_parts (parts_of t)) (scanned k t) ≡ entry_here k t

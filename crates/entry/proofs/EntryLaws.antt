@@ -1,38 +1,35 @@
 -- Laws that the code's map, front, fields and entry are the definitions'; the parts are rewritten by the bytes met, the entry's answers by `bridge` of
 -- EntryBridge.
 -- Assumes nothing.
-use mathlib.Core.Path.{◌≡◌, refl, ap, sym, ◌∙◌}
-use mathlib.Core.Bool.{Bool, true, false, not, ◌&&◌, ◌||◌, and-true, or-true}
-use mathlib.Core.List.{List, [], ◌∷◌}
-use Prim.Native.Nat.{ℕ, zero, suc, ◌+◌, ◌≤◌, ◌<◌, min}
-use native.Mathlib.Omega.{arith}
-use native.Mathlib.Nat.{add-zero, zero-add}
-use lib.Dec.{leb, ltb, eqb}
-use lib.IntN.{ℤ, pos}
-use lib.ListN.{length, drop, get_or, length-drop}
+use Rattle.std.proofs.Common.{◌≡◌, refl, cond, ap, sym, ◌∙◌, Bool, true, false, not, ◌&&◌, ◌||◌, List, [], ◌∷◌, ℕ, zero, suc, ◌+◌, ◌≤◌, ◌<◌, min, arith, leb, ltb, eqb, length, drop, get_or, Option, Some, None, Ok, Err, is_some, ℤ, add_assoc, option_and_then}
+use Rattle.std.specs.Option.{option_map}
+use mathlib.Core.Bool.{or-true}
+use native.Mathlib.Nat.{zero-add}
+use lib.ListN.{length-drop}
 use lib.Seq.{drop-drop, get_or-drop}
-use borrow.Author.Tests.{eq-eqb, ne_eqb, eqb-true, eqb-false, le-leb, lt-leb, lt-ltb, leb-true, ltb-true}
+use borrow.Author.Tests.{eq-eqb, ne_eqb, eqb-true, le-leb, lt-leb, lt-ltb, leb-true, leb-false}
+use Rattle.std.proofs.lemmas.Option.{same_Some, none-some}
+use Rattle.std.specs.Bool.{then_some}
 use Rattle.label.specs.Limits.{max_index}
-use Rattle.label.specs.Bytes.{value}
-use Rattle.label.specs.Calls.{refusal}
+use Rattle.label.specs.Bytes.{value_from, value}
+use Rattle.label.specs.declared.Glyph.{Glyph}
 use Rattle.label.specs.declared.Index.{Index}
 use Rattle.label.specs.declared.Index.TheVariants.{Named}
 use Rattle.label.specs.declared.Advance.{Advance}
-use Rattle.label.specs.declared.Advance.TheVariants.{Own}
-use Rattle.label.proofs.Basics.{and_l, and_r, cases, clash}
-use Rattle.number.specs.declared.Thousandths.{Thousandths}
+use Rattle.label.proofs.Basics.{cases, clash}
 use Rattle.number.specs.declared.Digits.{Digits}
 use Rattle.number.specs.declared.Number.{Number}
 use Rattle.number.specs.Digits.{cap, head_of, ends, is_break, lead, digits_from}
-use Rattle.number.specs.Numbers.{number_within, Small, sign_length, number_of}
+use Rattle.number.specs.Numbers.{Numeral, sign_length, number_of, formed}
+use Rattle.number.specs.declared.Thousandths.{Thousandths}
 use Rattle.number.proofs.DigitLaws.{head_drop}
-use Rattle.number.proofs.NumberLaws.{number_small}
 use Rattle.entry.specs.declared.MapPart.{MapPart}
 use Rattle.entry.specs.declared.Front.{Front}
 use Rattle.entry.specs.declared.Field.{Field}
-use Rattle.entry.specs.declared.EntryRead.TheVariants.{Read, Refused}
+use Rattle.entry.specs.declared.Parts.{Parts as Cut}
+use Rattle.label.specs.Outcome as O
 use Rattle.entry.specs.Items.{is_semi, entry_read, entry_here, IsIndex}
-use Rattle.entry.specs.Parts.{Map, map_of, map_by, map_with, no_map, bad_map, lead_at, cut_map, index_at, front_with, front_of, field_of, field_with, not_given, given_by, Parts, parts_of, well_parted, index_choice, advance_choice, offset_by, rounded_by, rounded_parts, judged, scanned}
+use Rattle.entry.specs.Parts.{map_of, map_with, no_map, lead_at, cut_map, index_at, front_ok, front_with, front_of, FieldPart, field_of, cut_field, advance_within, advance_choice, offset_within, offset_by, rounded_number, rounded_by, is_minus, field_with, not_given, given_by, Parts, parts_of, well_parted, cut_parts, rounded_parts, glyph_within, index_within, cut_index, index_choice, judged, scanned}
 use Rattle.entry.proofs.EntryBridge.{bridge}
 
 -- ── the map ──
@@ -45,74 +42,76 @@ map_some : (s : List ℕ) → head_of s ≡ 40 → map_of s ≡ map_with s (lead
 unfolding map_of
 map_some s h = rw (eq-eqb _ _ h)
 
--- a is the first byte, h the one behind the digits of the first count, g the one behind those of the second
-module _ (s : List ℕ) {a : ℕ} (ea : a ≡ get_or s 0 0) where
-  pub code_none : (a ≡ 40 → ⊥) → cut_map no_map ≡ cut_map (map_of s)
-  code_none n = ap cut_map (sym (map_none s (λ k. n (ea ∙ k))))
+-- a test and the value told where it holds
+told_some : {A : Type 0} (b : Bool) (x y : A) → Some y ≡ then_some b x → (b ≡ true) × (x ≡ y)
+told_some true x y e = (refl, sym (same_Some y x e))
+told_some false x y e = absurd (none-some y (sym e))
 
-  module _ (p : a ≡ 40) (r : Digits) (e : r ≡ digits_from 0 (drop 1 s)) {h : ℕ} (eh : h ≡ get_or s (1 + r.count) 0) where
-    -- the lengths of both, and h by the first
-    abbrev n : ℕ
-    n = length (lead_at 1 s)
+told_none : {A : Type 0} (b : Bool) (x : A) → None ≡ then_some b x → b ≡ false
+told_none true x e = absurd (none-some x e)
+told_none false x e = refl
 
-    abbrev k : ℕ
-    k = length (lead_at (1 + (n + 1)) s)
+-- what the code tells of it
+abbrev told_map : List ℕ → Option MapPart
+told_map s = let m = map_of s in then_some m.ok (cut_map m)
 
-    h_is : h ≡ get_or s (1 + n) 0
-    h_is = rw e at eh
+module _ (s : List ℕ) where
+  pub code_none : (get_or s 0 0 ≡ 40 → ⊥) → Some (record { used = 0; mapped = false; units = 1; glyphs = 1 }) ≡ told_map s
+  code_none h = rw (map_none s h)
 
-    pub code_one : h ≡ 41
-        → ◌≡◌ {A = MapPart} (record { ok = ltb 0 r.count; used = 1 + r.count + 1; mapped = true; units = r.value; glyphs = 1 }) (cut_map (map_of s))
-    code_one t = rw (map_some s (sym ea ∙ p), ← h_is, t, e)
+  module _ (p : get_or s 0 0 ≡ 40) (r : Digits) (e : r ≡ digits_from 0 (drop 1 s)) where
+    count_is : r.count ≡ length (lead_at 1 s)
+    count_is = ap (λ (d : Digits). d.count) e
 
-    pub code_odd : (h ≡ 41 → ⊥) → (h ≡ 58 → ⊥) → cut_map bad_map ≡ cut_map (map_of s)
-    code_odd o q = rw (map_some s (sym ea ∙ p), ← h_is, ne_eqb h 41 o, ne_eqb h 58 q)
+    pub code_one : get_or s (1 + r.count) 0 ≡ 41
+        → then_some (ltb 0 r.count) (record { used = 1 + r.count + 1; mapped = true; units = r.value; glyphs = 1 }) ≡ told_map s
+    code_one t = rw (map_some s p, ← count_is, t, e)
 
-    module _ (t : h ≡ 58) (q : Digits) (f : q ≡ digits_from 0 (drop (1 + (r.count + 1)) s)) {g : ℕ} (eg : g ≡ get_or s (1 + (r.count + 1) + q.count) 0) where
-      g_is : g ≡ get_or s (1 + (n + 1) + k) 0
-      g_is = rw (f, e) at eg
+    pub code_odd : (get_or s (1 + r.count) 0 ≡ 41 → ⊥) → (get_or s (1 + r.count) 0 ≡ 58 → ⊥) → None ≡ told_map s
+    code_odd o q = rw (map_some s p, ← count_is, ne_eqb (get_or s (1 + r.count) 0) 41 o, ne_eqb (get_or s (1 + r.count) 0) 58 q)
 
-      pub code_two : g ≡ 41 → (ok : Bool) → ok ≡ (ltb 0 r.count && ltb 0 q.count)
-          → ◌≡◌ {A = MapPart} (record { ok = ok; used = 1 + (r.count + 1) + q.count + 1; mapped = true; units = r.value; glyphs = q.value })
-          (cut_map (map_of s))
-      code_two l ok eo = rw (map_some s (sym ea ∙ p), ← h_is, ← g_is, t, l, eo, f, e)
+    module _ (t : get_or s (1 + r.count) 0 ≡ 58) (q : Digits) (f : q ≡ digits_from 0 (drop (1 + r.count + 1) s)) where
+      pub code_two : get_or s (1 + r.count + 1 + q.count) 0 ≡ 41 → (ok : Bool) → ok ≡ (ltb 0 r.count && ltb 0 q.count)
+          → then_some ok (record { used = 1 + r.count + 1 + q.count + 1; mapped = true; units = r.value; glyphs = q.value }) ≡ told_map s
+      code_two l ok eo = rw (map_some s p, ← count_is, t, ← add_assoc 1 r.count 1, ← ap (λ (d : Digits). d.count) f, l, eo, f, e)
 
-      pub code_open : (g ≡ 41 → ⊥) → cut_map bad_map ≡ cut_map (map_of s)
-      code_open l = rw (map_some s (sym ea ∙ p), ← h_is, ← g_is, t, ne_eqb g 41 l)
-
--- where there is no map, no byte is a map's
-by_mapped : (h k : ℕ) (ds es : List ℕ) → (map_by h k ds es).mapped ≡ true
-by_mapped h k ds es =
-    cases (eqb h 41) (λ e. rw e) (λ e. cases (eqb h 58) (λ f. cases (eqb k 41) (λ g. rw (e, f, g)) (λ g. rw (e, f, g))) (λ f. rw (e, f)))
-
-pub map_unused : (s : List ℕ) (m : MapPart) → m ≡ cut_map (map_of s) → m.mapped ≡ false → m.used ≡ 0
-map_unused s m em h =
-    let none : (map_of s).mapped ≡ false = sym (ap (λ (x : MapPart). x.mapped) em) ∙ h in
-    let ds : List ℕ = lead_at 1 s in
-    let es : List ℕ = lead_at (1 + (length ds + 1)) s in
-    ap (λ (x : MapPart). x.used) em
-    ∙ cases (eqb (head_of s) 40)
-    (λ e. clash (map_of s).mapped
-    (ap (λ (x : Map). x.mapped) (map_some s (eqb-true (head_of s) 40 e))
-    ∙ by_mapped (get_or s (1 + length ds) 0) (get_or s (1 + (length ds + 1) + length es) 0) ds es) none)
-    (λ e. ap (λ (x : Map). x.used) (map_none s (eqb-false (head_of s) 40 e)))
+      pub code_open : (get_or s (1 + r.count + 1 + q.count) 0 ≡ 41 → ⊥) → None ≡ told_map s
+      code_open l = rw (
+        map_some s p,
+        ← count_is,
+        t,
+        ← add_assoc 1 r.count 1,
+        ← ap (λ (d : Digits). d.count) f,
+        ne_eqb (get_or s (1 + r.count + 1 + q.count) 0) 41 l,
+      )
 
 -- ── map and index ──
 
--- both put together
-pub code_front : (s : List ℕ) (m : MapPart) → m ≡ cut_map (map_of s) → (d : Digits) → d ≡ digits_from 0 (drop m.used s) → (q o : Bool)
-    → q ≡ (ltb 0 d.count || not m.mapped) → o ≡ (m.ok && q)
-    → ◌≡◌ {A = Front} (record {
-      ok = o;
-      used = m.used + d.count;
-      mapped = m.mapped;
-      units = m.units;
-      glyphs = m.glyphs;
-      named = ltb 0 d.count;
-      index = d.value;
-    }) (front_of s)
+pub no_map_front : (s : List ℕ) → None ≡ told_map s → None ≡ front_of s
 unfolding front_of
-code_front s m em d ed q o eq eo = rw (eo, eq, ed, em)
+no_map_front s e = rw (told_none (map_of s).ok (cut_map (map_of s)) e)
+
+module _ (s : List ℕ) (m : MapPart) (em : Some m ≡ told_map s) (d : Digits) (ed : d ≡ digits_from 0 (drop m.used s)) where
+  map_ok : (map_of s).ok ≡ true
+  map_ok = (told_some (map_of s).ok (cut_map (map_of s)) m em).0
+
+  map_is : cut_map (map_of s) ≡ m
+  map_is = (told_some (map_of s).ok (cut_map (map_of s)) m em).1
+
+  digits_are : d ≡ digits_from 0 (drop (map_of s).used s)
+  digits_are = rw (← map_is) at ed
+
+  front_test : front_ok (map_of s) (index_at s) ≡ (ltb 0 d.count || not m.mapped)
+  front_test = rw (map_ok, ← map_is, digits_are)
+
+  pub code_front : (ltb 0 d.count || not m.mapped) ≡ true
+      → Some (record { map = m; used = m.used + d.count; index = then_some (ltb 0 d.count) d.value }) ≡ front_of s
+  unfolding front_of
+  code_front h = rw (front_test, h, ← map_is, digits_are)
+
+  pub no_index : (ltb 0 d.count || not m.mapped) ≡ false → None ≡ front_of s
+  unfolding front_of
+  no_index h = rw (front_test, h)
 
 -- ── a field ──
 
@@ -124,176 +123,302 @@ field_some : (t : List ℕ) → head_of t ≡ 44 → field_of t ≡ field_with (
 unfolding field_of
 field_some t h = rw (eq-eqb _ _ h)
 
--- a is the byte at the place, b the one behind it
-module _ (s : List ℕ) (at : ℕ) {a : ℕ} (ea : a ≡ get_or s at 0) where
-  a_is : a ≡ head_of (drop at s)
-  a_is = rw head_drop ea
+-- what the code tells of it
+abbrev told_field : List ℕ → Option Field
+told_field t = let f = field_of t in then_some f.ok (cut_field f)
 
-  pub code_absent : (a ≡ 44 → ⊥) → not_given 0 ≡ field_of (drop at s)
-  code_absent h = sym (field_none (drop at s) (λ k. h (a_is ∙ k)))
+module _ (s : List ℕ) (at : ℕ) where
+  pub code_absent : (get_or s at 0 ≡ 44 → ⊥) → Some (record { used = 0; number = None }) ≡ told_field (drop at s)
+  code_absent h = rw (field_none (drop at s) (rw head_drop h))
 
-  module _ (p : a ≡ 44) where
-    pub code_empty : ends is_break (drop (at + 1) s) ≡ true → not_given 1 ≡ field_of (drop at s)
-    code_empty h = rw (field_some (drop at s) (sym a_is ∙ p), drop-drop 1 at s, h)
+  module _ (p : get_or s at 0 ≡ 44) where
+    comma : head_of (drop at s) ≡ 44
+    comma = rw head_drop p
 
-    pub code_given : (b : ℕ) → b ≡ get_or s (at + 1) 0 → ends is_break (drop (at + 1) s) ≡ false → (k : ℕ) → k ≡ sign_length b → (n : Number)
-        → n ≡ number_of (drop (at + (1 + k)) s)
-        → given_by b (1 + k) n ≡ field_of (drop at s)
-    code_given b eb h k ek n en = rw (field_some (drop at s) (sym a_is ∙ p), drop-drop 1 at s, h, get_or-drop, ← eb, ← ek, drop-drop, ← en)
+    pub code_empty : ends is_break (drop (at + 1) s) ≡ true → Some (record { used = 1; number = None }) ≡ told_field (drop at s)
+    code_empty h = rw (field_some (drop at s) comma, drop-drop 1 at s, h)
 
--- a size is within its limit
-pub field_small : (t : List ℕ) → Small (field_of t).size
+    module _ (h : ends is_break (drop (at + 1) s) ≡ false) (k : ℕ) (ek : k ≡ sign_length (get_or s (at + 1) 0)) where
+      abbrev numeral : Numeral
+      numeral = number_of (drop (at + (1 + k)) s)
+
+      field_is : field_of (drop at s) ≡ given_by (get_or s (at + 1) 0) (1 + k) numeral
+      field_is = rw (field_some (drop at s) comma, drop-drop 1 at s, h, get_or-drop, ← ek, drop-drop)
+
+      pub code_ill : None ≡ formed numeral → None ≡ told_field (drop at s)
+      code_ill e = rw (field_is, told_none numeral.ok (record { used = numeral.used; size = numeral.size }) e)
+
+      pub code_given : (n : Number) → Some n ≡ formed numeral → (b : Bool) → b ≡ eqb (get_or s (at + 1) 0) 45
+          → Some (record { used = 1 + k + n.used; number = Some (record { negative = b; size = n.size }) }) ≡ told_field (drop at s)
+      code_given n en b eb =
+          let t = told_some numeral.ok (record { used = numeral.used; size = numeral.size }) n en in
+          rw (field_is, t.0, eb, ap (λ (r : Number). r.used) t.1, ap (λ (r : Number). r.size) t.1)
+
+-- where no number is given, nothing is negative, too large or rounded
+record Fair (f : FieldPart) : Type 0 where
+  negative : f.given ≡ false → f.negative ≡ false
+  size : f.given ≡ false → f.size ≡ Some (record { count = 0; exact = true })
+
+field_fair : (t : List ℕ) → Fair (field_of t)
 unfolding field_of
-field_small t = go (eqb (head_of t) 44) refl (ends is_break (drop 1 t)) refl
+field_fair t = go (eqb (head_of t) 44) (ends is_break (drop 1 t))
   where
-    go : (a : Bool) → eqb (head_of t) 44 ≡ a → (b : Bool) → ends is_break (drop 1 t) ≡ b → Small (field_of t).size
-    go false e b f = rw e (omega arith)
-    go true e true f = rw (e, f) (omega arith)
-    go true e false f = rw (e, f) (number_small (drop (1 + sign_length (get_or t 1 0)) t))
+    go : (a b : Bool) → Fair (cond a (cond b (not_given 1) (given_by (get_or t 1 0) (1 + sign_length (get_or t 1 0))
+        (number_of (drop (1 + sign_length (get_or t 1 0)) t)))) (not_given 0))
+    go false b = record { negative = λ e. refl; size = λ e. refl }
+    go true true = record { negative = λ e. refl; size = λ e. refl }
+    go true false = record { negative = λ e. cc; size = λ e. cc }
 
--- ── an entry with fields ──
+-- what the code makes of a number, told by the definitions' field
+advance_told : (g n : Bool) (z : Option Thousandths) → (g ≡ false → z ≡ Some (record { count = 0; exact = true }))
+    → advance_within (then_some g (record { negative = n; size = z })) ≡ then_some (is_some z) (advance_choice g z)
+advance_told true n (Some v) h = refl
+advance_told true n None h = refl
+advance_told false n z h = rw (h refl)
 
--- what the code tests for 7 and for 9
-unfoldable pub Well : List ℕ → Front → Field → Field → Field → Bool
-Well s f x y z =
-    (f.ok && ((x.ok && not x.negative) && (y.ok && z.ok))) && ends is_semi (drop (f.used + x.used + y.used + z.used) s)
+offset_told : (g n : Bool) (z : Option Thousandths) → (g ≡ false → z ≡ Some (record { count = 0; exact = true })) → (g ≡ false → n ≡ false)
+    → offset_within (then_some g (record { negative = n; size = z })) ≡ then_some (is_some z) (offset_by n z)
+offset_told true n (Some v) h k = refl
+offset_told true n None h k = refl
+offset_told false n z h k = rw (h refl, k refl)
 
-unfoldable pub Fit : Thousandths → Thousandths → Thousandths → Bool
-Fit x y z = number_within x && number_within y && number_within z
+rounded_told : (g n : Bool) (z : Option Thousandths) → (g ≡ false → z ≡ Some (record { count = 0; exact = true }))
+    → rounded_number (then_some g (record { negative = n; size = z })) ≡ rounded_by z
+rounded_told true n z h = refl
+rounded_told false n z h = rw (h refl)
 
--- the code found these parts
-pub record Parted (s : List ℕ) (f : Front) (x y z : Field) : Type 0 where
-  pub front : f ≡ front_of s
-  pub first : x ≡ field_of (drop f.used s)
-  pub second : y ≡ field_of (drop (f.used + x.used) s)
-  pub third : z ≡ field_of (drop (f.used + x.used + y.used) s)
-  pub inside : f.used + x.used + y.used + z.used ≤ length s
+minus_told : (g n : Bool) (z : Option Thousandths) → (g ≡ false → n ≡ false) → is_minus (then_some g (record { negative = n; size = z })) ≡ n
+minus_told true n z h = refl
+minus_told false n z h = sym (h refl)
 
-module _ (k : ℕ) (s : List ℕ) (f : Front) (x y z : Field) (p : Parted s f x y z) where
-  abbrev parts : Parts
-  parts = record { map = map_of s; digits = index_at s; x = x; y = y; z = z; used = f.used + x.used + y.used + z.used }
+-- ── the parts ──
 
-  front_is : f ≡ front_with (map_of s) (index_at s)
+-- what the code tells of them
+abbrev pub told_parts : List ℕ → Option Cut
+told_parts s = let p = parts_of s in then_some (well_parted p s) (cut_parts p)
+
+-- a field that was told, and one that is not well formed
+field_ok : (t : List ℕ) (x : Field) → Some x ≡ told_field t → ((field_of t).ok ≡ true) × (cut_field (field_of t) ≡ x)
+field_ok t x e = told_some (field_of t).ok (cut_field (field_of t)) x e
+
+field_ill : (t : List ℕ) → None ≡ told_field t → (field_of t).ok ≡ false
+field_ill t e = told_none (field_of t).ok (cut_field (field_of t)) e
+
+pub no_front : (s : List ℕ) → None ≡ front_of s → None ≡ told_parts s
+unfolding front_of parts_of
+no_front s e = rw (told_none (front_ok (map_of s) (index_at s)) (front_with (map_of s) (index_at s)) e)
+
+module _ (s : List ℕ) (f : Front) (ef : Some f ≡ front_of s) where
+  front_told : (front_ok (map_of s) (index_at s) ≡ true) × (front_with (map_of s) (index_at s) ≡ f)
   unfolding front_of
-  front_is = p.front
+  front_told = told_some (front_ok (map_of s) (index_at s)) (front_with (map_of s) (index_at s)) f ef
 
-  parts_are : parts_of s ≡ parts
+  front_used : (map_of s).used + length (index_at s) ≡ f.used
+  front_used = ap (λ (r : Front). r.used) front_told.1
+
+  abbrev first : FieldPart
+  first = field_of (drop f.used s)
+
+  first_is : (parts_of s).x ≡ first
   unfolding parts_of
-  parts_are = rw (p.third, p.second, p.first, front_is)
+  first_is = rw front_used
 
-  scanned_is : scanned k s ≡ judged k parts s
+  test_front : (a b c d : Bool) → a ≡ false → ((true && ((a && b) && c)) && d) ≡ false
+  test_front a b c d e = rw e
+
+  pub no_first : None ≡ told_field (drop f.used s) → None ≡ told_parts s
+  unfolding parts_of
+  no_first e = rw (front_told.0, front_used, field_ill (drop f.used s) e)
+
+  module _ (x : Field) (ex : Some x ≡ told_field (drop f.used s)) where
+    x_told : (first.ok ≡ true) × (cut_field first ≡ x)
+    x_told = field_ok (drop f.used s) x ex
+
+    x_used : first.used ≡ x.used
+    x_used = ap (λ (r : Field). r.used) x_told.1
+
+    x_minus : is_minus x.number ≡ first.negative
+    x_minus = rw (← x_told.1) (minus_told first.given first.negative first.size (field_fair (drop f.used s)).negative)
+
+    pub minus_first : is_minus x.number ≡ true → None ≡ told_parts s
+    unfolding parts_of
+    minus_first e = rw (front_told.0, front_used, x_told.0, sym x_minus ∙ e)
+
+    module _ (n : is_minus x.number ≡ false) where
+      pub no_second : None ≡ told_field (drop (f.used + x.used) s) → None ≡ told_parts s
+      unfolding parts_of
+      no_second e = rw (front_told.0, front_used, x_told.0, sym x_minus ∙ n, x_used, field_ill (drop (f.used + x.used) s) e)
+
+      module _ (y : Field) (ey : Some y ≡ told_field (drop (f.used + x.used) s)) where
+        abbrev second : FieldPart
+        second = field_of (drop (f.used + x.used) s)
+
+        y_told : (second.ok ≡ true) × (cut_field second ≡ y)
+        y_told = field_ok (drop (f.used + x.used) s) y ey
+
+        y_used : second.used ≡ y.used
+        y_used = ap (λ (r : Field). r.used) y_told.1
+
+        pub no_third : None ≡ told_field (drop (f.used + x.used + y.used) s) → None ≡ told_parts s
+        unfolding parts_of
+        no_third e = rw (front_told.0, front_used, x_told.0, sym x_minus ∙ n, x_used, y_told.0, y_used, field_ill (drop (f.used + x.used + y.used) s) e)
+
+        module _ (z : Field) (ez : Some z ≡ told_field (drop (f.used + x.used + y.used) s)) where
+          abbrev third : FieldPart
+          third = field_of (drop (f.used + x.used + y.used) s)
+
+          z_told : (third.ok ≡ true) × (cut_field third ≡ z)
+          z_told = field_ok (drop (f.used + x.used + y.used) s) z ez
+
+          z_used : third.used ≡ z.used
+          z_used = ap (λ (r : Field). r.used) z_told.1
+
+          pub code_parts : (e : Bool) → e ≡ ends is_semi (drop (f.used + x.used + y.used + z.used) s)
+              → then_some e (record {
+                map = f.map;
+                index = f.index;
+                advance = x.number;
+                u = y.number;
+                v = z.number;
+                used = f.used + x.used + y.used + z.used;
+              }) ≡ told_parts s
+          unfolding parts_of
+          code_parts e h = rw (
+            ← ap (λ (r : Front). r.map) front_told.1,
+            ← ap (λ (r : Front). r.index) front_told.1,
+            ← ap (λ (r : Field). r.number) x_told.1,
+            ← ap (λ (r : Field). r.number) y_told.1,
+            ← ap (λ (r : Field). r.number) z_told.1,
+            h,
+            front_told.0,
+            front_used,
+            x_told.0,
+            sym x_minus ∙ n,
+            x_used,
+            y_told.0,
+            y_used,
+            z_told.0,
+            z_used,
+          )
+
+-- ── the entry ──
+
+-- the index, told by the definitions
+index_cut : (ds : List ℕ) → index_within (cut_index ds) ≡ then_some (leb (value ds) max_index) (index_choice (ltb 0 (length ds)) (value ds))
+unfolding value_from
+index_cut [] = refl
+index_cut (b ∷ ds) =
+    rw (lt-ltb 0 (suc (length ds)) (omega arith))
+    (cases (leb (value (b ∷ ds)) max_index)
+    (λ e. let l : min (value (b ∷ ds)) cap ≡ value (b ∷ ds) = omega (arith, leb-true (value (b ∷ ds)) max_index e) in rw (l, e))
+    (λ e. let l : max_index < min (value (b ∷ ds)) cap = omega (arith, leb-false (value (b ∷ ds)) max_index e) in
+    rw (lt-leb (min (value (b ∷ ds)) cap) max_index l, e)))
+
+-- the three numbers together
+glyph_told : (i : Index) (a b c : Bool) (x : Advance) (u v : ℤ) (p : Cut) → advance_within p.advance ≡ then_some a x → offset_within p.u ≡ then_some b u
+    → offset_within p.v ≡ then_some c v
+    → glyph_within i p ≡ then_some (a && b && c) (record { index = i; advance = x; u = u; v = v })
+glyph_told i a b c x u v p ex eu ev = rw (ex, eu, ev) (go a b c)
+  where
+    glyph : Advance → ℤ → ℤ → Glyph
+    glyph x u v = record { index = i; advance = x; u = u; v = v }
+
+    go : (a b c : Bool) → option_and_then (λ (x : Advance). option_and_then (λ (u : ℤ). option_map
+        (λ (v : ℤ). glyph x u v) (then_some c v)) (then_some b u)) (then_some a x)
+        ≡ then_some (a && b && c) (record { index = i; advance = x; u = u; v = v })
+    go true true true = refl
+    go true true false = refl
+    go true false c = refl
+    go false b c = refl
+
+module _ (k : ℕ) (s : List ℕ) where
+  scanned_is : scanned k s ≡ judged k (parts_of s) s
   unfolding scanned
-  scanned_is = rw parts_are
-
-  well_is : well_parted parts s ≡ Well s f x y z
-  unfolding Well
-  well_is = rw front_is
-
-  value_is : f.index ≡ min (value (index_at s)) cap
-  value_is = ap (λ (r : Front). r.index) front_is
+  scanned_is = refl
 
   -- the answer of the definitions, told by the parts
-  said : entry_read (f.used + x.used + y.used + z.used) (rounded_parts parts) (judged k parts s) ≡ entry_here k s
-  said = rw (parts_are, scanned_is) at (bridge k s (rw parts_are p.inside))
+  said : (well_parted (parts_of s) s ≡ true → (parts_of s).used ≤ length s)
+      → entry_read (parts_of s).used (rounded_parts (parts_of s)) (judged k (parts_of s) s) ≡ entry_here k s
+  said h = rw scanned_is at (bridge k s h)
 
-  -- 7, 8, 9, or what the entry says
-  pub code_wrong : Well s f x y z ≡ false → Refused (refusal 7 k) ≡ entry_here k s
-  code_wrong h = rw (well_is, h) at said
+  -- 7
+  pub code_wrong : None ≡ told_parts s → O.no 7 k ≡ entry_here k s
+  code_wrong e =
+      let w : well_parted (parts_of s) s ≡ false = told_none (well_parted (parts_of s) s) (cut_parts (parts_of s)) e in
+      rw w at (said (λ h. clash (well_parted (parts_of s) s) h w))
 
-  module _ (h : Well s f x y z ≡ true) where
-    pub code_index : max_index < f.index → Refused (refusal 8 k) ≡ entry_here k s
-    code_index l = rw (well_is, h, lt-leb (value (index_at s)) max_index (omega (arith, value_is))) at said
+  module _ (p : Cut) (ep : Some p ≡ told_parts s) (inside : p.used ≤ length s) where
+    abbrev P : Parts
+    P = parts_of s
 
-    module _ (l : f.index ≤ max_index) where
-      small : leb (value (index_at s)) max_index ≡ true
-      small = le-leb (value (index_at s)) max_index (omega (arith, value_is))
+    told : (well_parted P s ≡ true) × (cut_parts P ≡ p)
+    told = told_some (well_parted P s) (cut_parts P) p ep
 
-      exact : min (value (index_at s)) cap ≡ value (index_at s)
-      exact = omega (arith, value_is)
+    used_is : P.used ≡ p.used
+    used_is = ap (λ (r : Cut). r.used) told.1
 
-      pub code_limits : Fit x.size y.size z.size ≡ false → Refused (refusal 9 k) ≡ entry_here k s
-      unfolding Fit
-      code_limits n = rw (well_is, h, small, n) at said
+    said_well : entry_read P.used (rounded_parts P) (judged k P s) ≡ entry_here k s
+    said_well = said (λ h. rw used_is inside)
 
-      pub code_read : Fit x.size y.size z.size ≡ true
-          → (i : Index) → i ≡ index_choice f.named f.index → (a : Advance) → a ≡ advance_choice x.given x.size
-          → (u v : ℤ) → u ≡ offset_by y.negative y.size → v ≡ offset_by z.negative z.size → (n : ℕ)
-          → n ≡ rounded_by x.size + rounded_by y.size + rounded_by z.size
-          → Read (record {
-            mapped = f.mapped;
-            units = f.units;
-            glyphs = f.glyphs;
-            glyph = record { index = i; advance = a; u = u; v = v };
-            used = f.used + x.used + y.used + z.used;
-            rounded = n;
-          }) ≡ entry_here k s
-      unfolding Fit
-      code_read w i ei a ea u v eu ev n en = rw (ei, ea, eu, ev, en, front_is, exact) (rw (well_is, h, small, w, front_is) at said)
+    index_is : index_within p.index ≡ then_some (leb (value P.digits) max_index) (index_choice (ltb 0 (length P.digits)) (value P.digits))
+    index_is = rw (← told.1) (index_cut P.digits)
 
--- the flags that lead to a test, put together
-pub well_chain : (s : List ℕ) (f : Front) (x y z : Field) {a b fields g e r : Bool}
-    → a ≡ (x.ok && not x.negative) → b ≡ (y.ok && z.ok) → fields ≡ (a && b) → g ≡ (f.ok && fields)
-    → e ≡ ends is_semi (drop (f.used + x.used + y.used + z.used) s) → r ≡ (g && e) → r ≡ Well s f x y z
-unfolding Well
-well_chain s f x y z e1 e2 e3 e4 e5 e6 = rw (← e1, ← e2, ← e3, ← e4, ← e5) e6
+    -- 8
+    pub code_index : None ≡ index_within p.index → O.no 8 k ≡ entry_here k s
+    code_index e =
+        let l : leb (value P.digits) max_index ≡ false = told_none (leb (value P.digits) max_index)
+        (index_choice (ltb 0 (length P.digits)) (value P.digits)) (e ∙ index_is) in
+        rw (told.0, l) at said_well
 
-pub within_chain : (x y z : Thousandths) {a b c q r : Bool} → a ≡ number_within x → b ≡ number_within y → c ≡ number_within z → q ≡ (a && b) → r ≡ (q && c)
-    → r ≡ Fit x y z
-unfolding Fit
-within_chain x y z e1 e2 e3 e4 e5 = rw (← e1, ← e2, ← e3, ← e4) e5
+    module _ (i : Index) (ei : Some i ≡ index_within p.index) where
+      near : (leb (value P.digits) max_index ≡ true) × (index_choice (ltb 0 (length P.digits)) (value P.digits) ≡ i)
+      near = told_some (leb (value P.digits) max_index) (index_choice (ltb 0 (length P.digits)) (value P.digits)) i (ei ∙ index_is)
 
--- ── an entry with one field ──
+      fair_x : Fair P.x
+      unfolding parts_of
+      fair_x = field_fair _
 
--- what the code then tests for 7
-unfoldable pub OneWell : List ℕ → Front → Field → Bool
-OneWell s f x = (f.ok && (x.ok && not x.negative)) && ends is_semi (drop (f.used + x.used) s)
+      fair_y : Fair P.y
+      unfolding parts_of
+      fair_y = field_fair _
 
-pub one_chain : (s : List ℕ) (f : Front) (x : Field) {a g e r : Bool} → a ≡ (x.ok && not x.negative) → g ≡ (f.ok && a)
-    → e ≡ ends is_semi (drop (f.used + x.used) s) → r ≡ (g && e) → r ≡ OneWell s f x
-unfolding OneWell
-one_chain s f x e1 e2 e3 e4 = rw (← e1, ← e2, ← e3) e4
+      fair_z : Fair P.z
+      unfolding parts_of
+      fair_z = field_fair _
 
-module _ (k : ℕ) (s : List ℕ) (f : Front) (x : Field) (ef : f ≡ front_of s) (ex : x ≡ field_of (drop f.used s))
-    (h : get_or s (f.used + x.used) 0 ≡ 44 → ⊥) (bound : f.used + x.used ≤ length s) where
-  one_sum : f.used + x.used + 0 + 0 ≡ f.used + x.used
-  one_sum = omega arith
+      abbrev fit : Bool
+      fit = is_some P.x.size && is_some P.y.size && is_some P.z.size
 
-  one_parted : Parted s f x (not_given 0) (not_given 0)
-  one_parted =
-      let none : not_given 0 ≡ field_of (drop (f.used + x.used) s) = code_absent s (f.used + x.used) refl h in
-      record { front = ef; first = ex; second = none; third = rw (add-zero (f.used + x.used)) none; inside = rw one_sum bound }
+      abbrev glyph : Glyph
+      glyph = record { index = i; advance = advance_choice P.x.given P.x.size; u = offset_by P.y.negative P.y.size; v = offset_by P.z.negative P.z.size }
 
-  one_well : Well s f x (not_given 0) (not_given 0) ≡ OneWell s f x
-  unfolding Well OneWell
-  one_well = rw (one_sum, and-true)
+      glyph_is : glyph_within i p ≡ then_some fit glyph
+      glyph_is =
+          rw (← told.1)
+          (glyph_told i (is_some P.x.size) (is_some P.y.size) (is_some P.z.size) (advance_choice P.x.given P.x.size)
+          (offset_by P.y.negative P.y.size) (offset_by P.z.negative P.z.size) (cut_parts P)
+          (advance_told P.x.given P.x.negative P.x.size fair_x.size)
+          (offset_told P.y.given P.y.negative P.y.size fair_y.size fair_y.negative)
+          (offset_told P.z.given P.z.negative P.z.size fair_z.size fair_z.negative))
 
-  -- 7, 8, 9, or what the entry says
-  pub one_wrong : OneWell s f x ≡ false → Refused (refusal 7 k) ≡ entry_here k s
-  one_wrong w = code_wrong k s f x (not_given 0) (not_given 0) one_parted (one_well ∙ w)
+      -- 9
+      pub code_limits : None ≡ glyph_within i p → O.no 9 k ≡ entry_here k s
+      code_limits e = let l : fit ≡ false = told_none fit glyph (e ∙ glyph_is) in rw (told.0, near.0, l) at said_well
 
-  module _ (w : OneWell s f x ≡ true) where
-    pub one_index : max_index < f.index → Refused (refusal 8 k) ≡ entry_here k s
-    one_index l = code_index k s f x (not_given 0) (not_given 0) one_parted (one_well ∙ w) l
+      rounded_is : rounded_number p.advance + rounded_number p.u + rounded_number p.v ≡ rounded_parts P
+      rounded_is =
+          rw (
+            ← told.1,
+            rounded_told P.x.given P.x.negative P.x.size fair_x.size,
+            rounded_told P.y.given P.y.negative P.y.size fair_y.size,
+            rounded_told P.z.given P.z.negative P.z.size fair_z.size,
+          )
 
-    module _ (l : f.index ≤ max_index) where
-      pub one_limit : number_within x.size ≡ false → Refused (refusal 9 k) ≡ entry_here k s
-      unfolding Fit
-      one_limit n = code_limits k s f x (not_given 0) (not_given 0) one_parted (one_well ∙ w) l (rw n)
-
-      pub one_read : number_within x.size ≡ true → (i : Index) → i ≡ index_choice f.named f.index → (a : Advance)
-          → a ≡ advance_choice x.given x.size → (n : ℕ) → n ≡ rounded_by x.size
-          → Read (record {
-            mapped = f.mapped;
-            units = f.units;
-            glyphs = f.glyphs;
-            glyph = record { index = i; advance = a; u = pos 0; v = pos 0 };
-            used = f.used + x.used;
-            rounded = n;
-          }) ≡ entry_here k s
-      unfolding Fit
-      one_read q i ei a ea n en =
-          rw (← one_sum)
-          (code_read k s f x (not_given 0) (not_given 0) one_parted (one_well ∙ w) l (rw q) i ei a ea (pos 0) (pos 0) refl refl n (omega (arith, en)))
+      pub code_read : (g : Glyph) → Some g ≡ glyph_within i p → (n : ℕ) → n ≡ rounded_number p.advance + rounded_number p.u + rounded_number p.v
+          → O.ok (record { mapped = p.map.mapped; units = p.map.units; glyphs = p.map.glyphs; glyph = g; used = p.used; rounded = n }) ≡ entry_here k s
+      code_read g e n en =
+          let l = told_some fit glyph g (e ∙ glyph_is) in
+          rw (en ∙ rounded_is, ← l.1, ← ap (λ (r : Cut). r.map) told.1, ← used_is, ← near.1) (rw (told.0, near.0, l.0) at said_well)
 
 -- ── an index alone ──
 
@@ -307,33 +432,36 @@ no_comma [] n w h = omega (arith, h)
 no_comma (b ∷ t) zero w h = omega (arith, h, eqb-true b 59 w)
 no_comma (b ∷ t) (suc n) w h = no_comma t n w h
 
+-- the digits d are the whole entry
 index_alone : (t : List ℕ) (d : Digits) → d ≡ digits_from 0 t → d.count ≤ length t → 0 < d.count → d.value ≤ max_index
     → ends is_semi (drop d.count t) ≡ true → IsIndex t d
-unfolding OneWell
 index_alone t d ed bound some l w =
     let n : ℕ = d.count in
-    let z : n + 0 ≡ n = add-zero n in
-    let plain : map_of t ≡ no_map = map_none t (λ h. omega (arith, some, ap (λ (r : Digits). r.count) ed, no_digit t h)) in
-    let f : Front = record { ok = true; used = n; mapped = false; units = 1; glyphs = 1; named = ltb 0 n; index = d.value } in
-    let ef : f ≡ front_of t = rw (zero-add n) at (code_front t (cut_map no_map) (ap cut_map (sym plain)) d ed true true (sym (or-true (ltb 0 n))) refl) in
-    let i : Named d.value ≡ index_choice (ltb 0 n) d.value = ap (λ (b : Bool). index_choice b d.value) (sym (lt-ltb 0 n some)) in (
+    let sum : n + 0 + 0 + 0 ≡ n = omega arith in
+    let comma : get_or t n 0 ≡ 44 → ⊥ = no_comma t n w in
+    let m : Some (record { used = 0; mapped = false; units = 1; glyphs = 1 }) ≡ told_map t =
+    code_none t (λ h. omega (arith, some, ap (λ (r : Digits). r.count) ed, no_digit t h)) in
+    let f : Some (record {
+      map = record { used = 0; mapped = false; units = 1; glyphs = 1 };
+      used = n;
+      index = then_some (ltb 0 n) d.value;
+    }) ≡ front_of t = rw zero-add at (code_front t _ m d ed (rw (or-true (ltb 0 n)))) in
+    let absent : (k : ℕ) → k ≡ n → Some (record { used = 0; number = None }) ≡ told_field (drop k t) = λ k e. rw e (code_absent t n comma) in
+    let p : Some (record {
+      map = record { used = 0; mapped = false; units = 1; glyphs = 1 };
+      index = then_some (ltb 0 n) d.value;
+      advance = None;
+      u = None;
+      v = None;
+      used = n + 0 + 0 + 0;
+    }) ≡ told_parts t =
+    code_parts t _ f _ (absent n refl) refl _ (absent (n + 0) (omega arith)) _ (absent (n + 0 + 0) (omega arith)) true (rw sum (sym w)) in (
       l,
-      λ k. sym (rw z at (one_read k t f (not_given 0) ef (code_absent t n refl (no_comma t n w)) (rw z (no_comma t n w)) (rw z bound) (rw z w) l refl
-          (Named d.value) i Own refl 0 refl)),
+      λ k. sym (rw sum at (code_read k t _ p (rw sum bound) (Named d.value) (rw (lt-ltb 0 n some, le-leb d.value max_index l)) _ refl 0 refl)),
     )
 
--- two flags put together
-pub both_told : {i e r a b : Bool} → i ≡ a → e ≡ b → r ≡ (i && e) → r ≡ (a && b)
-both_told p q h = rw (← p, ← q) h
-
 -- the same of the entry at a place, by the code's test
-pub index_told : (s : List ℕ) (at : ℕ) (d : Digits) → d ≡ digits_from 0 (drop at s) → at + d.count ≤ length s → {r : Bool}
-    → r ≡ ((ltb 0 d.count && leb d.value max_index) && ends is_semi (drop (at + d.count) s)) → r ≡ true → IsIndex (drop at s) d
-index_told s at d ed b e h =
-    let index : Bool = ltb 0 d.count && leb d.value max_index in
-    let end : Bool = ends is_semi (drop (at + d.count) s) in
-    let t : (index && end) ≡ true = sym e ∙ h in
-    let i : index ≡ true = and_l index end t in
-    index_alone (drop at s) d ed (omega (arith, b, length-drop at s)) (ltb-true 0 d.count (and_l (ltb 0 d.count) (leb d.value max_index) i))
-    (leb-true d.value max_index (and_r (ltb 0 d.count) (leb d.value max_index) i))
-    (ap (λ (y : List ℕ). ends is_semi y) (drop-drop d.count at s) ∙ and_r index end t)
+pub index_told : (s : List ℕ) (at : ℕ) (d : Digits) → d ≡ digits_from 0 (drop at s) → at + d.count ≤ length s → 0 < d.count → d.value ≤ max_index
+    → ends is_semi (drop (at + d.count) s) ≡ true → IsIndex (drop at s) d
+index_told s at d ed b some l w =
+    index_alone (drop at s) d ed (omega (arith, b, length-drop at s)) some l (ap (λ (y : List ℕ). ends is_semi y) (drop-drop d.count at s) ∙ w)

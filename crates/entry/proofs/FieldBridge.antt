@@ -14,7 +14,7 @@ use Rattle.label.specs.Entry.{minus, unsigned, is_number, is_advance, is_offset}
 use Rattle.label.proofs.Basics.{and_l, clash}
 use Rattle.label.proofs.Splits.{none}
 use Rattle.number.specs.declared.Thousandths.{Thousandths}
-use Rattle.number.specs.declared.Thousandths.TheVariants.{Of}
+use Rattle.std.proofs.Common.{Option, Some}
 use Rattle.number.specs.Digits.{ends, is_break}
 use Rattle.number.specs.Numbers.{number_of, sign_length}
 use Rattle.number.proofs.NumberBridge.{signed, none_unsigned, sized_as, Numbered, number_is}
@@ -30,8 +30,8 @@ or_right true b h = clash true refl h
 or_right false b h = h
 
 -- the size that a field says
-abbrev pub field_size : List ℕ → Thousandths
-field_size x = cond (empty x) (Of 0 true) (sized_as (unsigned x))
+abbrev pub field_size : List ℕ → Option Thousandths
+field_size x = cond (empty x) (Some (record { count = 0; exact = true })) (sized_as (unsigned x))
 
 pub data Fielded (x r t : List ℕ) : Type 0 where
   good : is_offset x ≡ true → (field_of t).ok ≡ true → drop (field_of t).used t ≡ r → (field_of t).given ≡ not (empty x) → (field_of t).negative ≡ minus x

@@ -6,15 +6,12 @@ use Rattle.label.specs.Outcome.{Outcome, ok, no}
 use Rattle.label.specs.Bytes.{cut}
 use Rattle.label.specs.Entry.{Entry}
 use Rattle.label.specs.Steps.{entry}
-use Rattle.label.specs.Calls.{refusal}
 use Rattle.label.specs.Requests.RoundedCount.{rounded_entry}
 use Rattle.label.specs.declared.Index.TheVariants.{Named}
 use Rattle.label.specs.declared.Advance.TheVariants.{Own}
 use Rattle.number.specs.declared.Digits.{Digits}
 use Rattle.number.specs.Digits.{cap}
 use Rattle.entry.specs.declared.Item.{Item}
-use Rattle.entry.specs.declared.EntryRead.{EntryRead}
-use Rattle.entry.specs.declared.EntryRead.TheVariants.{Read, Refused}
 
 -- an entry of n bytes, with r fields rounded, as the code keeps it
 abbrev pub cut_item : ℕ → ℕ → Entry → Item
@@ -29,12 +26,12 @@ abbrev pub here : List ℕ → List ℕ
 here t = (cut is_semi t).before
 
 -- the answer for an entry of n bytes, with r fields rounded: document 01's number and place for a refusal, and else what the entry says
-abbrev pub entry_read : ℕ → ℕ → Outcome Entry → EntryRead
-entry_read n r (ok e) = Read (cut_item n r e)
-entry_read n r (no i p) = Refused (refusal i p)
+abbrev pub entry_read : ℕ → ℕ → Outcome Entry → Outcome Item
+entry_read n r (ok e) = ok (cut_item n r e)
+entry_read n r (no i p) = no i p
 
 -- the same for the entry that a list begins with, entry number k
-abbrev pub entry_here : ℕ → List ℕ → EntryRead
+abbrev pub entry_here : ℕ → List ℕ → Outcome Item
 entry_here k t = entry_read (length (here t)) (rounded_entry (here t)) (entry k (here t))
 
 -- what the digits d alone say
@@ -51,4 +48,4 @@ index_item d =
 
 -- the entry in front, whatever its number, is read as the digits d alone
 abbrev pub IsIndex : List ℕ → Digits → Type 0
-IsIndex t d = (d.value ≤ max_index) × ((k : ℕ) → entry_here k t ≡ Read (index_item d))
+IsIndex t d = (d.value ≤ max_index) × ((k : ℕ) → entry_here k t ≡ ok (index_item d))

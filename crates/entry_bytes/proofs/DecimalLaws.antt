@@ -1,5 +1,4 @@
--- Laws of a number's decimal digits: one digit, the last digit behind those of the tenth, at most ten in 32 bits; `enough`, that more fuel gives the same
--- digits, carries the step.
+-- Laws of a number's decimal digits: one digit, and the last digit behind those of the tenth; `enough`, that more fuel gives the same digits, carries it.
 -- Assumes nothing.
 use mathlib.Core.Path.{◌≡◌, sym, ap, ◌∙◌}
 use mathlib.Core.List.{List, [], ◌∷◌, ◌++◌}
@@ -7,10 +6,9 @@ use Prim.Native.Nat.{ℕ, zero, suc, ◌+◌, ◌/◌, ◌%◌, ◌<◌, ◌≤�
 use native.Mathlib.Omega.{arith}
 use borrow.Author.Tests.{ltb-true, ltb-false}
 use lib.Dec.{ltb}
-use lib.ListN.{length}
 use Rattle.label.specs.Bytes.{decimal_from, decimal}
 use Rattle.label.proofs.Basics.{cases}
-use Rattle.label.proofs.Decimals.{dec_small, dec_big, length_decimal}
+use Rattle.label.proofs.Decimals.{dec_small, dec_big}
 
 enough : (f e n : ℕ) → n < f → n < e → decimal_from f n ≡ decimal_from e n
 enough zero e n h k = absurd (omega arith)
@@ -29,6 +27,3 @@ decimal_small n h = sym (dec_small n n h)
 pub decimal_step : (n : ℕ) → 10 ≤ n → decimal (n / 10) ++ ((48 + n % 10) ∷ []) ≡ decimal n
 unfolding decimal
 decimal_step n h = sym (dec_big n n h ∙ ap (λ (l : List ℕ). l ++ ((48 + n % 10) ∷ [])) (enough n (suc (n / 10)) (n / 10) (omega arith) (omega arith)))
-
-pub decimal_short : (n : ℕ) → n < 4294967296 → length (decimal n) ≤ 10
-decimal_short n h = length_decimal n 9 (omega arith)

@@ -1,23 +1,24 @@
--- One law for each return of the code that writes an entry; most unfold the writing and rewrite by the code's test, the blank fields go by `trim_empty` and the
--- offset's and advance's emptiness.
+-- One law for each return of the code that writes an entry: the digits of a value, a field by the sign of its number, and the fields behind the index, of
+-- which the empty ones at the end drop.
 -- Assumes nothing.
 use mathlib.Core.Path.{◌≡◌, refl, sym, ap, ◌∙◌}
-use mathlib.Core.Bool.{Bool, true, false, cond, not, ◌&&◌, and-true}
+use mathlib.Core.Bool.{false, cond, ◌&&◌, and-false}
 use mathlib.Core.List.{List, [], ◌∷◌, ◌++◌, append-nil}
-use Prim.Native.Nat.{ℕ, ◌+◌, ◌/◌, ◌%◌}
+use Prim.Native.Nat.{ℕ, ◌+◌, ◌/◌, ◌%◌, ◌≤◌}
+use native.Mathlib.Omega.{arith}
 use borrow.Author.Tests.{eq-eqb, ne_eqb}
 use lib.Dec.{leb, eqb}
-use lib.IntN.{ℤ, pos, negsuc}
+use Rattle.std.proofs.Common.{ℤ, pos, negsuc, ◌<ℤ◌, ◌≤ℤ◌, nat_abs}
 use Rattle.label.specs.Bytes.{empty, join_rest, join, trim, decimal}
-use Rattle.label.specs.Sound.{natural, number_index, number_advance, size}
+use Rattle.label.specs.Sound.{number_index, number_advance}
 use Rattle.label.specs.Write.{fraction, value_bytes, advance_by, offset_by, map_bytes, index_bytes, entry_by}
-use Rattle.label.proofs.Basics.{clash}
-use Rattle.label.proofs.Splits.{empty_nil, trim_empty}
+use Rattle.std.proofs.lemmas.Int.{ints}
+use Rattle.std.proofs.lemmas.Bool.Decides.{nat_tests}
+use Rattle.label.proofs.Splits.{trim_empty}
 use Rattle.label.proofs.Values.{normal_writer}
-use Rattle.label.proofs.Outputs.{advance_empty, offset_empty}
-use Rattle.wire.specs.Numbers.{glyph_of}
-use Rattle.wire.proofs.Tests.{given_is}
-use Rattle.entry_bytes.specs.Fields.{parts_v, parts_uv, parts_auv, fields}
+use Rattle.wire.specs.declared.GlyphNumbers.{GlyphNumbers}
+use Rattle.wire.specs.Numbers.{as_glyph}
+use Rattle.entry_bytes.specs.Fields.{fields}
 
 -- ── values ──
 
@@ -34,13 +35,6 @@ module _ (f : ℕ) where
   unfolding fraction
   frac_three n h = rw (ne_eqb (f % 100) 0 n, ne_eqb (f % 10) 0 h)
 
--- what a test chooses
-pub choose_true : {A : Type 0} (t : Bool) (a b : A) → t ≡ true → a ≡ cond t a b
-choose_true t a b e = rw e
-
-pub choose_false : {A : Type 0} (t : Bool) (a b : A) → t ≡ false → b ≡ cond t a b
-choose_false t a b e = rw e
-
 module _ (n : ℕ) where
   pub value_whole : n % 1000 ≡ 0 → decimal (n / 1000) ≡ value_bytes n
   unfolding value_bytes
@@ -50,107 +44,100 @@ module _ (n : ℕ) where
   unfolding value_bytes
   value_point h = rw (ne_eqb (n % 1000) 0 h)
 
-module _ (z : ℤ) {n : ℕ} (e : n ≡ size z) where
-  pub offset_none : n ≡ 0 → [] ≡ offset_by value_bytes z
-  offset_none h = sym (empty_nil (offset_by value_bytes z) (offset_empty normal_writer z ∙ eq-eqb (size z) 0 (sym e ∙ h)))
+-- ── a field by the sign of its number ──
 
-  module _ (h : n ≡ 0 → ⊥) {b : Bool} (f : b ≡ natural z) where
-    pub offset_plus : b ≡ true → value_bytes n ≡ offset_by value_bytes z
-    unfolding offset_by
-    offset_plus k = by z e (sym f ∙ k)
-      where
-        by : (y : ℤ) → n ≡ size y → natural y ≡ true → value_bytes n ≡ offset_by value_bytes y
-        by (pos m) d t = rw (d, ne_eqb m 0 (λ z. h (d ∙ z)))
-        by (negsuc m) d t = clash false t refl
+pub offset_plus : (z : ℤ) {n : ℕ} → n ≡ nat_abs z → (z ≡ pos 0 → ⊥) → pos 0 ≤ℤ z → value_bytes n ≡ offset_by value_bytes z
+unfolding offset_by
+offset_plus (pos m) e h s = rw (e, ne_eqb m 0 (λ z. h (ap pos z)))
+offset_plus (negsuc m) e h s = absurd (omega (arith, ints))
 
-    pub offset_minus : b ≡ false → (45 ∷ []) ++ value_bytes n ≡ offset_by value_bytes z
-    unfolding offset_by
-    offset_minus k = by z e (sym f ∙ k)
-      where
-        by : (y : ℤ) → n ≡ size y → natural y ≡ false → (45 ∷ []) ++ value_bytes n ≡ offset_by value_bytes y
-        by (pos m) d t = clash true refl t
-        by (negsuc m) d t = rw d
+pub offset_minus : (z : ℤ) {n : ℕ} → n ≡ nat_abs z → z <ℤ pos 0 → (45 ∷ []) ++ value_bytes n ≡ offset_by value_bytes z
+unfolding offset_by
+offset_minus (pos m) e s = absurd (omega (arith, ints))
+offset_minus (negsuc m) e s = rw e
 
--- what `w` writes of a number from 0 on, and nothing of one below 0
-abbrev chosen : (ℕ → List ℕ) → ℤ → List ℕ
-chosen w (pos n) = w n
-chosen w (negsuc n) = []
-
-module _ {w : ℕ → List ℕ} {g : ℤ → List ℕ} (is : (z : ℤ) → chosen w z ≡ g z) where
-  -- where g writes as `chosen` does, by the sign
-  pub chosen_some : (z : ℤ) {b : Bool} {n : ℕ} → b ≡ natural z → n ≡ size z → b ≡ true → w n ≡ g z
-  chosen_some (pos m) f d k = ap w d ∙ is (pos m)
-  chosen_some (negsuc m) {b} f d k = clash b k f
-
-  pub chosen_none : (z : ℤ) {b : Bool} → b ≡ natural z → b ≡ false → [] ≡ g z
-  chosen_none (pos m) {b} f k = clash b f k
-  chosen_none (negsuc m) f k = is (negsuc m)
-
-pub advance_is : (z : ℤ) → chosen value_bytes z ≡ advance_by value_bytes (number_advance z)
-unfolding advance_by
-advance_is (pos n) = refl
-advance_is (negsuc n) = refl
-
-pub index_is : (a b : ℕ) (z : ℤ) → chosen (λ n. map_bytes a b ++ decimal n) z ≡ index_bytes a b (number_index z)
+pub index_some : (a b : ℕ) (z : ℤ) {n : ℕ} → n ≡ nat_abs z → pos 0 ≤ℤ z → map_bytes a b ++ decimal n ≡ index_bytes a b (number_index z)
 unfolding index_bytes
-index_is a b (pos n) = refl
-index_is a b (negsuc n) = refl
+index_some a b (pos m) e s = rw e
+index_some a b (negsuc m) e s = absurd (omega (arith, ints))
 
--- ── an entry ──
+pub map_some : (a b : ℕ) → (a ≤ 1 → b ≡ 1 → ⊥)
+    → (40 ∷ []) ++ ((decimal a ++ cond (eqb b 1) [] (58 ∷ decimal b)) ++ (41 ∷ [])) ≡ map_bytes a b
+unfolding map_bytes
+map_some a b h = rw (both_false a b h)
+  where
+    both_false : (a b : ℕ) → (a ≤ 1 → b ≡ 1 → ⊥) → (leb a 1 && eqb b 1) ≡ false
+    both_false a b h = grind (arith, nat_tests)
 
-module _ (a b : ℕ) {t : Bool} (e : t ≡ (leb a 1 && eqb b 1)) where
-  pub map_none : t ≡ true → [] ≡ map_bytes a b
-  unfolding map_bytes
-  map_none k = rw (← e, k)
+-- ── the fields behind the index ──
 
-  pub map_some : t ≡ false → (40 ∷ []) ++ ((decimal a ++ cond (eqb b 1) [] (58 ∷ decimal b)) ++ (41 ∷ [])) ≡ map_bytes a b
-  unfolding map_bytes
-  map_some k = rw (← e, k)
+advance_none : (z : ℤ) → z <ℤ pos 0 → advance_by value_bytes (number_advance z) ≡ []
+unfolding advance_by
+advance_none (pos m) h = absurd (omega (arith, ints))
+advance_none (negsuc m) h = refl
 
-pub blank_v_is : (v : ℤ) {n : ℕ} → n ≡ size v → eqb n 0 ≡ empty (trim (parts_v v))
-unfolding parts_v trim
-blank_v_is v e = rw e (sym (trim_empty (offset_by value_bytes v) [] ∙ and-true (empty (offset_by value_bytes v)) ∙ offset_empty normal_writer v))
+advance_full : (z : ℤ) → pos 0 ≤ℤ z → empty (advance_by value_bytes (number_advance z)) ≡ false
+unfolding advance_by
+advance_full (pos m) h = normal_writer.full m
+advance_full (negsuc m) h = absurd (omega (arith, ints))
 
-pub blank_uv_is : (u v : ℤ) {n : ℕ} {b r : Bool} → n ≡ size u → b ≡ empty (trim (parts_v v)) → r ≡ (eqb n 0 && b) → r ≡ empty (trim (parts_uv u v))
-unfolding parts_uv
-blank_uv_is u v e f g = g ∙ rw (e, f) (sym (trim_empty (offset_by value_bytes u) (parts_v v) ∙ rw (offset_empty normal_writer u)))
+offset_full : (z : ℤ) → (z ≡ pos 0 → ⊥) → empty (offset_by value_bytes z) ≡ false
+unfolding offset_by
+offset_full (pos m) h = rw (ne_eqb m 0 (λ e. h (ap pos e))) (normal_writer.full m)
+offset_full (negsuc m) h = refl
 
-pub blank_auv_is : (a u v : ℤ) {n b r : Bool} → n ≡ natural a → b ≡ empty (trim (parts_uv u v)) → r ≡ (not n && b) → r ≡ empty (trim (parts_auv a u v))
-unfolding parts_auv
-blank_auv_is a u v e f g =
-    let d = number_advance a in
-    g ∙ rw (e, f) (sym (trim_empty (advance_by value_bytes d) (parts_uv u v) ∙ rw (advance_empty normal_writer d, given_is a)))
+-- the fields of a list, without the empty ones at its end, each behind a comma
+abbrev behind : List (List ℕ) → List ℕ
+behind l = join_rest 44 (trim l)
 
--- nothing from a field on, or a comma, the field and what follows
-pub fields_blank : (l : List (List ℕ)) {b : Bool} → b ≡ empty (trim l) → b ≡ true → [] ≡ fields l
-unfolding fields join_rest
-fields_blank l e k = rw (empty_nil (trim l) (sym e ∙ k))
+-- a field, where it or one after it is not empty
+behind_more : (x : List ℕ) (l : List (List ℕ)) → (empty x && empty (trim l)) ≡ false → behind (x ∷ l) ≡ 44 ∷ (x ++ behind l)
+unfolding trim join_rest
+behind_more x l h = rw h
 
-pub fields_more : (x : List ℕ) (l : List (List ℕ)) {b : Bool} → b ≡ empty (trim (x ∷ l)) → b ≡ false → (44 ∷ []) ++ (x ++ fields l) ≡ fields (x ∷ l)
-unfolding fields join_rest trim
-fields_more x l e k = rw (sym (trim_empty x l) ∙ sym e ∙ k)
+module _ (a u v : ℤ) where
+  abbrev A : List ℕ
+  A = advance_by value_bytes (number_advance a)
 
-pub fields_v : (v : ℤ) {b : Bool} → b ≡ empty (trim (parts_v v)) → b ≡ false → (44 ∷ []) ++ offset_by value_bytes v ≡ fields (parts_v v)
-unfolding parts_v fields join_rest trim
-fields_v v e k = ap (λ (w : List ℕ). 44 ∷ w) (sym (append-nil (offset_by value_bytes v))) ∙ fields_more (offset_by value_bytes v) [] e k
+  abbrev U : List ℕ
+  U = offset_by value_bytes u
 
-pub fields_uv : (u v : ℤ) {b : Bool} → b ≡ empty (trim (parts_uv u v)) → b ≡ false
-    → (44 ∷ []) ++ (offset_by value_bytes u ++ fields (parts_v v)) ≡ fields (parts_uv u v)
-unfolding parts_uv
-fields_uv u v e k = fields_more (offset_by value_bytes u) (parts_v v) e k
+  abbrev V : List ℕ
+  V = offset_by value_bytes v
 
-pub fields_auv : (a u v : ℤ) {b : Bool} → b ≡ empty (trim (parts_auv a u v)) → b ≡ false
-    → (44 ∷ []) ++ (advance_by value_bytes (number_advance a) ++ fields (parts_uv u v)) ≡ fields (parts_auv a u v)
-unfolding parts_auv
-fields_auv a u v e k = fields_more (advance_by value_bytes (number_advance a)) (parts_uv u v) e k
+  pub fields_none : a <ℤ pos 0 → u ≡ pos 0 → v ≡ pos 0 → [] ≡ fields a u v
+  unfolding fields trim join_rest offset_by
+  fields_none h e f = rw (e, f, advance_none a h)
 
-join_cond : (c : ℕ) (x : List ℕ) (l : List (List ℕ)) → join c (cond (empty x && empty l) [] (x ∷ l)) ≡ x ++ join_rest c l
-unfolding join join_rest
-join_cond c [] [] = refl
-join_cond c [] (y ∷ l) = refl
-join_cond c (x ∷ xs) l = refl
+  pub fields_one : pos 0 ≤ℤ a → u ≡ pos 0 → v ≡ pos 0 → (44 ∷ []) ++ A ≡ fields a u v
+  unfolding fields trim join_rest offset_by
+  fields_one h e f = rw (e, f) (sym (behind_more A ([] ∷ [] ∷ []) (rw (advance_full a h)) ∙ ap (λ l. 44 ∷ l) (append-nil A)))
+
+  pub fields_two : (u ≡ pos 0 → ⊥) → v ≡ pos 0 → (44 ∷ []) ++ (A ++ ((44 ∷ []) ++ U)) ≡ fields a u v
+  unfolding fields trim join_rest offset_by
+  fields_two h f =
+      rw f
+      (sym (behind_more A (U ∷ [] ∷ []) (rw (trim_empty U ([] ∷ []), offset_full u h) (and-false (empty A)))
+      ∙ ap (λ l. 44 ∷ (A ++ l)) (behind_more U ([] ∷ []) (rw (offset_full u h)) ∙ ap (λ l. 44 ∷ l) (append-nil U))))
+
+  pub fields_three : (v ≡ pos 0 → ⊥) → (44 ∷ []) ++ (A ++ ((44 ∷ []) ++ (U ++ ((44 ∷ []) ++ V)))) ≡ fields a u v
+  unfolding fields trim join_rest
+  fields_three h =
+      let t : empty (trim (V ∷ [])) ≡ false = trim_empty V [] ∙ rw (offset_full v h) in
+      let s : empty (trim (U ∷ V ∷ [])) ≡ false = trim_empty U (V ∷ []) ∙ rw t (and-false (empty U)) in
+      sym (behind_more A (U ∷ V ∷ []) (rw s (and-false (empty A)))
+      ∙ ap (λ l. 44 ∷ (A ++ l)) (behind_more U (V ∷ []) (rw t (and-false (empty U)))
+      ∙ ap (λ l. 44 ∷ (U ++ l)) (behind_more V [] (rw (offset_full v h)) ∙ ap (λ l. 44 ∷ l) (append-nil V))))
 
 -- the index, then the fields
-pub entry_is : (a b : ℕ) (i d u v : ℤ) → index_bytes a b (number_index i) ++ fields (parts_auv d u v) ≡ entry_by value_bytes a b (glyph_of i d u v)
-unfolding entry_by glyph_of fields parts_auv parts_uv parts_v trim
-entry_is a b i d u v = sym (join_cond 44 (index_bytes a b (number_index i)) (trim (parts_auv d u v)))
+joined_first : (x : List ℕ) (l : List (List ℕ)) → x ++ join_rest 44 l ≡ join 44 (cond (empty x && empty l) [] (x ∷ l))
+unfolding join join_rest
+joined_first [] [] = refl
+joined_first [] (y ∷ l) = refl
+joined_first (b ∷ x) l = refl
+
+pub entry_is : (a b : ℕ) (g : GlyphNumbers) → index_bytes a b (number_index g.index) ++ fields g.advance g.u g.v ≡ entry_by value_bytes a b (as_glyph g)
+unfolding entry_by fields trim
+entry_is a b g =
+    joined_first (index_bytes a b (number_index g.index))
+    (trim (advance_by value_bytes (number_advance g.advance) ∷ offset_by value_bytes g.u ∷ offset_by value_bytes g.v ∷ []))

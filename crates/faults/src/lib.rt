@@ -6,69 +6,79 @@ ghost use Rattle.label.specs.Fault.{of_text, of_entry, portion, fault_part, part
 ghost use Rattle.entry.specs.Items.{here};
 ghost use Rattle.faults.specs.Faults.{entry_shown};
 
+use label::{Part, Source};
+
 // Where the entry that starts at `place` ends: at a `;` or at the end.
-fn entry_end(s: &[u8], place: usize) -> usize
-    requires { place ≤ length s.now }
-    ensures value { result ≡ place + length (here (drop place s.now)) }
-    ensures bounds { (place ≤ result) × (result ≤ length s.now) }
+fn entry_end(indices: &[u8], place: usize) -> usize
+    requires { place ≤ length indices.now }
+    ensures value { result ≡ place + length (here (drop place indices.now)) }
+    ensures bounds { (place ≤ result) × (result ≤ length indices.now) }
 {
-    octets::find_byte(s, place, 0x3b)
+    octets::find_byte(indices, place, b';')
 }
 
 // A part that starts at `start` and ends at `end`.
-fn part_of(in_indices: bool, start: usize, end: usize) -> label::Part
+fn part_of(source: Source, start: usize, end: usize) -> Part
     requires { start ≤ end }
-    ensures { result ≡ portion in_indices start (end - start) }
+    ensures { result ≡ portion source start (end - start) }
 {
-    label::Part {
-        in_indices,
+    Part {
+        source,
         start,
         length: end - start,
     }
 }
 
-// Entry k of the indices, or the empty start of the text where there is none.
-fn find_entry(s: &[u8], k: usize) -> label::Part
-    ensures { result ≡ entry_shown s.now k }
+// The empty start of the text, for what is nowhere.
+fn nowhere() -> Part
+    ensures { result ≡ portion Source.Text 0 0 }
 {
-    let mut place = survey::first_place(s);
-    let mut rest = k;
-    while place <= s.len() {
-        let end = entry_end(s, place);
-        if rest == 0 {
-            return part_of(true, place, end);
+    part_of(Source::Text, 0, 0)
+}
+
+// Entry k of the indices, or the empty start of the text where there is none.
+fn find_entry(indices: &[u8], k: usize) -> Part
+    ensures { result ≡ entry_shown indices.now k }
+{
+    let mut place = survey::first_place(indices);
+    for _ in 0..k {
+        if indices.len() < place {
+            return nowhere();
         }
-        place = end + 1;
-        rest -= 1;
+        place = entry_end(indices, place) + 1;
     }
-    part_of(false, 0, 0)
+    if indices.len() < place {
+        return nowhere();
+    }
+    part_of(Source::Indices, place, entry_end(indices, place))
 }
 
 // The place of a refusal with this number is a byte of the text.
 fn is_of_text(number: u32) -> bool
     ensures { result ≡ of_text number }
 {
-    plain::both(2 <= number, number <= 4)
+    matches!(number, 2..=4)
 }
 
 // It is an entry.
 fn is_of_entry(number: u32) -> bool
     ensures { result ≡ of_entry number }
 {
-    plain::either(plain::both(7 <= number, number <= 12), number == 14)
+    matches!(number, 7..=12 | 14)
 }
 
-// The part of the label that a refusal speaks of.
-pub fn find_part(text: &[u8], indices: &[u8], number: u32, place: usize) -> label::Part
+// The part of the label that a refusal speaks of. A caller in C may hand over any number, so it is no `Cause`.
+#[tactic(auto, unfolding(label::specs::Fault::fault_part, crate::specs::Faults::entry_shown))]
+pub fn find_part(text: &[u8], indices: &[u8], number: u32, place: usize) -> Part
     ensures { result ≡ fault_part text.now indices.now number place }
 {
-    if plain::both(is_of_text(number), place < text.len()) {
-        return part_of(false, place, text.len());
+    if is_of_text(number) && place < text.len() {
+        part_of(Source::Text, place, text.len())
+    } else if is_of_entry(number) {
+        find_entry(indices, place)
+    } else {
+        nowhere()
     }
-    if is_of_entry(number) {
-        return find_entry(indices, place);
-    }
-    part_of(false, 0, 0)
 }
 
 // Its bytes: the caller's own.
@@ -77,10 +87,9 @@ pub fn fault<'a>(text: &'a [u8], indices: &'a [u8], number: u32, place: usize) -
     ensures own { result.ref_ptr ≡ part_ptr text.entry.ref_ptr indices.entry.ref_ptr (fault_part text.now indices.now number place) }
 {
     let part = find_part(text, indices, number, place);
-    let start = part.start;
-    let end = start + part.length;
-    if part.in_indices {
-        return &indices[start..end];
+    let end = part.start + part.length;
+    match part.source {
+        Source::Text => &text[part.start..end],
+        Source::Indices => &indices[part.start..end],
     }
-    &text[start..end]
 }

@@ -1,6 +1,7 @@
 -- The answers for C: number 0 and the values, or a refusal's number and place with the other fields 0.
 -- Assumes nothing.
-use Rattle.std.specs.Prelude.{ℕ, cond}
+use Rattle.std.specs.Prelude.{ℕ}
+use Rattle.label.specs.Fault.{of_source}
 use Rattle.label.specs.Outcome.{Outcome, ok, no}
 use Rattle.label.specs.declared.Counts.{Counts}
 use Rattle.label.specs.declared.Lengths.{Lengths}
@@ -38,4 +39,4 @@ stretch_answer (no n p) = record { number = n; place = p; first = 0; end = 0 }
 
 -- a part of the text (0) or of the indices (1)
 abbrev pub part_answer : Part → GlyphLabelPart
-part_answer x = record { in_indices = cond x.in_indices 1 0; start = x.start; length = x.length }
+part_answer x = record { in_indices = of_source 0 1 x.source; start = x.start; length = x.length }

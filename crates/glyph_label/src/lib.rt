@@ -5,10 +5,13 @@ ghost use Rattle.label.specs.Places.{places};
 ghost use Rattle.label.specs.Pick.{pick_glyphs, pick_units};
 ghost use Rattle.std.specs.Prelude.{◌≡◌, true, false};
 ghost use Rattle.label.specs.Fault.{fault_part};
-ghost use Rattle.label.specs.Calls.{reading_outcome, reading_rounded, writing_outcome, pick_outcome, filling_outcome};
+ghost use Rattle.label.specs.Calls.{reading_outcome, reading_rounded, outcome_of};
 ghost use Rattle.glyph_label.specs.CallContracts.{ReadCall, WriteCall, ResolveCall, SheetCall};
 ghost use Rattle.glyph_label.specs.Answers.{version, reading_answer, writing_answer, filled_answer, stretch_answer, part_answer};
-ghost use Rattle.glyph_label.specs.Fits.{Small32, ReadingFits, WritingFits, StretchFits, FilledFits};
+ghost use Rattle.glyph_label.specs.Fits.{Small32, ReadingFits, WritingFits, StretchFits};
+
+use label::{Lengths, Part, Reading, Refusal, Source, Stretch};
+use wire::Run;
 
 // ── answers ──
 
@@ -63,21 +66,21 @@ pub struct GlyphLabelPart {
     pub length: usize,
 }
 
-fn reading_answer(r: label::Reading) -> GlyphLabelReading
+fn reading_answer(r: Result<Reading, Refusal>) -> GlyphLabelReading
     requires { ReadingFits (reading_outcome r) × Small32 (reading_rounded r) }
     ensures { result ≡ reading_answer (reading_outcome r) (reading_rounded r) }
 {
     match r {
-        label::Reading::Read { counts, rounded } => GlyphLabelReading {
+        Ok(r) => GlyphLabelReading {
             number: 0,
             place: 0,
-            units: counts.units as u32,
-            clusters: counts.clusters as u32,
-            glyphs: counts.glyphs as u32,
-            rounded: rounded as u32,
+            units: r.counts.units as u32,
+            clusters: r.counts.clusters as u32,
+            glyphs: r.counts.glyphs as u32,
+            rounded: r.rounded as u32,
         },
-        label::Reading::Refused(x) => GlyphLabelReading {
-            number: x.number as u32,
+        Err(x) => GlyphLabelReading {
+            number: x.cause.number(),
             place: x.place as u32,
             units: 0,
             clusters: 0,
@@ -87,19 +90,19 @@ fn reading_answer(r: label::Reading) -> GlyphLabelReading
     }
 }
 
-fn writing_answer(r: label::Writing) -> GlyphLabelWriting
-    requires { WritingFits (writing_outcome r) }
-    ensures { result ≡ writing_answer (writing_outcome r) }
+fn writing_answer(r: Result<Lengths, Refusal>) -> GlyphLabelWriting
+    requires { WritingFits (outcome_of r) }
+    ensures { result ≡ writing_answer (outcome_of r) }
 {
     match r {
-        label::Writing::Written(n) => GlyphLabelWriting {
+        Ok(n) => GlyphLabelWriting {
             number: 0,
             place: 0,
             text: n.text as u32,
             indices: n.indices as u32,
         },
-        label::Writing::Refused(x) => GlyphLabelWriting {
-            number: x.number as u32,
+        Err(x) => GlyphLabelWriting {
+            number: x.cause.number(),
             place: x.place as u32,
             text: 0,
             indices: 0,
@@ -107,37 +110,36 @@ fn writing_answer(r: label::Writing) -> GlyphLabelWriting
     }
 }
 
-fn filled_answer(r: label::Filling) -> GlyphLabelFilled
-    requires { FilledFits (filling_outcome r) }
-    ensures { result ≡ filled_answer (filling_outcome r) }
+fn filled_answer(r: Result<usize, Refusal>) -> GlyphLabelFilled
+    ensures { result ≡ filled_answer (outcome_of r) }
 {
     match r {
-        label::Filling::Filled(n) => GlyphLabelFilled {
+        Ok(n) => GlyphLabelFilled {
             number: 0,
             place: 0,
             filled: n,
         },
-        label::Filling::Refused(x) => GlyphLabelFilled {
-            number: x.number as u32,
+        Err(x) => GlyphLabelFilled {
+            number: x.cause.number(),
             place: x.place,
             filled: 0,
         },
     }
 }
 
-fn stretch_answer(r: label::Pick) -> GlyphLabelStretch
-    requires { StretchFits (pick_outcome r) }
-    ensures { result ≡ stretch_answer (pick_outcome r) }
+fn stretch_answer(r: Result<Stretch, Refusal>) -> GlyphLabelStretch
+    requires { StretchFits (outcome_of r) }
+    ensures { result ≡ stretch_answer (outcome_of r) }
 {
     match r {
-        label::Pick::Picked(s) => GlyphLabelStretch {
+        Ok(s) => GlyphLabelStretch {
             number: 0,
             place: 0,
             first: s.first as u32,
             end: s.end as u32,
         },
-        label::Pick::Refused(x) => GlyphLabelStretch {
-            number: x.number as u32,
+        Err(x) => GlyphLabelStretch {
+            number: x.cause.number(),
             place: x.place as u32,
             first: 0,
             end: 0,
@@ -145,20 +147,18 @@ fn stretch_answer(r: label::Pick) -> GlyphLabelStretch
     }
 }
 
-fn part_answer(x: label::Part) -> GlyphLabelPart
-    ensures { result ≡ part_answer x }
-{
-    if x.in_indices {
-        return GlyphLabelPart {
-            in_indices: 1,
+impl From<Part> for GlyphLabelPart {
+    ghost from_gives = { λ x r. r ≡ part_answer x };
+
+    fn from(x: Part) -> GlyphLabelPart {
+        GlyphLabelPart {
+            in_indices: match x.source {
+                Source::Text => 0,
+                Source::Indices => 1,
+            },
             start: x.start,
             length: x.length,
-        };
-    }
-    GlyphLabelPart {
-        in_indices: 0,
-        start: x.start,
-        length: x.length,
+        }
     }
 }
 
@@ -199,7 +199,12 @@ pub extern "C" fn glyph_label_write(
     ensures { WriteCall false (places units.now clusters.now glyphs.now) text.old indices.old result
         text.new indices.new }
 {
-    writing_answer(writer::write_as(false, units, clusters, glyphs, text, indices))
+    let run = Run {
+        units,
+        clusters,
+        glyphs,
+    };
+    writing_answer(writer::write_as(false, run, text, indices))
 }
 
 // The same with `&`, `<`, `"`, tab, line feed and carriage return of the text as references, counted in 20.
@@ -214,7 +219,12 @@ pub extern "C" fn glyph_label_write_escaped(
     ensures { WriteCall true (places units.now clusters.now glyphs.now) text.old indices.old result
         text.new indices.new }
 {
-    writing_answer(writer::write_as(true, units, clusters, glyphs, text, indices))
+    let run = Run {
+        units,
+        clusters,
+        glyphs,
+    };
+    writing_answer(writer::write_as(true, run, text, indices))
 }
 
 // The code units of all clusters touched by glyphs `first` up to and without `end`.
@@ -228,7 +238,12 @@ pub extern "C" fn glyph_label_units_of(
 ) -> GlyphLabelStretch
     ensures { result ≡ stretch_answer (pick_units (places units.now clusters.now glyphs.now) first end) }
 {
-    stretch_answer(picks::units_of(units, clusters, glyphs, first, end))
+    let run = Run {
+        units,
+        clusters,
+        glyphs,
+    };
+    stretch_answer(picks::units_of(run, first, end))
 }
 
 // The glyphs of all clusters touched by code units `first` up to and without `end`.
@@ -242,7 +257,12 @@ pub extern "C" fn glyph_label_glyphs_of(
 ) -> GlyphLabelStretch
     ensures { result ≡ stretch_answer (pick_glyphs (places units.now clusters.now glyphs.now) first end) }
 {
-    stretch_answer(picks::glyphs_of(units, clusters, glyphs, first, end))
+    let run = Run {
+        units,
+        clusters,
+        glyphs,
+    };
+    stretch_answer(picks::glyphs_of(run, first, end))
 }
 
 // One raw attribute value resolved into `out`, where neither 23 nor 24 holds.
@@ -271,5 +291,5 @@ pub extern "C" fn glyph_label_fault(
 ) -> GlyphLabelPart
     ensures { result ≡ part_answer (fault_part text.now indices.now number place) }
 {
-    part_answer(faults::find_part(text, indices, number, place))
+    GlyphLabelPart::from(faults::find_part(text, indices, number, place))
 }

@@ -1,2 +1,4 @@
+pub mod Cuts
+pub mod Printing
 pub mod Relabels
 pub mod Standing

@@ -1,37 +1,14 @@
 -- What the programs print of a label: its counts and the lengths of its two normal lines, or the refusal.
 -- Assumes nothing.
 use Rattle.label.specs.Places.{places}
-use Rattle.std.specs.Prelude.{ℕ, ◌+◌, ◌*◌, cond, ltb, List, length, take, drop}
+use Rattle.std.specs.Prelude.{ℕ, ◌*◌, List, length, take}
 use Rattle.label.specs.Outcome.{Outcome, ok, no}
-use Rattle.label.specs.Relabel.{line}
 use Rattle.label.specs.Run.{Run}
 use Rattle.label.specs.Write.{Label, normal}
 use Rattle.label.specs.Calls.{counts, buffer_after, write_into}
 use Rattle.label.specs.declared.Counts.{Counts}
 use Rattle.label.specs.declared.Lengths.{Lengths}
-use Rattle.lines.specs.declared.TwoLines.{TwoLines}
 use Rattle.lines.specs.declared.Relabelled.{Relabelled}
-use Rattle.lines.specs.declared.Relabelling.{Relabelling}
-use Rattle.lines.specs.declared.Relabelling.TheVariants.{Ok, No}
-
--- where the line that starts at a place ends, and where the next one starts: "A line feed ends a line and is no part of it; a missing line is empty"
-unfoldable pub line_end : List ℕ → ℕ → ℕ
-line_end s from = from + length (line (drop from s)).before
-
-unfoldable pub line_behind : List ℕ → ℕ → ℕ
-line_behind s end = cond (ltb end (length s)) (end + 1) end
-
-unfoldable pub two_lines : List ℕ → ℕ → TwoLines
-two_lines s at =
-    let e = line_end s at in
-    let b = line_behind s e in
-    let f = line_end s b in
-    record { text_end = e; start = b; end = f; next = line_behind s f }
-
--- document 01's number, place and values for each case of the answer
-abbrev pub relabel_outcome : Relabelling → Outcome Relabelled
-relabel_outcome (Ok x) = ok x
-relabel_outcome (No x) = no x.number x.place
 
 -- "`ok`, units, clusters, glyphs, then both normal lines"
 abbrev pub shown : Run → Relabelled

@@ -1,81 +1,48 @@
 // Lists the glyphs of three runs in four records, and prints each answer and the records after it.
 #![tactic(auto)]
 
-use label::{Advance, Filling, Glyph, Index};
+use label::{Advance, Glyph, Index};
+use std::fmt;
 use std::io;
 use std::io::Write;
+use wire::Run;
 
-fn print_index<W: Write>(out: &mut W, index: Index) -> io::Result<()> {
-    match index {
-        Index::Named(n) => write!(out, "{n}"),
-        Index::Font => out.write_all(b"font"),
-    }
-}
+// A record as a line prints it: index, advance, u offset and v offset.
+#[derive(Clone, Copy)]
+struct Shown(Glyph);
 
-fn print_advance<W: Write>(out: &mut W, advance: Advance) -> io::Result<()> {
-    match advance {
-        Advance::Given(n) => write!(out, "{n}"),
-        Advance::Own => out.write_all(b"own"),
-    }
-}
-
-// By its bits: a sign, and the size without it.
-fn print_offset<W: Write>(out: &mut W, v: i32) -> io::Result<()> {
-    let mut bytes = [0u8; 4];
-    wire::put_number(&mut bytes, 0, v);
-    let n = wire::number_at(&bytes, 0);
-    if !wire::is_natural(n) {
-        out.write_all(b"-")?;
-    }
-    let size = wire::size(n);
-    write!(out, "{size}")
-}
-
-// A line of index, advance, u offset and v offset.
-fn print_glyph<W: Write>(out: &mut W, g: Glyph) -> io::Result<()> {
-    let index = g.index;
-    let advance = g.advance;
-    let u = g.u;
-    let v = g.v;
-    print_index(out, index)?;
-    out.write_all(b" ")?;
-    print_advance(out, advance)?;
-    out.write_all(b" ")?;
-    print_offset(out, u)?;
-    out.write_all(b" ")?;
-    print_offset(out, v)?;
-    out.write_all(b"\n")
-}
-
-// A line of `listed` and the count, or of `no`, number and place.
-fn print_answer<W: Write>(out: &mut W, answer: Filling) -> io::Result<()> {
-    match answer {
-        Filling::Filled(n) => writeln!(out, "listed {n}"),
-        Filling::Refused(x) => {
-            let number = x.number;
-            let place = x.place;
-            writeln!(out, "no {number} {place}")
+impl fmt::Display for Shown {
+    fn fmt<W: fmt::Write>(&self, f: &mut fmt::Formatter<W>) -> fmt::Result {
+        let Glyph {
+            index,
+            advance,
+            u,
+            v,
+        } = self.0;
+        match index {
+            Index::Named(n) => write!(f, "{n}")?,
+            Index::Font => f.write_str("font")?,
         }
+        match advance {
+            Advance::Given(n) => write!(f, " {n}")?,
+            Advance::Own => f.write_str(" own")?,
+        }
+        write!(f, " {u} {v}")
     }
 }
 
-// Lists the glyphs of a run in the records, prints the answer and the records, and hands them back.
-fn show<W: Write>(
-    out: &mut W,
-    units: &[u8],
-    clusters: &[u8],
-    glyphs: &[u8],
-    before: [Glyph; 4],
-) -> io::Result<[Glyph; 4]> {
-    let four = records::list_four(units, clusters, glyphs, before);
-    let answer = four.answer;
-    let after = four.records;
-    print_answer(out, answer)?;
-    print_glyph(out, after[0])?;
-    print_glyph(out, after[1])?;
-    print_glyph(out, after[2])?;
-    print_glyph(out, after[3])?;
-    Ok(after)
+// Lists the glyphs of a run in the records, prints the answer, `listed` and the count or `no`, number and place, and the records, and hands them back.
+fn show<W: Write>(out: &mut W, run: Run, before: [Glyph; 4]) -> io::Result<[Glyph; 4]> {
+    let four = records::list_four(run, before);
+    match four.answer {
+        Ok(n) => writeln!(out, "listed {n}")?,
+        Err(x) => writeln!(out, "no {x}")?,
+    }
+    for record in four.records {
+        let record = Shown(record);
+        writeln!(out, "{record}")?;
+    }
+    Ok(four.records)
 }
 
 fn main(rt: HostRuntime) -> io::Result<()> {
@@ -100,20 +67,22 @@ fn main(rt: HostRuntime) -> io::Result<()> {
         \xff\xff\xff\xff\xff\xff\xff\xff\0\0\0\0\0\0\0\0\
         \xff\xff\xff\xff\xff\xff\xff\xff\0\0\0\0\0\0\0\0";
     let mut out = rt.stdout();
-    let listed = show(
-        &mut out,
-        &units[..6],
-        &clusters[..24],
-        &glyphs[..48],
-        [blank; 4],
-    )?;
-    let unsound = show(
-        &mut out,
-        &units[..4],
-        &clusters[..24],
-        &glyphs[..48],
-        listed,
-    )?;
-    show(&mut out, units, clusters, glyphs, unsound)?;
+    let whole = Run {
+        units,
+        clusters,
+        glyphs,
+    };
+    let three = Run {
+        units: &units[..6],
+        clusters: &clusters[..24],
+        glyphs: &glyphs[..48],
+    };
+    let unsound = Run {
+        units: &units[..4],
+        ..three
+    };
+    let records = show(&mut out, three, [blank; 4])?;
+    let records = show(&mut out, unsound, records)?;
+    show(&mut out, whole, records)?;
     Ok(())
 }

@@ -1,7 +1,7 @@
 -- Laws of the byte and the digits at a place, and of `Scanned`, the digit loop's invariant; carried by `drop-cons` and by `cut_from`: cutting may come before
 -- or after a digit.
 -- Assumes nothing.
-use mathlib.Core.Path.{◌≡◌, refl, ap, sym, ◌∙◌}
+use mathlib.Core.Path.{◌≡◌, refl, ap, ◌∙◌}
 use mathlib.Core.Bool.{Bool, true, false}
 use mathlib.Core.List.{List, [], ◌∷◌}
 use Prim.Native.Nat.{ℕ, suc, ◌+◌, ◌-◌, ◌*◌, ◌≤◌, ◌<◌, min}
@@ -44,16 +44,6 @@ lead_yes b t e = rw e
 pub lead_no : (b : ℕ) (t : List ℕ) → is_digit b ≡ false → lead (b ∷ t) ≡ []
 lead_no b t e = rw e
 
-module _ (s : List ℕ) (i : ℕ) (h : i < length s) where
-  lead_at_holds : is_digit (get_or s i 0) ≡ true → lead (drop i s) ≡ get_or s i 0 ∷ lead (drop (i + 1) s)
-  lead_at_holds e = rw (add-one, drop-cons s i 0 h) (lead_yes (get_or s i 0) (drop (suc i) s) e)
-
-  pub lead_stop : is_digit (get_or s i 0) ≡ false → lead (drop i s) ≡ []
-  lead_stop e = rw (drop-cons s i 0 h) (lead_no (get_or s i 0) (drop (suc i) s) e)
-
-pub lead_end : (s : List ℕ) (i : ℕ) → length s ≤ i → lead (drop i s) ≡ []
-lead_end s i h = rw (drop_of_length-le s h)
-
 -- the cut may be made before a digit or after it
 pub cut_from : (ds : List ℕ) (v w : ℕ) → min v cap ≡ min w cap → min (value_from v ds) cap ≡ min (value_from w ds) cap
 unfolding value_from
@@ -70,36 +60,30 @@ value_more v b ds = refl
 
 -- ── the loop over digits: what is left, read behind v, gives what the whole gives behind start ──
 
-pub record Scanned (s : List ℕ) (at start i v : ℕ) : Type 0 where
-  pub from : at ≤ i
-  pub within : i ≤ length s
+pub record Scanned (t : List ℕ) (start i v : ℕ) : Type 0 where
   pub small : v ≤ cap
-  pub counts : (i - at) + length (lead (drop i s)) ≡ length (lead (drop at s))
-  pub values : min (value_from v (lead (drop i s))) cap ≡ min (value_from start (lead (drop at s))) cap
+  pub counts : i + length (lead (drop i t)) ≡ length (lead t)
+  pub values : min (value_from v (lead (drop i t))) cap ≡ min (value_from start (lead t)) cap
 
-pub scan_start : (s : List ℕ) (at start : ℕ) → at ≤ length s → start ≤ cap → Scanned s at start at start
-scan_start s at start h k = record { from = omega arith; within = h; small = k; counts = omega arith; values = refl }
-
-module _ {s : List ℕ} {at start i v : ℕ} (g : Scanned s at start i v) where
-  pub scan_step : i < length s → is_digit (get_or s i 0) ≡ true → Scanned s at start (i + 1) (pushed v (get_or s i 0))
+module _ {t : List ℕ} {start i v : ℕ} (g : Scanned t start i v) where
+  pub scan_step : i < length t → is_digit (get_or t i 0) ≡ true → Scanned t start (i + 1) (pushed v (get_or t i 0))
   scan_step h e =
-      let l : lead (drop i s) ≡ get_or s i 0 ∷ lead (drop (i + 1) s) = lead_at_holds s i h e in
+      let b : ℕ = get_or t i 0 in
+      let l : lead (drop i t) ≡ b ∷ lead (drop (i + 1) t) = rw (add-one, drop-cons t i 0 h) (lead_yes b (drop (suc i) t) e) in
       record {
-        from = omega arith;
-        within = omega arith;
         small = omega arith;
-        counts = omega (arith, ap length l);
-        values = cut_from (lead (drop (i + 1) s)) (pushed v (get_or s i 0)) (v * 10 + (get_or s i 0 - 48)) (omega arith)
-            ∙ ap (λ (n : ℕ). min n cap) (sym (value_more v (get_or s i 0) (lead (drop (i + 1) s))))
-            ∙ ap (λ (ds : List ℕ). min (value_from v ds) cap) (sym l)
-            ∙ g.values;
+        counts = omega (arith, ap length l, g.counts);
+        values = cut_from (lead (drop (i + 1) t)) (pushed v b) (v * 10 + (b - 48)) (omega arith) ∙ (rw (l, value_more) at g.values);
       }
 
-  pub scan_stop : lead (drop i s) ≡ [] → ◌≡◌ {A = Digits} (record { count = i - at; value = v }) (digits_from start (drop at s))
-  scan_stop l =
-      let n : i - at ≡ length (lead (drop at s)) = omega (arith, ap length l, g.counts) in
-      let w : v ≡ min (value_from start (lead (drop at s))) cap = omega (
-        arith,
-        sym (ap (λ (ds : List ℕ). min (value_from v ds) cap) l ∙ ap (λ (n : ℕ). min n cap) (value_none v)) ∙ g.values,
-      ) in
+  scan_none : lead (drop i t) ≡ [] → ◌≡◌ {A = Digits} (record { count = i; value = v }) (digits_from start t)
+  scan_none e =
+      let n : i ≡ length (lead t) = omega (arith, ap length e, g.counts) in
+      let w : v ≡ min (value_from start (lead t)) cap = omega (arith, g.small, rw (e, value_none) at g.values) in
       λ k. record { count = n k; value = w k }
+
+  pub scan_stop : i < length t → is_digit (get_or t i 0) ≡ false → ◌≡◌ {A = Digits} (record { count = i; value = v }) (digits_from start t)
+  scan_stop h e = scan_none (rw (drop-cons t i 0 h) (lead_no (get_or t i 0) (drop (suc i) t) e))
+
+  pub scan_end : i ≡ length t → ◌≡◌ {A = Digits} (record { count = length t; value = v }) (digits_from start t)
+  scan_end h = let l : length t ≤ i = omega arith in rw h at (scan_none (rw (drop_of_length-le t l)))

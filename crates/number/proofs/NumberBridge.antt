@@ -17,7 +17,7 @@ use Rattle.label.specs.Requests.RoundedCount.{is_exact}
 use Rattle.label.proofs.Basics.{and_r, clash, cases}
 use Rattle.label.proofs.Splits.{none}
 use Rattle.number.specs.declared.Thousandths.{Thousandths}
-use Rattle.number.specs.declared.Thousandths.TheVariants.{Of, Over}
+use Rattle.std.proofs.Common.{Option, Some, None}
 use Rattle.number.specs.Digits.{head_of, ends, is_break, lead}
 use Rattle.number.specs.Numbers.{Mant, Expo, mantissa_of, exponent_of, number_of, pointed, plain, raised, unraised, sign_length, size_of}
 use Rattle.number.proofs.DigitLaws.{head_drop}
@@ -135,13 +135,13 @@ none_unsigned (b ∷ w) h = cases (minus (b ∷ w) || plus (b ∷ w)) (λ e. rw 
 -- ── the value ──
 
 -- the size of a part that is a number, and whether it is exact
-abbrev pub sized_as : List ℕ → Thousandths
-sized_as x = cond (number_fits x) (Of (thousandths x) (is_exact x)) Over
+abbrev pub sized_as : List ℕ → Option Thousandths
+sized_as x = cond (number_fits x) (Some (record { count = thousandths x; exact = is_exact x })) None
 
-cond_three : (a b c : Bool) (z : Thousandths) → cond (a && b) (cond c z Over) Over ≡ cond (a && b && c) z Over
-cond_three true true c z = refl
-cond_three true false c z = refl
-cond_three false b c z = refl
+cond_three : {A : Type 0} (a b c : Bool) (z o : A) → cond (a && b) (cond c z o) o ≡ cond (a && b && c) z o
+cond_three true true c z o = refl
+cond_three true false c z o = refl
+cond_three false b c z o = refl
 
 size_same : (x : List ℕ) (m : Mant) (e : Expo) → m.digits ≡ mantissa_digits x → m.behind ≡ length (fraction_digits x)
     → e.negative ≡ minus (at_exponent x).after → e.digits ≡ exponent_digits x
@@ -151,7 +151,7 @@ size_same x m e d b n p =
     rw (d, b, n, p)
     (cond_three (leb (length (mantissa_digits x)) max_digits) (leb (length (exponent_digits x)) max_exponent_digits)
     (leb (scaled (value (mantissa_digits x)) (length (fraction_digits x)) (minus (at_exponent x).after) (value (exponent_digits x))) max_thousandths)
-    (Of (thousandths x) (is_exact x)))
+    (Some (record { count = thousandths x; exact = is_exact x })) None)
 
 -- ── numbers ──
 

@@ -1,31 +1,31 @@
 -- Laws that mantissa, exponent and number as the code builds them are the definitions'; carried by `value_small`, n digits stay below 10^n, so within the
 -- limits no cut happens.
 -- Assumes nothing.
-use mathlib.Core.Path.{◌≡◌, refl, ap, sym, ◌∙◌}
-use mathlib.Core.Bool.{Bool, true, false, cond, ◌&&◌, ◌||◌, false≢true}
+use mathlib.Core.Path.{◌≡◌, refl, ap, sym}
+use mathlib.Core.Bool.{Bool, true, false, cond, ◌&&◌}
 use mathlib.Core.List.{List, [], ◌∷◌, ◌++◌}
-use Prim.Native.Nat.{ℕ, suc, zero, ◌+◌, ◌-◌, ◌*◌, ◌^◌, ◌≤◌, ◌<◌, min}
+use Prim.Native.Nat.{ℕ, ◌+◌, ◌-◌, ◌*◌, ◌^◌, ◌≤◌, ◌<◌, min}
 use native.Mathlib.Omega.{arith}
-use native.Mathlib.Nat.{mul-le-mul_right, pow-suc, lt_of_lt_of_le}
+use Rattle.std.proofs.lemmas.Option.{same_Some, none-some}
+use native.Mathlib.Nat.{add_assoc, mul-le-mul_right, pow-suc, lt_of_lt_of_le}
 use lib.Pow.{pow-add}
 use lib.Dec.{leb, ltb, eqb}
 use lib.ListN.{length, drop, get_or, length-append}
-use borrow.Author.Tests.{le-leb, lt-leb, leb-true, eq-eqb, ne_eqb}
+use borrow.Author.Tests.{le-leb, leb-true, eq-eqb, ne_eqb}
 use lib.Seq.{drop-drop, get_or-drop}
-use Rattle.label.specs.Limits.{max_thousandths}
 use Rattle.label.specs.Bytes.{is_digit, value_from, value}
 use Rattle.label.specs.Entry.{is_e, scaled}
 use Rattle.label.specs.Requests.RoundedCount.{is_whole}
-use Rattle.label.proofs.Basics.{cases}
+use Rattle.label.proofs.Basics.{and_l, and_r}
 use Rattle.label.proofs.Decimals.{value_append}
+use Rattle.std.specs.Bool.{then_some}
+use Rattle.std.proofs.Common.{Option, Some, None}
 use Rattle.number.specs.declared.Thousandths.{Thousandths}
-use Rattle.number.specs.declared.Thousandths.TheVariants.{Over}
-use Rattle.number.specs.declared.Number.{Number}
 use Rattle.number.specs.declared.Digits.{Digits}
 use Rattle.number.specs.declared.Mantissa.{Mantissa}
 use Rattle.number.specs.declared.Exponent.{Exponent}
 use Rattle.number.specs.Digits.{cap, head_of, lead, digits_from}
-use Rattle.number.specs.Numbers.{sized, Small, Mant, Expo, pointed, plain, unraised, mantissa_of, exponent_of, sign_length, size_of, number_of, cut_mantissa, cut_exponent, raised_by}
+use Rattle.number.specs.Numbers.{sized, Mant, Expo, pointed, plain, unraised, mantissa_of, exponent_of, sign_length, size_of, number_of, cut_mantissa, cut_exponent, formed, raised_by}
 use Rattle.number.proofs.DigitLaws.{head_drop, lead_yes, lead_no, digit_high, cut_from}
 use Rattle.number.proofs.ValueLaws.{ten_mono}
 
@@ -80,18 +80,6 @@ expo_small t = go (is_e (head_of t))
     go true = lead_small (drop (1 + sign_length (get_or t 1 0)) t)
     go false = lead_small []
 
-module _ (m : Mant) (x : Expo) where
-  size_long : 18 < length m.digits → size_of m x ≡ Over
-  size_long h = rw (lt-leb (length m.digits) 18 h)
-
-  size_far : length m.digits ≤ 18 → 2 < length x.digits → size_of m x ≡ Over
-  size_far h k = rw (le-leb (length m.digits) 18 h, lt-leb (length x.digits) 2 k)
-
-  size_is : length m.digits ≤ 18 → length x.digits ≤ 2
-      → size_of m x ≡ sized (scaled (value m.digits) m.behind x.negative (value x.digits))
-      (is_whole (value m.digits) m.behind x.negative (value x.digits))
-  size_is h k = rw (le-leb (length m.digits) 18 h, le-leb (length x.digits) 2 k)
-
 mant_pointed : (t : List ℕ) → get_or t (length (lead t)) 0 ≡ 46 → mantissa_of t ≡ pointed (lead t) (lead (drop (length (lead t) + 1) t))
 unfolding mantissa_of
 mant_pointed t h = rw (eq-eqb _ _ h)
@@ -103,123 +91,157 @@ mant_plain t h = rw (ne_eqb _ _ h)
 cut_append : (a b : List ℕ) → min (value_from (min (value a) cap) b) cap ≡ min (value (a ++ b)) cap
 cut_append a b = rw (value_append 0 a b) (cut_from b (min (value a) cap) (value a) (omega arith))
 
+-- what the code tells of both
+abbrev told_mantissa : List ℕ → Option Mantissa
+told_mantissa t = let m = mantissa_of t in then_some m.ok (cut_mantissa m)
+
+abbrev told_exponent : List ℕ → Option Exponent
+told_exponent t = let x = exponent_of t in then_some x.ok (cut_exponent x)
+
 -- what the code makes of two runs of digits
 module _ (s : List ℕ) (at : ℕ) (r : Digits) (e : r ≡ digits_from 0 (drop at s)) where
-  -- b is the byte behind the first digits
-  module _ {b : ℕ} (eb : b ≡ get_or s (at + r.count) 0) where
-    behind_is : b ≡ get_or (drop at s) (length (lead (drop at s))) 0
-    behind_is = rw get_or-drop (rw e at eb)
+  pub code_pointed : get_or s (at + r.count) 0 ≡ 46 → (q : Digits) → q ≡ digits_from r.value (drop (at + r.count + 1) s)
+      → then_some (ltb 0 q.count) (record { used = r.count + 1 + q.count; count = r.count + q.count; value = q.value; behind = q.count })
+      ≡ told_mantissa (drop at s)
+  code_pointed h q f =
+      rw (
+        mant_pointed (drop at s) (rw (get_or-drop, ← ap (λ (d : Digits). d.count) e) h),
+        f,
+        e,
+        drop-drop,
+        add_assoc at (length (lead (drop at s))) 1,
+        length-append,
+        ← cut_append,
+      )
 
-    pub code_pointed : (q : Digits) → q ≡ digits_from r.value (drop (at + (r.count + 1)) s) → b ≡ 46
-        → ◌≡◌ {A = Mantissa} (record {
-          ok = ltb 0 q.count;
-          used = r.count + 1 + q.count;
-          count = r.count + q.count;
-          value = q.value;
-          behind = q.count;
-        })
-        (cut_mantissa (mantissa_of (drop at s)))
-    code_pointed q f h = rw (mant_pointed (drop at s) (sym behind_is ∙ h), f, e, drop-drop, length-append, ← cut_append)
-
-    pub code_plain : (b ≡ 46 → ⊥)
-        → ◌≡◌ {A = Mantissa} (record { ok = ltb 0 r.count; used = r.count; count = r.count; value = r.value; behind = 0 })
-        (cut_mantissa (mantissa_of (drop at s)))
-    code_plain h = rw (mant_plain (drop at s) (λ k. h (behind_is ∙ k)), e)
-
--- a sign, and the letter of an exponent, are bytes that are not 0
-pub sign_some : (b : ℕ) → (eqb b 43 || eqb b 45) ≡ true → 0 < b
-sign_some zero e = absurd (false≢true e)
-sign_some (suc b) e = omega arith
-
-pub letter_some : (b : ℕ) → is_e b ≡ true → 0 < b
-letter_some zero e = absurd (false≢true e)
-letter_some (suc b) e = omega arith
+  pub code_plain : (get_or s (at + r.count) 0 ≡ 46 → ⊥)
+      → then_some (ltb 0 r.count) (record { used = r.count; count = r.count; value = r.value; behind = 0 }) ≡ told_mantissa (drop at s)
+  code_plain h = rw (mant_plain (drop at s) (λ k. h (rw (ap (λ (d : Digits). d.count) e) (rw get_or-drop at k))), e)
 
 -- the exponent by its letter, and what the code makes of it
 pub expo_none : (t : List ℕ) → is_e (head_of t) ≡ false → exponent_of t ≡ unraised
 unfolding exponent_of
 expo_none t h = rw h
 
-pub code_unraised : (s : List ℕ) (at : ℕ) {a : ℕ} → a ≡ get_or s at 0 → is_e a ≡ false
-    → ◌≡◌ {A = Exponent} (record { ok = true; used = 0; negative = false; count = 0; value = 0 }) (cut_exponent (exponent_of (drop at s)))
-unfolding value_from
-code_unraised s at ea h = rw (expo_none (drop at s) (rw (head_drop, ← ea) h))
-
 pub expo_some : (t : List ℕ) → is_e (head_of t) ≡ true → exponent_of t ≡ raised_by (get_or t 1 0) t
 unfolding exponent_of
 expo_some t h = rw h
 
-pub code_raised : (s : List ℕ) (at b k : ℕ) (r : Digits) {a : ℕ} → a ≡ get_or s at 0 → is_e a ≡ true → b ≡ get_or s (at + 1) 0 → k ≡ sign_length b
-    → r ≡ digits_from 0 (drop (at + (1 + k)) s)
-    → ◌≡◌ {A = Exponent} (record { ok = ltb 0 r.count; used = 1 + k + r.count; negative = eqb b 45; count = r.count; value = r.value })
-    (cut_exponent (exponent_of (drop at s)))
-code_raised s at b k r ea h eb ek er = rw (expo_some (drop at s) (rw (head_drop, ← ea) h), get_or-drop, ← eb, ← ek, drop-drop, er)
+module _ (s : List ℕ) (at : ℕ) where
+  pub code_unraised : is_e (get_or s at 0) ≡ false
+      → Some (record { used = 0; negative = false; count = 0; value = 0 }) ≡ told_exponent (drop at s)
+  unfolding value_from
+  code_unraised h = rw (expo_none (drop at s) (rw head_drop h))
 
--- a value within the digits' limits is exact, and within what the code asks of it
-module _ (t : List ℕ) (m : Mantissa) (e : m ≡ cut_mantissa (mantissa_of t)) (h : m.count ≤ 18) where
-  mant_count : length (mantissa_of t).digits ≤ 18
-  mant_count = rw e at h
+  pub code_raised : is_e (get_or s at 0) ≡ true → (k : ℕ) → k ≡ sign_length (get_or s (at + 1) 0) → (r : Digits)
+      → r ≡ digits_from 0 (drop (at + (1 + k)) s) → (m : Bool) → m ≡ eqb (get_or s (at + 1) 0) 45
+      → then_some (ltb 0 r.count) (record { used = 1 + k + r.count; negative = m; count = r.count; value = r.value })
+      ≡ told_exponent (drop at s)
+  code_raised h k ek r er m em = rw (expo_some (drop at s) (rw head_drop h), get_or-drop, ← ek, ← em, drop-drop, er)
 
-  mant_below : value (mantissa_of t).digits < cap
-  mant_below = within (length (mantissa_of t).digits) 18 (value (mantissa_of t).digits) mant_count (mant_small t)
+-- a test and the value told where it holds
+told_some : {A : Type 0} (b : Bool) (x y : A) → Some y ≡ then_some b x → (b ≡ true) × (x ≡ y)
+told_some true x y e = (refl, sym (same_Some y x e))
+told_some false x y e = absurd (none-some y (sym e))
 
-  mant_exact : m.value ≡ value (mantissa_of t).digits
-  mant_exact = rw e (omega (arith, mant_below))
+told_none : {A : Type 0} (b : Bool) (x : A) → None ≡ then_some b x → b ≡ false
+told_none true x e = absurd (none-some x e)
+told_none false x e = refl
 
-  pub mant_asked : (m.value < cap) × (m.behind ≤ 18)
-  mant_asked = (rw mant_exact mant_below, rw e (omega (arith, mant_behind t, mant_count)))
+-- what is told of a mantissa within the digits' limit is exact, and within what the code asks of it
+module _ (t : List ℕ) (m : Mantissa) (e : Some m ≡ told_mantissa t) where
+  mant_ok : (mantissa_of t).ok ≡ true
+  mant_ok = (told_some (mantissa_of t).ok (cut_mantissa (mantissa_of t)) m e).0
 
-module _ (t : List ℕ) (x : Exponent) (e : x ≡ cut_exponent (exponent_of t)) (h : x.count ≤ 2) where
-  expo_count : length (exponent_of t).digits ≤ 2
-  expo_count = rw e at h
+  mant_is : cut_mantissa (mantissa_of t) ≡ m
+  mant_is = (told_some (mantissa_of t).ok (cut_mantissa (mantissa_of t)) m e).1
 
-  expo_below : value (exponent_of t).digits < 10 ^ 2
-  expo_below = within (length (exponent_of t).digits) 2 (value (exponent_of t).digits) expo_count (expo_small t)
+  module _ (h : m.count ≤ 18) where
+    mant_count : length (mantissa_of t).digits ≤ 18
+    mant_count = rw (← mant_is) at h
 
-  expo_exact : x.value ≡ value (exponent_of t).digits
-  expo_exact = rw e (omega (arith, expo_below))
+    mant_below : value (mantissa_of t).digits < cap
+    mant_below = within (length (mantissa_of t).digits) 18 (value (mantissa_of t).digits) mant_count (mant_small t)
 
-  pub expo_asked : x.value ≤ 99
-  expo_asked = omega (arith, expo_exact, expo_below)
+    mant_exact : value (mantissa_of t).digits ≡ m.value
+    mant_exact = rw (← mant_is) (omega (arith, mant_below))
 
-module _ (s : List ℕ) (at : ℕ) (m : Mantissa) (em : m ≡ cut_mantissa (mantissa_of (drop at s)))
-    (x : Exponent) (ex : x ≡ cut_exponent (exponent_of (drop (at + m.used) s))) (ok : Bool) (eo : ok ≡ (m.ok && x.ok)) where
-  code_number : (z : Thousandths) → z ≡ size_of (mantissa_of (drop at s)) (exponent_of (drop (at + m.used) s))
-      → ◌≡◌ {A = Number} (record { ok = ok; used = m.used + x.used; size = z }) (number_of (drop at s))
-  unfolding number_of
-  code_number z ez = rw (ez, eo, ex, em, drop-drop)
+    pub mant_asked : (m.value < cap) × (m.behind ≤ 18)
+    mant_asked = (rw (← mant_exact) mant_below, rw (← mant_is) (omega (arith, mant_behind t, mant_count)))
 
-  pub code_long : 18 < m.count → ◌≡◌ {A = Number} (record { ok = ok; used = m.used + x.used; size = Over }) (number_of (drop at s))
-  code_long h = code_number Over (sym (size_long (mantissa_of (drop at s)) (exponent_of (drop (at + m.used) s)) (rw em at h)))
+-- and of an exponent
+module _ (t : List ℕ) (x : Exponent) (e : Some x ≡ told_exponent t) where
+  expo_ok : (exponent_of t).ok ≡ true
+  expo_ok = (told_some (exponent_of t).ok (cut_exponent (exponent_of t)) x e).0
 
-  pub code_far : m.count ≤ 18 → 2 < x.count → ◌≡◌ {A = Number} (record { ok = ok; used = m.used + x.used; size = Over }) (number_of (drop at s))
-  code_far h k = code_number Over (sym (size_far (mantissa_of (drop at s)) (exponent_of (drop (at + m.used) s)) (rw em at h) (rw ex at k)))
+  expo_is : cut_exponent (exponent_of t) ≡ x
+  expo_is = (told_some (exponent_of t).ok (cut_exponent (exponent_of t)) x e).1
 
-  pub code_sized : m.count ≤ 18 → x.count ≤ 2 → (z : Thousandths)
-      → z ≡ sized (scaled m.value m.behind x.negative x.value) (is_whole m.value m.behind x.negative x.value)
-      → ◌≡◌ {A = Number} (record { ok = ok; used = m.used + x.used; size = z }) (number_of (drop at s))
-  code_sized h k z e =
-      code_number z
-      (rw (
-        size_is (mantissa_of (drop at s)) (exponent_of (drop (at + m.used) s)) (rw em at h) (rw ex at k),
-        ← mant_exact (drop at s) m em h,
-        ← expo_exact (drop (at + m.used) s) x ex k,
-        ← ap (λ (r : Mantissa). r.behind) em,
-        ← ap (λ (r : Exponent). r.negative) ex,
-      ) e)
+  module _ (h : x.count ≤ 2) where
+    expo_count : length (exponent_of t).digits ≤ 2
+    expo_count = rw (← expo_is) at h
 
--- a size is within its limit
-sized_small : (v : ℕ) (x : Bool) → Small (sized v x)
-sized_small v x = cases (leb v max_thousandths) (λ e. rw e (leb-true v max_thousandths e)) (λ e. rw e tt)
+    expo_below : value (exponent_of t).digits < 10 ^ 2
+    expo_below = within (length (exponent_of t).digits) 2 (value (exponent_of t).digits) expo_count (expo_small t)
 
-size_small : (m : Mant) (x : Expo) → Small (size_of m x)
-size_small m x = go (leb (length m.digits) 18 && leb (length x.digits) 2) refl
-  where
-    go : (b : Bool) → (leb (length m.digits) 18 && leb (length x.digits) 2) ≡ b → Small (size_of m x)
-    go true e = rw e (sized_small (scaled (value m.digits) m.behind x.negative (value x.digits))
-        (is_whole (value m.digits) m.behind x.negative (value x.digits)))
-    go false e = rw e tt
+    expo_exact : value (exponent_of t).digits ≡ x.value
+    expo_exact = rw (← expo_is) (omega (arith, expo_below))
 
-pub number_small : (t : List ℕ) → Small (number_of t).size
+    pub expo_asked : x.value ≤ 99
+    expo_asked = omega (arith, expo_exact, expo_below)
+
+within_few : {A : Type 0} (b : Bool) (y z o : A) → (b ≡ true → y ≡ z) → cond b y o ≡ cond b z o
+within_few true y z o e = e refl
+within_few false y z o e = refl
+
+-- what the code tells of a number
+pub no_mantissa : (t : List ℕ) → None ≡ told_mantissa t → None ≡ formed (number_of t)
 unfolding number_of
-number_small t = size_small (mantissa_of t) (exponent_of (drop (mantissa_of t).used t))
+no_mantissa t e = rw (told_none (mantissa_of t).ok (cut_mantissa (mantissa_of t)) e)
+
+module _ (s : List ℕ) (at : ℕ) (m : Mantissa) (em : Some m ≡ told_mantissa (drop at s)) where
+  abbrev t : List ℕ
+  t = drop at s
+
+  rest_is : drop (at + m.used) s ≡ drop (mantissa_of t).used t
+  rest_is = rw (drop-drop, ap (λ (r : Mantissa). r.used) (mant_is t m em))
+
+  pub no_exponent : None ≡ told_exponent (drop (at + m.used) s) → None ≡ formed (number_of t)
+  unfolding number_of
+  no_exponent e =
+      let y : List ℕ = drop (mantissa_of t).used t in
+      rw (mant_ok t m em, told_none (exponent_of y).ok (cut_exponent (exponent_of y)) (rw rest_is at e))
+
+  module _ (x : Exponent) (ex : Some x ≡ told_exponent (drop (at + m.used) s)) where
+    number_told : (z : Option Thousandths) → z ≡ size_of (mantissa_of t) (exponent_of (drop (at + m.used) s))
+        → Some (record { used = m.used + x.used; size = z }) ≡ formed (number_of t)
+    unfolding number_of
+    number_told z ez = rw (
+      ez,
+      ← rest_is,
+      mant_ok t m em,
+      expo_ok (drop (at + m.used) s) x ex,
+      ap (λ (r : Mantissa). r.used) (mant_is t m em),
+      ap (λ (r : Exponent). r.used) (expo_is (drop (at + m.used) s) x ex),
+    )
+
+    size_is : size_of (mantissa_of t) (exponent_of (drop (at + m.used) s))
+        ≡ cond (leb m.count 18 && leb x.count 2) (sized (scaled m.value m.behind x.negative x.value) (is_whole m.value m.behind x.negative x.value)) None
+    size_is =
+        let y : List ℕ = drop (at + m.used) s in
+        rw (ap (λ (r : Mantissa). r.count) (mant_is t m em), ap (λ (r : Exponent). r.count) (expo_is y x ex))
+        (within_few (leb m.count 18 && leb x.count 2) _ _ None
+        (λ h. rw (
+          mant_exact t m em (leb-true m.count 18 (and_l (leb m.count 18) (leb x.count 2) h)),
+          expo_exact y x ex (leb-true x.count 2 (and_r (leb m.count 18) (leb x.count 2) h)),
+          ap (λ (r : Mantissa). r.behind) (mant_is t m em),
+          ap (λ (r : Exponent). r.negative) (expo_is y x ex),
+        )))
+
+    pub code_over : (leb m.count 18 && leb x.count 2) ≡ false → Some (record { used = m.used + x.used; size = None }) ≡ formed (number_of t)
+    code_over h = number_told None (rw (size_is, h))
+
+    pub code_sized : m.count ≤ 18 → x.count ≤ 2 → (z : Option Thousandths)
+        → z ≡ sized (scaled m.value m.behind x.negative x.value) (is_whole m.value m.behind x.negative x.value)
+        → Some (record { used = m.used + x.used; size = z }) ≡ formed (number_of t)
+    code_sized h k z e = number_told z (rw (size_is, le-leb m.count 18 h, le-leb x.count 2 k) e)

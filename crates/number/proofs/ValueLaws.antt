@@ -5,18 +5,18 @@ use mathlib.Core.Path.{◌≡◌, refl, sym, ap, ◌∙◌}
 use mathlib.Core.Bool.{Bool, true, false, cond, not}
 use Prim.Native.Nat.{ℕ, suc, zero, ◌+◌, ◌-◌, ◌*◌, ◌/◌, ◌%◌, ◌^◌, ◌≤◌, ◌<◌}
 use native.Mathlib.Omega.{arith}
-use native.Mathlib.Nat.{add-zero, zero-mul, mul-div-mul_right, mul-div_cancel, mul-mod_left, div-eq_of_lt, mul_assoc, one-le-pow, mod-lt, mod-eq_of_lt, lt_of_lt_of_le, pow-le-pow_right, mul-le-mul, mul-le-mul_right, mul-lt-mul_of_pos_right}
+use native.Mathlib.Nat.{add-zero, zero-mul, mul-div-mul_right, mul-div_cancel, mul-mod_left, div-eq_of_lt, mul_assoc, one-le-pow, mod-eq_of_lt, lt_of_lt_of_le, pow-le-pow_right, mul-le-mul_right, mul-lt-mul_of_pos_right}
 use lib.Arith.{mod-mul}
 use lib.Pow.{pow-add}
 use lib.Dec.{ltb, eqb, lit<}
-use borrow.Author.Tests.{le-leb, lt-leb, lt-ltb, le-ltb, ltb-true, ltb-false, ne_eqb}
+use borrow.Author.Tests.{lt-leb, lt-ltb, le-ltb, ltb-true, ltb-false, ne_eqb}
 use Rattle.label.specs.Limits.{max_thousandths}
 use Rattle.label.specs.Entry.{nearest, scaled}
 use Rattle.label.specs.Requests.RoundedCount.{is_whole}
 use Rattle.label.proofs.Basics.{cases}
 use Rattle.label.proofs.Values.{nearest_exact}
 use Rattle.label.proofs.Statements.Rounding.{nearest_below, nearest_above, nearest_half, three}
-use Rattle.number.specs.declared.Thousandths.TheVariants.{Of, Over}
+use Rattle.std.proofs.Common.{None}
 use Rattle.number.specs.Digits.{cap}
 use Rattle.number.specs.Numbers.{sized}
 
@@ -32,17 +32,6 @@ ten_split : (a b : ℕ) → b ≤ a → 10 ^ a ≡ 10 ^ (a - b) * 10 ^ b
 ten_split a b h =
     let p : a ≡ (a - b) + b = omega arith in
     ap (λ (n : ℕ). 10 ^ n) p ∙ pow-add 10 (a - b) b
-
--- k is none of 0, 1, .. below n
-abbrev Above : ℕ → ℕ → Type 0
-Above zero k = Unit {0}
-Above (suc n) k = Above n k × (k ≡ n → ⊥)
-
--- the last arm of a match over 0, 1, ..
-pub last_key : (n k : ℕ) → k < suc n → Above n k → k ≡ n
-last_key zero k h a = omega arith
-last_key (suc n) k h a = cases (ltb k (suc n)) (λ e. absurd (a.1 (last_key n k (ltb-true k (suc n) e) a.0)))
-    (λ e. let l : suc n ≤ k = ltb-false k (suc n) e in omega arith)
 
 -- ── rounding ──
 
@@ -71,10 +60,6 @@ round_up m d h = three (2 * (m % d)) d (λ t. absurd (omega arith)) (nearest_abo
 
 pub round_down : (m d : ℕ) → 2 * (m % d) + m / d % 2 ≤ d → nearest m d ≡ m / d
 round_down m d h = three (2 * (m % d)) d (nearest_below m d) (λ t. absurd (omega arith)) (λ t. nearest_half m d t ∙ omega arith)
-
--- the remainder's double, and one more, has room
-pub twice_small : (m k : ℕ) → k ≤ 18 → 2 * (m % 10 ^ k) + 1 < 2 * cap
-twice_small m k h = omega (arith, mod-lt m (ten_pos k), ten_mono k 18 h)
 
 -- ── one shift ──
 
@@ -119,10 +104,7 @@ whole_is m f false e = rw (add-zero f)
 
 -- ── the limit ──
 
-pub sized_of : (v : ℕ) (x : Bool) → v ≤ max_thousandths → sized v x ≡ Of v x
-sized_of v x h = rw (le-leb v max_thousandths h)
-
-pub sized_over : (v : ℕ) (x : Bool) → max_thousandths < v → sized v x ≡ Over
+pub sized_over : (v : ℕ) (x : Bool) → max_thousandths < v → sized v x ≡ None
 sized_over v x h = rw (lt-leb v max_thousandths h)
 
 pub grow_over : (m k : ℕ) → 0 < m → 9 < k → max_thousandths < m * 10 ^ k
@@ -130,6 +112,3 @@ grow_over m k h b = omega (arith, ten_mono 10 k b, mul-le-mul_right (10 ^ k) h)
 
 pub grow_large : (m k : ℕ) → max_thousandths < m → max_thousandths < m * 10 ^ k
 grow_large m k h = omega (arith, mul-le-mul_right (10 ^ k) h, ten_pos k)
-
-pub grow_fits : (m k : ℕ) → m ≤ max_thousandths → k ≤ 9 → m * 10 ^ k ≤ cap
-grow_fits m k h b = mul-le-mul h (ten_mono k 9 b)

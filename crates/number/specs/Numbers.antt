@@ -1,29 +1,24 @@
 -- A number at the front of a list: "digits, or digits `.` digits, or `.` digits; then optionally `e` or `E`, an optional sign, digits".
 -- Assumes nothing.
-use Rattle.std.specs.Prelude.{Bool, true, false, cond, ◌&&◌, ◌||◌, List, [], ◌++◌, ℕ, ◌+◌, ◌≤◌, min, length, drop, get_or, leb, ltb, eqb}
+use Rattle.std.specs.Prelude.{Bool, true, false, cond, ◌&&◌, ◌||◌, List, [], ◌++◌, ℕ, ◌+◌, ◌≤◌, min, length, drop, get_or, leb, ltb, eqb, Option, Some, None, IfSome}
+use Rattle.std.specs.Bool.{then_some}
 use Rattle.label.specs.Limits.{max_digits, max_exponent_digits, max_thousandths}
 use Rattle.label.specs.Bytes.{value}
 use Rattle.label.specs.Entry.{is_e, scaled}
 use Rattle.label.specs.Requests.RoundedCount.{is_whole}
 use Rattle.number.specs.declared.Thousandths.{Thousandths}
-use Rattle.number.specs.declared.Thousandths.TheVariants.{Of, Over}
 use Rattle.number.specs.declared.Mantissa.{Mantissa}
 use Rattle.number.specs.declared.Exponent.{Exponent}
 use Rattle.number.specs.declared.Number.{Number}
 use Rattle.number.specs.Digits.{cap, head_of, lead}
 
 -- a size, where it is within the limit, and whether it is exact
-abbrev pub sized : ℕ → Bool → Thousandths
-sized v x = cond (leb v max_thousandths) (Of v x) Over
-
-abbrev pub number_within : Thousandths → Bool
-number_within (Of v x) = true
-number_within Over = false
+abbrev pub sized : ℕ → Bool → Option Thousandths
+sized v x = cond (leb v max_thousandths) (Some (record { count = v; exact = x })) None
 
 -- a size of at most 1,000,000,000
-abbrev pub Small : Thousandths → Type 0
-Small (Of v x) = v ≤ max_thousandths
-Small Over = Unit {0}
+abbrev pub Small : Option Thousandths → Type 0
+Small z = IfSome z (λ v. v.count ≤ max_thousandths)
 
 -- the part before any exponent: whether it is well formed, how many bytes it has, all its digits, and how many of them stand behind the point
 pub record Mant : Type 0 where
@@ -73,22 +68,32 @@ unfoldable pub exponent_of : List ℕ → Expo
 exponent_of t = cond (is_e (head_of t)) (raised_by (get_or t 1 0) t) unraised
 
 -- within the limits on digits, and then on the value
-abbrev pub size_of : Mant → Expo → Thousandths
+abbrev pub size_of : Mant → Expo → Option Thousandths
 size_of m x =
     cond (leb (length m.digits) max_digits && leb (length x.digits) max_exponent_digits)
     (sized (scaled (value m.digits) m.behind x.negative (value x.digits))
     (is_whole (value m.digits) m.behind x.negative (value x.digits)))
-    Over
+    None
 
-abbrev pub number_with : Mant → Expo → Number
+-- a number: whether it is well formed, how many bytes it has, and its size, where that is within the limits
+pub record Numeral : Type 0 where
+  pub ok : Bool
+  pub used : ℕ
+  pub size : Option Thousandths
+
+abbrev pub number_with : Mant → Expo → Numeral
 number_with m x = record { ok = (m.ok && x.ok); used = m.used + x.used; size = size_of m x }
 
-unfoldable pub number_of : List ℕ → Number
+unfoldable pub number_of : List ℕ → Numeral
 number_of t = number_with (mantissa_of t) (exponent_of (drop (mantissa_of t).used t))
 
 -- what the code keeps of them: counts and values of the digits
 abbrev pub cut_mantissa : Mant → Mantissa
-cut_mantissa m = record { ok = m.ok; used = m.used; count = length m.digits; value = min (value m.digits) cap; behind = m.behind }
+cut_mantissa m = record { used = m.used; count = length m.digits; value = min (value m.digits) cap; behind = m.behind }
 
 abbrev pub cut_exponent : Expo → Exponent
-cut_exponent x = record { ok = x.ok; used = x.used; negative = x.negative; count = length x.digits; value = min (value x.digits) cap }
+cut_exponent x = record { used = x.used; negative = x.negative; count = length x.digits; value = min (value x.digits) cap }
+
+-- the number, where it is well formed
+abbrev pub formed : Numeral → Option Number
+formed n = then_some n.ok (record { used = n.used; size = n.size })

@@ -1,13 +1,13 @@
 // The digits that stand at a place, and the number that stands there, rounded to whole thousandths.
 #![tactic(auto)]
 
-ghost use Rattle.std.specs.Prelude.{◌≡◌, true, cond, ◌+◌, ◌*◌, ◌%◌, ◌^◌, ◌≤◌, ◌<◌, eqb, length, drop};
+ghost use Rattle.std.specs.Prelude.{◌≡◌, true, ◌+◌, ◌-◌, ◌*◌, ◌%◌, ◌^◌, ◌≤◌, ◌<◌, eqb, length, get_or, drop, IfSome};
+ghost use Rattle.std.specs.Bool.{then_some};
 ghost use Rattle.label.specs.Bytes.{is_digit};
-ghost use Rattle.label.specs.Entry.{is_e, nearest, scaled};
+ghost use Rattle.label.specs.Entry.{nearest, scaled};
 ghost use Rattle.label.specs.Requests.RoundedCount.{is_whole};
-ghost use Rattle.number.specs.declared.Thousandths.TheVariants.{Of};
 ghost use Rattle.number.specs.Digits.{cap, pushed, digits_from};
-ghost use Rattle.number.specs.Numbers.{sized, mantissa_of, cut_mantissa, sign_length, exponent_of, cut_exponent, number_of};
+ghost use Rattle.number.specs.Numbers.{sized, Small, mantissa_of, cut_mantissa, sign_length, exponent_of, cut_exponent, number_of, formed};
 
 use label::Limits;
 
@@ -22,19 +22,12 @@ pub struct Digits {
 
 const CAP: u64 = 1_000_000_000_000_000_000;
 
-fn is_digit(b: u8) -> bool
-    ensures { result ≡ is_digit b }
-{
-    plain::both(48 <= b, b <= 57)
-}
-
 // One more digit behind v.
 fn push_digit(v: u64, b: u8) -> u64
     requires { (v ≤ cap) × (is_digit b ≡ true) }
     ensures { result ≡ pushed v b }
 {
-    let w = v * 10 + (b - 48) as u64;
-    if w < CAP { w } else { CAP }
+    (v * 10 + u64::from(b - b'0')).min(CAP)
 }
 
 // The digits at a place, read behind `start`.
@@ -43,108 +36,65 @@ pub fn digits_at(s: &[u8], at: usize, start: u64) -> Digits
     ensures value { result ≡ digits_from start (drop at s.now) }
     ensures bounds { (at + result.count ≤ length s.now) × (result.value ≤ cap) }
 {
-    let mut i = at;
-    let mut v = start;
-    while i < s.len() {
-        let b = s[i];
-        if !is_digit(b) {
-            return Digits {
-                count: i - at,
-                value: v,
-            };
+    let rest = &s[at..];
+    let mut value = start;
+    for (count, b) in rest.iter().enumerate() {
+        if !b.is_ascii_digit() {
+            return Digits { count, value };
         }
-        v = push_digit(v, b);
-        i += 1;
+        value = push_digit(value, *b);
     }
     Digits {
-        count: i - at,
-        value: v,
+        count: rest.len(),
+        value,
     }
 }
 
 // ── values ──
 
-// Whole thousandths, where they are within the limit, and whether the exact value is this one.
+// Whole thousandths within the limit, and whether the exact value is this one.
 #[derive(Clone, Copy)]
-pub enum Thousandths {
-    Of { count: u32, exact: bool },
-    Over,
+pub struct Thousandths {
+    pub count: u32,
+    pub exact: bool,
 }
 
-// The value 0, exact or rounded to it.
-pub fn zero(exact: bool) -> Thousandths
-    ensures { result ≡ Of 0 exact }
+// This many thousandths; none above the limit.
+fn limited(count: u64, exact: bool) -> Option<Thousandths>
+    ensures { result ≡ sized count exact }
 {
-    Thousandths::Of { count: 0, exact }
-}
-
-// 10^k
-fn power(k: usize) -> u64
-    requires { k < 19 }
-    ensures { result ≡ 10 ^ k }
-{
-    match k {
-        0 => 1,
-        1 => 10,
-        2 => 100,
-        3 => 1_000,
-        4 => 10_000,
-        5 => 100_000,
-        6 => 1_000_000,
-        7 => 10_000_000,
-        8 => 100_000_000,
-        9 => 1_000_000_000,
-        10 => 10_000_000_000,
-        11 => 100_000_000_000,
-        12 => 1_000_000_000_000,
-        13 => 10_000_000_000_000,
-        14 => 100_000_000_000_000,
-        15 => 1_000_000_000_000_000,
-        16 => 10_000_000_000_000_000,
-        17 => 100_000_000_000_000_000,
-        _ => 1_000_000_000_000_000_000,
+    if Limits::THOUSANDTHS < count {
+        return None;
     }
-}
-
-fn limited(v: u64, exact: bool) -> Thousandths
-    ensures { result ≡ sized v exact }
-{
-    if v <= Limits::THOUSANDTHS {
-        Thousandths::Of {
-            count: v as u32,
-            exact,
-        }
-    } else {
-        Thousandths::Over
-    }
+    Some(Thousandths {
+        count: count as u32,
+        exact,
+    })
 }
 
 // m × 10^k
-fn grown(m: u64, k: usize) -> Thousandths
+fn grown(m: u64, k: usize) -> Option<Thousandths>
     ensures { result ≡ sized (m * 10 ^ k) true }
 {
     if m == 0 {
-        return zero(true);
+        return limited(0, true);
     }
-    if 9 < k {
-        return Thousandths::Over;
+    if 9 < k || Limits::THOUSANDTHS < m {
+        return None;
     }
-    if Limits::THOUSANDTHS < m {
-        return Thousandths::Over;
-    }
-    limited(m * power(k), true)
+    limited(m * 10u64.pow(k as u32), true)
 }
 
 // m / 10^k, rounded: the one place where a value is rounded, by its quotient and its remainder. More than a half goes up, and a half where the quotient is
 // odd. The value is exact where nothing remains.
-fn shrunk(m: u64, k: usize) -> Thousandths
+fn shrunk(m: u64, k: usize) -> Option<Thousandths>
     requires { m < cap }
     ensures { result ≡ sized (nearest m (10 ^ k)) (eqb (m % 10 ^ k) 0) }
 {
     if 18 < k {
-        return zero(m == 0);
+        return limited(0, m == 0);
     }
-    let d = power(k);
+    let d = 10u64.pow(k as u32);
     let q = m / d;
     let r = m % d;
     let exact = r == 0;
@@ -156,7 +106,7 @@ fn shrunk(m: u64, k: usize) -> Thousandths
 }
 
 // m × 10^up / 10^down, rounded.
-fn shifted(m: u64, up: usize, down: usize) -> Thousandths
+fn shifted(m: u64, up: usize, down: usize) -> Option<Thousandths>
     requires { m < cap }
     ensures { result ≡ sized (nearest (m * 10 ^ up) (10 ^ down)) (eqb (m * 10 ^ up % 10 ^ down) 0) }
 {
@@ -167,30 +117,11 @@ fn shifted(m: u64, up: usize, down: usize) -> Thousandths
     }
 }
 
-// n, or 0 where the test holds.
-pub fn unless(test: bool, n: usize) -> usize
-    ensures value { result ≡ cond test 0 n }
-    ensures bounds { result ≤ n }
-{
-    if test { 0 } else { n }
-}
-
-// m × 10^(e − f) × 1000, rounded; `negative` where e has a minus.
-fn to_thousandths(m: u64, f: usize, negative: bool, e: usize) -> Thousandths
-    requires { (m < cap) × (f ≤ 18) × (e ≤ 99) }
-    ensures { result ≡ sized (scaled m f negative e) (is_whole m f negative e) }
-{
-    let up = unless(negative, e) + 3;
-    let down = f + unless(!negative, e);
-    shifted(m, up, down)
-}
-
 // ── numbers ──
 
-// The digits before any exponent: whether they are well formed, the bytes used, the count of digits, their value, and the count behind the point.
+// The digits before any exponent: the bytes used, the count of digits, their value, and the count behind the point.
 #[derive(Clone, Copy)]
 struct Mantissa {
-    ok: bool,
     used: usize,
     count: usize,
     value: u64,
@@ -200,119 +131,105 @@ struct Mantissa {
 // The exponent, of no bytes where there is none.
 #[derive(Clone, Copy)]
 struct Exponent {
-    ok: bool,
     used: usize,
     negative: bool,
     count: usize,
     value: u64,
 }
 
+// A number, of `used` bytes; its size where that is within the limit.
 #[derive(Clone, Copy)]
 pub struct Number {
-    pub ok: bool,
     pub used: usize,
-    pub size: Thousandths,
+    pub size: Option<Thousandths>,
 }
 
-fn mantissa_at(s: &[u8], at: usize) -> Mantissa
+// The digits before any exponent, where they are well formed.
+fn mantissa_at(s: &[u8], at: usize) -> Option<Mantissa>
     requires { at ≤ length s.now }
-    ensures value { result ≡ cut_mantissa (mantissa_of (drop at s.now)) }
-    ensures bounds { at + result.used ≤ length s.now }
+    ensures value { let m = mantissa_of (drop at s.now) in result ≡ then_some m.ok (cut_mantissa m) }
+    ensures bounds { IfSome result (λ m. at + m.used ≤ length s.now) }
 {
     let whole = digits_at(s, at, 0);
-    let n = whole.count;
-    let v = whole.value;
-    let b = octets::byte_or_zero(s, at + n);
-    if b == 46 {
-        let part = digits_at(s, at + (n + 1), v);
-        let k = part.count;
-        Mantissa {
-            ok: 0 < k,
-            used: n + 1 + k,
-            count: n + k,
+    let end = at + whole.count;
+    if s.get(end) == Some(&b'.') {
+        let part = digits_at(s, end + 1, whole.value);
+        (0 < part.count).then_some(Mantissa {
+            used: whole.count + 1 + part.count,
+            count: whole.count + part.count,
             value: part.value,
-            behind: k,
-        }
+            behind: part.count,
+        })
     } else {
-        Mantissa {
-            ok: 0 < n,
-            used: n,
-            count: n,
-            value: v,
+        (0 < whole.count).then_some(Mantissa {
+            used: whole.count,
+            count: whole.count,
+            value: whole.value,
             behind: 0,
-        }
+        })
     }
 }
 
-fn is_exponent(b: u8) -> bool
-    ensures { result ≡ is_e b }
+// How many bytes a sign at a place has: none where there is none.
+pub fn sign_length(s: &[u8], at: usize) -> usize
+    ensures value { result ≡ sign_length (get_or s.now at 0) }
+    ensures bounds { (result ≤ 1) × (result ≤ length s.now - at) }
 {
-    plain::either(b == 101, b == 69)
+    usize::from(matches!(s.get(at), Some(b'+' | b'-')))
 }
 
-// The bytes of a sign, where b is one: 0 is none.
-pub fn sign_length(b: u8) -> usize
-    ensures value { result ≡ sign_length b }
-    ensures bounds { (result ≤ 1) × (result ≤ b) }
-{
-    if plain::either(b == 43, b == 45) {
-        1
-    } else {
-        0
-    }
-}
-
-fn exponent_at(s: &[u8], at: usize) -> Exponent
+// The exponent, where it is well formed.
+fn exponent_at(s: &[u8], at: usize) -> Option<Exponent>
     requires { at ≤ length s.now }
-    ensures value { result ≡ cut_exponent (exponent_of (drop at s.now)) }
-    ensures bounds { at + result.used ≤ length s.now }
+    ensures value { let x = exponent_of (drop at s.now) in result ≡ then_some x.ok (cut_exponent x) }
+    ensures bounds { IfSome result (λ x. at + x.used ≤ length s.now) }
 {
-    if is_exponent(octets::byte_or_zero(s, at)) {
-        let b = octets::byte_or_zero(s, at + 1);
-        let k = 1 + sign_length(b);
-        let d = digits_at(s, at + k, 0);
-        let n = d.count;
-        Exponent {
-            ok: 0 < n,
-            used: k + n,
-            negative: b == 45,
-            count: n,
-            value: d.value,
-        }
-    } else {
-        Exponent {
-            ok: true,
+    if !matches!(s.get(at), Some(b'e' | b'E')) {
+        return Some(Exponent {
             used: 0,
             negative: false,
             count: 0,
             value: 0,
-        }
+        });
+    }
+    let from = 1 + sign_length(s, at + 1);
+    let digits = digits_at(s, at + from, 0);
+    (0 < digits.count).then_some(Exponent {
+        used: from + digits.count,
+        negative: s.get(at + 1) == Some(&b'-'),
+        count: digits.count,
+        value: digits.value,
+    })
+}
+
+// m × 10^(e − f) × 1000, rounded.
+fn to_thousandths(m: Mantissa, x: Exponent) -> Option<Thousandths>
+    requires { (m.value < cap) × (m.behind ≤ 18) × (x.value ≤ 99) }
+    ensures { result ≡ sized (scaled m.value m.behind x.negative x.value) (is_whole m.value m.behind x.negative x.value) }
+{
+    let e = x.value as usize;
+    if x.negative {
+        shifted(m.value, 3, m.behind + e)
+    } else {
+        shifted(m.value, e + 3, m.behind)
     }
 }
 
-pub fn number_at(s: &[u8], at: usize) -> Number
+// The number at a place, where one is well formed there.
+pub fn number_at(s: &[u8], at: usize) -> Option<Number>
     requires { at ≤ length s.now }
-    ensures value { result ≡ number_of (drop at s.now) }
-    ensures bounds { at + result.used ≤ length s.now }
+    ensures value { result ≡ formed (number_of (drop at s.now)) }
+    ensures bounds { IfSome result (λ n. at + n.used ≤ length s.now) }
+    ensures small { IfSome result (λ n. Small n.size) }
 {
-    let m = mantissa_at(s, at);
-    let x = exponent_at(s, at + m.used);
-    let ok = plain::both(m.ok, x.ok);
+    let m = mantissa_at(s, at)?;
+    let x = exponent_at(s, at + m.used)?;
     let used = m.used + x.used;
-    if Limits::DIGITS < m.count {
-        return Number {
-            ok,
-            used,
-            size: Thousandths::Over,
-        };
+    if Limits::DIGITS < m.count || Limits::EXPONENT_DIGITS < x.count {
+        return Some(Number { used, size: None });
     }
-    if Limits::EXPONENT_DIGITS < x.count {
-        return Number {
-            ok,
-            used,
-            size: Thousandths::Over,
-        };
-    }
-    let size = to_thousandths(m.value, m.behind, x.negative, x.value as usize);
-    Number { ok, used, size }
+    Some(Number {
+        used,
+        size: to_thousandths(m, x),
+    })
 }

@@ -1,6 +1,7 @@
+pub mod Words
 pub mod Bytes
 pub mod Loops
 pub mod Places
 pub mod Puts
 pub mod Finds
-pub mod Begins
+pub mod Outputs

@@ -1,13 +1,13 @@
 -- Bytes stored from a place on: one store, one behind another, none, and the laws `left-` of a loop that stores; `sets_append`, by induction, carries them.
 -- Assumes nothing.
 use mathlib.Core.Path.{◌≡◌, refl, sym, ap, ◌∙◌, subst}
-use mathlib.Core.List.{List, [], ◌∷◌, ◌++◌}
-use Prim.Native.Nat.{ℕ, suc, ◌+◌, ◌<◌, ◌≤◌}
+use mathlib.Core.List.{List, [], ◌∷◌, ◌++◌, append_assoc}
+use Prim.Native.Nat.{ℕ, suc, ◌+◌, ◌≤◌}
 use native.Mathlib.Nat.{add-zero}
-use native.Mathlib.Numerals.{add-one}
 use native.Mathlib.Omega.{arith}
-use lib.ListN.{length, get_or, drop, set, length-append}
-use lib.Seq.{sets, sets-eq, length-sets, set_out, drop-cons}
+use lib.ListN.{length, take, drop, set, length-append}
+use lib.Seq.{sets, sets-eq, length-sets, set_out, drop-drop}
+use borrow.Rule.Slice.PartMut.{put_mid}
 use Rattle.octets.specs.Puts.{puts, Put}
 
 -- stores one behind the other
@@ -43,13 +43,12 @@ pub put_as : {l n x y : List ℕ} {at q : ℕ} → x ≡ y → Put l at x q n �
 put_as {l} {n} {x} {y} {at} {q} e f = subst (λ (w : List ℕ). Put l at w q n) e f
 
 -- one byte, with room for it or past the end
-pub put_one : (l : List ℕ) (at b : ℕ) → Put l at (b ∷ []) (at + 1) (set l at b)
+pub put_one : (l : List ℕ) {m : List ℕ} (at b r : ℕ) → r ≡ at + 1 → m ≡ set l at b → Put l at (b ∷ []) r m
 unfolding puts
-put_one l at b = record { behind = refl; is = refl }
+put_one l at b r e f = record { behind = e; is = f }
 
-pub put_past : (l : List ℕ) (at b : ℕ) → length l ≤ at → Put l at (b ∷ []) (at + 1) l
-unfolding puts
-put_past l at b h = record { behind = refl; is = sym (set_out l at b h) }
+pub put_past : (l : List ℕ) {m : List ℕ} (at b r : ℕ) → r ≡ at + 1 → m ≡ l → length l ≤ at → Put l at (b ∷ []) r m
+put_past l at b r e f h = put_one l at b r e (f ∙ sym (set_out l at b h))
 
 -- with room for all of it
 pub put_room : {l n w : List ℕ} {r : ℕ} → Put l 0 w r n → length w ≤ length l → n ≡ w ++ drop (length w) l
@@ -58,6 +57,11 @@ put_room {l} {n} {w} {r} f h = f.is ∙ sets-eq w l 0 (omega arith) ∙ ap (λ (
   where
     zero_plus : (k : ℕ) → 0 + k ≡ k
     zero_plus k = omega arith
+
+-- copied over a part of the slice
+pub copied : (l w : List ℕ) (i k : ℕ) (m : List ℕ) → k ≡ length w → m ≡ w → i + length w ≤ length l → put_mid i k l m ≡ puts l i w
+unfolding puts
+copied l w i k m e f h = rw (f, e, drop-drop, sets-eq w l i h) (sym (append_assoc (take i l) w (drop (i + length w) l)))
 
 -- ── a loop: what is left to store gives the whole ──
 
@@ -85,7 +89,3 @@ left_end {old} {whole} {l} {from} {at} f = record { behind = omega (arith, f.cou
 
 pub left_as : {old whole l x y : List ℕ} {from at : ℕ} → x ≡ y → Left old whole l from at x → Left old whole l from at y
 left_as {old} {whole} {l} {x} {y} {from} {at} e f = subst (λ (w : List ℕ). Left old whole l from at w) e f
-
--- bytes of a list, from a place on
-pub byte_next : (s : List ℕ) (i : ℕ) → i < length s → drop i s ≡ (get_or s i 0 ∷ []) ++ drop (i + 1) s
-byte_next s i h = rw (add-one, drop-cons s i 0)

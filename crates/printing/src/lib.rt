@@ -3,13 +3,14 @@
 #![tactic(auto)]
 
 ghost use Rattle.std.specs.Prelude.{◌≡◌, ◌≤◌, ◌<◌, length, take, IfOk, OnOk};
+ghost use Rattle.label.specs.Cause.{cause_number};
 ghost use Rattle.label.specs.Outcome.{no};
 ghost use Rattle.label.specs.Relabel.{printed, relabel_read};
-ghost use Rattle.printing.specs.Lines.{number_after, line_of, run_lines};
+ghost use Rattle.printing.specs.Lines.{counts_line, line_of, run_lines};
 ghost use Rattle.std.specs.Io.KnownBytes.{Appends, Consumes, IsAtEnd};
 
-use label::{Limits, Refusal};
-use lines::{Relabelled, Relabelling};
+use label::{Counts, Limits, Refusal};
+use lines::Relabelled;
 use std::io;
 use std::io::{Read, Write};
 
@@ -30,10 +31,15 @@ pub fn read_full<R: Read>(input: &mut R, buf: &mut [u8]) -> io::Result<usize>
     Ok(done)
 }
 
-fn print_number<W: Write>(out: &mut W, n: usize) -> io::Result<()>
-    ensures { OnOk result (Appends (W.contents out.old) (W.contents out.new) (number_after n)) }
+fn print_counts<W: Write>(out: &mut W, counts: Counts) -> io::Result<()>
+    ensures { OnOk result (Appends (W.contents out.old) (W.contents out.new) (counts_line counts)) }
 {
-    write!(out, " {n}")
+    let Counts {
+        units,
+        clusters,
+        glyphs,
+    } = counts;
+    writeln!(out, "ok {units} {clusters} {glyphs}")
 }
 
 fn print_line<W: Write>(out: &mut W, s: &[u8]) -> io::Result<()>
@@ -44,12 +50,9 @@ fn print_line<W: Write>(out: &mut W, s: &[u8]) -> io::Result<()>
 }
 
 fn print_refusal<W: Write>(out: &mut W, x: Refusal) -> io::Result<()>
-    ensures { OnOk result (Appends (W.contents out.old) (W.contents out.new) (printed (no x.number x.place))) }
+    ensures { OnOk result (Appends (W.contents out.old) (W.contents out.new) (printed (no (cause_number x.cause) x.place))) }
 {
-    out.write_all(b"no")?;
-    print_number(out, x.number)?;
-    print_number(out, x.place)?;
-    print_line(out, b"")
+    writeln!(out, "no {x}")
 }
 
 // The first n bytes, or all where there are fewer.
@@ -63,15 +66,9 @@ fn print_run<W: Write>(out: &mut W, x: Relabelled, text: &[u8], indices: &[u8]) 
     ensures { let lines = run_lines x.read (take x.written.text text.now) (take x.written.indices indices.now) in
         OnOk result (Appends (W.contents out.old) (W.contents out.new) lines) }
 {
-    let read = x.read;
-    let written = x.written;
-    out.write_all(b"ok")?;
-    print_number(out, read.units)?;
-    print_number(out, read.clusters)?;
-    print_number(out, read.glyphs)?;
-    print_line(out, b"")?;
-    print_line(out, part(text, written.text))?;
-    print_line(out, part(indices, written.indices))
+    print_counts(out, x.read)?;
+    print_line(out, part(text, x.written.text))?;
+    print_line(out, part(indices, x.written.indices))
 }
 
 // Prints what `relabel` prints of a label's two lines.
@@ -81,7 +78,7 @@ pub fn print_label<W: Write>(out: &mut W, text: &[u8], indices: &[u8]) -> io::Re
     let mut out_text = [0u8; Limits::TEXT_BYTES];
     let mut out_indices = [0u8; Limits::INDICES_BYTES];
     match lines::relabel(text, indices, &mut out_text, &mut out_indices) {
-        Relabelling::Ok(x) => print_run(out, x, &out_text, &out_indices),
-        Relabelling::No(x) => print_refusal(out, x),
+        Ok(x) => print_run(out, x, &out_text, &out_indices),
+        Err(x) => print_refusal(out, x),
     }
 }

@@ -1,6 +1,8 @@
 -- The call: from the counts that were found to the run (`Found`), and 16 to 18, which hold those counts to the room.
 -- Assumes nothing.
-use Rattle.survey.specs.Steps.{Starts}
+use Rattle.survey.specs.Steps.{said_no}
+use Rattle.label.specs.Cause.{cause_number}
+use Rattle.std.specs.Prelude.{Result, Ok, Err}
 use Rattle.label.proofs.Steps.{walk_end, read_steps, into_steps}
 use Prim.Native.Nat.{ℕ, ◌*◌, ◌≤◌, ◌<◌}
 use native.Mathlib.Omega.{arith}
@@ -17,7 +19,7 @@ use Rattle.label.specs.Run.{Run, Parts, cluster, add_glyph, tail, State, start_s
 use Rattle.label.specs.Checks.{read}
 use Rattle.label.specs.Steps.{walk}
 use Rattle.label.specs.Wire.{from_halves}
-use Rattle.label.specs.Calls.{refusal, reading_outcome, reading_rounded, filled, read_into, counts, counted, units_after, clusters_after, glyphs_after}
+use Rattle.label.specs.Calls.{reading_outcome, reading_rounded, filled, read_into, counts, counted, units_after, clusters_after, glyphs_after}
 use Rattle.label.specs.Requests.RoundedCount.{beside}
 use Rattle.reader.specs.Stores.{cluster_bytes, glyph_bytes, Fillable}
 use Rattle.label.specs.declared.Cluster.{Cluster}
@@ -25,7 +27,6 @@ use Rattle.label.specs.declared.Glyph.{Glyph}
 use Rattle.label.specs.declared.Counts.{Counts}
 use Rattle.label.specs.declared.Refusal.{Refusal}
 use Rattle.label.specs.declared.Reading.{Reading}
-use Rattle.label.specs.declared.Reading.TheVariants.{Read, Refused}
 use Rattle.label.proofs.Basics.{need_ok, no_ok, and_r}
 use Rattle.label.proofs.Lists.{counted_no}
 use Rattle.label.proofs.Run.{ok_path, Walked, walk_ok}
@@ -99,15 +100,8 @@ found t s n h = go (read t s) refl h
     go (no i p) q x = no_ok i p n x
 
 -- by what the survey says
-module _ (t s : List ℕ) {r : Reading} (h : reading_outcome r ≡ counted (read t s)) {n : Counts} {k : ℕ} (e : r ≡ Read n k) where
-  pub counts_are : counted (read t s) ≡ ok n
-  counts_are = sym h ∙ ap reading_outcome e
-
-  pub found_by : Found t (units_start t) s n
-  found_by = found t s n counts_are
-
-  pub starts_at : {b : ℕ} → Starts t r b → b ≡ units_start t
-  starts_at {b} x = subst (λ (q : Reading). Starts t q b) e x
+pub found_by : (t s : List ℕ) (n : Counts) → ok n ≡ counted (read t s) → Found t (units_start t) s n
+found_by t s n h = found t s n (sym h)
 
 -- ── the buffers of an accepted label ──
 
@@ -138,7 +132,7 @@ module _ {t : List ℕ} {b : ℕ} {s : List ℕ} {m u c g : ℕ} (p : Fillable t
 -- ── 16 to 18 ──
 
 -- the five clauses of a reading: its answer, how many fields were rounded, and what its three buffers hold
-abbrev pub Reads : Outcome Run → ℕ → Reading → List ℕ → List ℕ → List ℕ → List ℕ → List ℕ → List ℕ → Type 0
+abbrev pub Reads : Outcome Run → ℕ → Result Reading Refusal → List ℕ → List ℕ → List ℕ → List ℕ → List ℕ → List ℕ → Type 0
 Reads o k r units₀ units clusters₀ clusters glyphs₀ glyphs =
     record {
       result : reading_outcome r ≡ counted o;
@@ -149,8 +143,8 @@ Reads o k r units₀ units clusters₀ clusters glyphs₀ glyphs =
     }
 
 module _ (t s : List ℕ) (m : Counts) where
-  pub into_refused : (r : Reading) (x : Refusal) → reading_outcome r ≡ counted (read t s) → r ≡ Refused x → read_into m t s ≡ no x.number x.place
-  into_refused r x h e = into_steps m t s ∙ rw (counted_no (read t s) x.number x.place (sym h ∙ ap reading_outcome e))
+  pub into_refused : (x : Refusal) → said_no x ≡ counted (read t s) → read_into m t s ≡ said_no x
+  into_refused x h = into_steps m t s ∙ rw (counted_no (read t s) (cause_number x.cause) x.place (sym h))
 
   module _ {b : ℕ} (n : Counts) (f : Found t b s n) where
     pub into_16 : m.units < n.units → read_into m t s ≡ no 16 n.units
@@ -184,18 +178,14 @@ module _ (t s : List ℕ) (m : Counts) where
         )
 
 -- a refusal: the answer, and nothing changed
-pub nothing_read : (o : Outcome Run) (k : ℕ) (r : Reading) (n p : ℕ) (units clusters glyphs : List ℕ) → o ≡ no n p → r ≡ Refused (refusal n p)
-    → Reads o k r units units clusters clusters glyphs glyphs
-nothing_read o k r n p units clusters glyphs e h =
-    rw (e, h) (record { result = refl; rounded = refl; units = refl; clusters = refl; glyphs = refl })
+pub nothing_read : (o : Outcome Run) (k : ℕ) (x : Refusal) (units clusters glyphs : List ℕ) → o ≡ said_no x
+    → Reads o k (Err x) units units clusters clusters glyphs glyphs
+nothing_read o k x units clusters glyphs e = rw e (record { result = refl; rounded = refl; units = refl; clusters = refl; glyphs = refl })
 
 -- the run: its counts, and the buffers filled
-pub run_read : (t s : List ℕ) (o : Outcome Run) (k : ℕ) (r : Reading) (n : Counts) (m : ℕ) (units₀ units clusters₀ clusters glyphs₀ glyphs : List ℕ)
-    → o ≡ read t s
-    → reading_outcome r ≡ counted (read t s) → reading_rounded r ≡ beside k (read t s) → r ≡ Read n m → units ≡ units_after (read t s) units₀
+pub run_read : (t s : List ℕ) (o : Outcome Run) (k : ℕ) (x : Reading) (units₀ units clusters₀ clusters glyphs₀ glyphs : List ℕ) → o ≡ read t s
+    → ok x.counts ≡ counted (read t s) → x.rounded ≡ beside k (read t s) → units ≡ units_after (read t s) units₀
     → clusters ≡ clusters_after (read t s) clusters₀ → glyphs ≡ glyphs_after (read t s) glyphs₀
-    → Reads o k (Read n m) units₀ units clusters₀ clusters glyphs₀ glyphs
-run_read t s o k r n m units₀ units clusters₀ clusters glyphs₀ glyphs e h l q a b d =
-    rw e (
-    record { result = ap reading_outcome (sym q) ∙ h; rounded = ap reading_rounded (sym q) ∙ l; units = a; clusters = b; glyphs = d }
-    )
+    → Reads o k (Ok x) units₀ units clusters₀ clusters glyphs₀ glyphs
+run_read t s o k x units₀ units clusters₀ clusters glyphs₀ glyphs e h l a b d =
+    rw e (record { result = h; rounded = l; units = a; clusters = b; glyphs = d })

@@ -21,7 +21,6 @@ use Rattle.label.specs.Places.{flat_glyphs}
 use Rattle.label.specs.Calls.{filled}
 use Rattle.label.specs.Requests.RoundedCount.{rounded_entry}
 use Rattle.label.specs.declared.Cursor.{Cursor}
-use Rattle.label.specs.declared.Refusal.{Refusal}
 use Rattle.label.proofs.Basics.{cases, need_ok, no_ok}
 use Rattle.label.proofs.Lists.{empty_is}
 use Rattle.label.proofs.Run.{ok_path, Walked, walk_ok, step_ok}
@@ -29,7 +28,6 @@ use Rattle.label.proofs.Cursors.{joined, after, added}
 use Rattle.number.specs.Digits.{cap}
 use Rattle.entry.specs.Items.{here}
 use Rattle.entry.specs.declared.Item.{Item}
-use Rattle.entry.specs.declared.EntryRead.TheVariants.{Read, Refused}
 use Rattle.survey.specs.Steps.{item_entry, advanced, entry_at}
 use Rattle.reader.specs.Stores.{taken_by, opened_here, cluster_bytes, glyph_bytes, cluster_places, glyph_places, Storable}
 use Rattle.survey.proofs.Entries.{left_from, left_is, left_few}
@@ -148,13 +146,13 @@ module _ (us s : List ℕ) (all : Parts) (good : walk (empty us) (start_state us
       head = here (drop c.place s)
 
       -- an accepted label has no entry that is refused
-      pub fill_never : {A : Type 0} (r : Refusal) → entry_at s c ≡ Refused r → A
-      fill_never r e =
-          never r.number r.place
-          (refusing us s pre lack c st hi r.number r.place
-          (step_no (empty us) (state_of us c lack) head r.number r.place (refused_is (length head) (rounded_entry head) (entry c.entry head) r e)))
+      pub fill_never : {A : Type 0} (i p : ℕ) → entry_at s c ≡ no i p → A
+      fill_never i p e =
+          never i p
+          (refusing us s pre lack c st hi i p
+          (step_no (empty us) (state_of us c lack) head i p (refused_is (length head) (rounded_entry head) (entry c.entry head) i p e)))
 
-      fill_turn : (x : Item) (n a : ℕ) → entry_at s c ≡ Read x → n ≡ length us → a ≡ taken_by n c.lack x.units
+      fill_turn : (x : Item) (n a : ℕ) → entry_at s c ≡ ok x → n ≡ length us → a ≡ taken_by n c.lack x.units
           → (d : Cursor) → d ≡ advanced c 0 a x.glyphs (c.place + x.used + 1) → Turned us s pre lack c d a x
       fill_turn x n a e en ea d ed =
           let (e₁, is, ex) = read_is (length head) (rounded_entry head) (entry c.entry head) x e in
@@ -227,7 +225,7 @@ module _ (us s : List ℕ) (all : Parts) (good : walk (empty us) (start_state us
 
   module _ (c₀ g₀ cs gs : List ℕ) (c : Cursor) (l : Filled us s c₀ g₀ cs gs c) (hi : c.place ≤ length s) (hc : 8 * length all.clusters ≤ length c₀)
       (hg : 16 * length all.glyphs ≤ length g₀)
-      (n : ℕ) (en : n ≡ length us) (x : Item) (h : entry_at s c ≡ Read x) where
+      (n : ℕ) (en : n ≡ length us) (x : Item) (h : entry_at s c ≡ ok x) where
     abbrev units : ℕ
     units = taken_by n c.lack x.units
 

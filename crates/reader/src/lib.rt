@@ -16,27 +16,29 @@ ghost use Rattle.text.specs.Texts.{units_start};
 ghost use Rattle.survey.specs.Steps.{advanced};
 ghost use Rattle.reader.specs.Stores.{taken_by, opened_here, glyph_places, cluster_bytes, glyph_bytes, Storable, Fillable};
 
+use label::{Advance, Cause, Cursor, Glyph, Index, Reading, Refusal};
+
 // An index's number, and an advance's, by its bits.
-fn index_bits(i: label::Index) -> u32
+fn index_bits(i: Index) -> u32
     ensures { result ≡ bits_of (index_number i) }
 {
     match i {
-        label::Index::Named(n) => n as u32,
-        label::Index::Font => 0xffff_ffff,
+        Index::Named(n) => u32::from(n),
+        Index::Font => 0xffff_ffff,
     }
 }
 
-fn advance_bits(a: label::Advance) -> u32
+fn advance_bits(a: Advance) -> u32
     ensures { result ≡ bits_of (advance_number a) }
 {
     match a {
-        label::Advance::Given(n) => n,
-        label::Advance::Own => 0xffff_ffff,
+        Advance::Given(n) => n,
+        Advance::Own => 0xffff_ffff,
     }
 }
 
 // Glyph k's 16 bytes.
-fn put_glyph(out: &mut [u8], k: usize, g: label::Glyph)
+fn put_glyph(out: &mut [u8], k: usize, g: Glyph)
     requires { 16 * k + 15 < length out.old }
     ensures { out.new ≡ sets out.old (16 * k) (glyph_places g) }
 {
@@ -89,9 +91,9 @@ fn fill_tail(units: &[u8], n: usize, k: usize, clusters: &mut [u8], glyphs: &mut
         put_glyph(
             glyphs,
             g,
-            label::Glyph {
-                index: label::Index::Font,
-                advance: label::Advance::Own,
+            Glyph {
+                index: Index::Font,
+                advance: Advance::Own,
                 u: 0,
                 v: 0,
             },
@@ -115,11 +117,11 @@ fn taken(count: usize, lack: usize, units: usize) -> usize
 // The cluster that entry x opens, if any, and its glyph; returns the cursor behind it.
 fn put_entry(
     count: usize,
-    at: label::Cursor,
+    at: Cursor,
     x: entry::Item,
     clusters: &mut [u8],
     glyphs: &mut [u8],
-) -> label::Cursor
+) -> Cursor
     requires { Storable count at x (length clusters.old) (length glyphs.old) }
     ensures value { result ≡ advanced at 0 (taken_by count at.lack x.units) x.glyphs (at.place + x.used + 1) }
     ensures clusters { let a = taken_by count at.lack x.units in
@@ -159,13 +161,11 @@ fn fill(
             at = put_entry(count, at, entry::index_item(digits), clusters, glyphs);
         } else {
             match entry::read_entry(&indices[place..], digits, at.entry) {
-                entry::EntryRead::Read(x) => {
+                Ok(x) => {
                     at = put_entry(count, at, x, clusters, glyphs);
                 }
                 // An accepted label has no such entry.
-                entry::EntryRead::Refused(_) => {
-                    return;
-                }
+                Err(_) => unreachable!(),
             }
         }
     }
@@ -181,7 +181,7 @@ pub fn read(
     units: &mut [u8],
     clusters: &mut [u8],
     glyphs: &mut [u8],
-) -> label::Reading
+) -> Result<Reading, Refusal>
     ensures result { let room = room_of units.old clusters.old glyphs.old in
         reading_outcome result ≡ counted (read_into room text.now indices.now) }
     ensures rounded { let room = room_of units.old clusters.old glyphs.old in
@@ -193,30 +193,25 @@ pub fn read(
     ensures glyphs { let room = room_of units.old clusters.old glyphs.old in
         glyphs.new ≡ glyphs_after (read_into room text.now indices.now) glyphs.old }
 {
-    let found = survey::survey(text, indices);
-    let reading = found.reading;
-    match reading {
-        label::Reading::Read { counts, rounded } => {
-            if units.len() / 2 < counts.units {
-                return label::Reading::refused(16, counts.units);
-            }
-            if clusters.len() / 8 < counts.clusters {
-                return label::Reading::refused(17, counts.clusters);
-            }
-            if glyphs.len() / 16 < counts.glyphs {
-                return label::Reading::refused(18, counts.glyphs);
-            }
-            fill(
-                text,
-                found.start,
-                indices,
-                counts.units,
-                units,
-                clusters,
-                glyphs,
-            );
-            label::Reading::Read { counts, rounded }
-        }
-        label::Reading::Refused(r) => label::Reading::Refused(r),
+    let found = survey::survey(text, indices)?;
+    let counts = found.reading.counts;
+    if units.len() / 2 < counts.units {
+        return Err(Cause::UnitRoom.at(counts.units));
     }
+    if clusters.len() / 8 < counts.clusters {
+        return Err(Cause::ClusterRoom.at(counts.clusters));
+    }
+    if glyphs.len() / 16 < counts.glyphs {
+        return Err(Cause::GlyphRoom.at(counts.glyphs));
+    }
+    fill(
+        text,
+        found.start,
+        indices,
+        counts.units,
+        units,
+        clusters,
+        glyphs,
+    );
+    Ok(found.reading)
 }

@@ -43,11 +43,8 @@ fn asks_for_help(rt: &impl Env) -> bool {
 fn print_first<W: Write>(out: &mut W, s: &[u8]) -> io::Result<()>
     ensures { OnOk result (Appends (W.contents out.old) (W.contents out.new) (relabel s.now)) }
 {
-    let l = lines::two_lines(s, 0);
-    let text_end = l.text_end;
-    let start = l.start;
-    let end = l.end;
-    printing::print_label(out, &s[..text_end], &s[start..end])
+    let lines = lines::two_lines(s);
+    printing::print_label(out, lines.text, lines.indices)
 }
 
 // 65,536 bytes hold two lines of the lengths that are read, and show that a longer line is too long.

@@ -1,66 +1,28 @@
 -- The tail behind the entries, counted a cluster for each character, and what each end of the walk comes to in the counts of the run.
 -- Assumes nothing.
 use Rattle.label.proofs.Steps.{run_steps}
-use Prim.Native.Nat.{ℕ, suc, ◌+◌, ◌≤◌, ◌<◌}
-use native.Mathlib.Omega.{arith}
+use Prim.Native.Nat.{ℕ, ◌+◌, ◌<◌}
 use native.Mathlib.Nat.{zero-add}
 use mathlib.Core.Path.{◌≡◌, refl, sym, ◌∙◌, ap}
 use mathlib.Core.Bool.{Bool, true, false, ◌&&◌}
-use mathlib.Core.List.{List, []}
+use mathlib.Core.List.{List}
 use lib.Dec.{eqb, leb}
 use lib.ListN.{length, drop, length-append}
 use Rattle.label.specs.Outcome.{Outcome, ok, no, ◌>>=◌, ◌>>◌, need}
 use Rattle.label.specs.Bytes.{empty}
 use Rattle.label.specs.Entry.{entries}
 use Rattle.label.specs.Run.{Run, Parts, tail, start_state}
-use Rattle.label.specs.Steps.{decode, walk, run_from}
-use Rattle.label.specs.Calls.{refusal, reading_outcome, counted}
+use Rattle.label.specs.Steps.{walk, run_from}
+use Rattle.label.specs.Calls.{counted}
 use Rattle.label.specs.declared.Cursor.{Cursor}
-use Rattle.label.specs.declared.Reading.{Reading}
-use Rattle.label.specs.declared.Reading.TheVariants.{Refused}
 use Rattle.label.proofs.Lists.{empty_is}
-use Rattle.label.proofs.Tails.{tail_nil, tail_even, tail_few, tail_char}
-use Rattle.label.proofs.Run.{ok_path}
-use Rattle.label.proofs.Cursors.{joined, decode_end}
-use Rattle.utf8.specs.Chars.{char_at}
+use Rattle.label.proofs.Tails.{tail_even}
+use Rattle.label.proofs.Cursors.{joined}
 use Rattle.text.specs.Moves.{units_from}
-use Rattle.utf8.specs.declared.Char.TheVariants.{Good}
-use Rattle.text.proofs.Moves.{Here, here_good}
 use Rattle.survey.specs.Steps.{counts_within, counted_from}
 use Rattle.survey.proofs.Walking.{Stands, Ready, At, units_here, ends_shut}
 
--- ── the tail's clusters, a character each ──
-
--- at byte b, n of the tail's clusters are counted; those of the units from there on are left
-pub record Counting (text : List ℕ) (byte b n : ℕ) : Type 0 where
-  pub rest : List ℕ
-  pub here : decode 0 b (drop b text) ≡ ok rest
-  pub count : n + length (tail rest).clusters ≡ length (tail (units_from text byte)).clusters
-
-pub counting_start : (text : List ℕ) (byte : ℕ) → decode 0 byte (drop byte text) ≡ ok (units_from text byte) → Counting text byte byte 0
-counting_start text byte h = record { rest = units_from text byte; here = h; count = zero-add (length (tail (units_from text byte)).clusters) }
-
-module _ {text : List ℕ} {byte b n : ℕ} (x : Counting text byte b n) where
-  pub counting_few : length (units_from text byte) ≤ 4096 → n ≤ 4096
-  counting_few h = omega (arith, x.count, tail_few (units_from text byte))
-
-  pub counting_next : {code next : ℕ} → b < length text → char_at text b ≡ Good code next → Counting text byte next (n + 1)
-  counting_next {code} {next} l g =
-      let y : Here text b code next x.rest = here_good text b code next x.rest x.here l g in
-      let e : length (tail x.rest).clusters ≡ suc (length (tail y.others).clusters) =
-      ap (λ (us : List ℕ). length (tail us).clusters) (sym y.is) ∙ rw (tail_char code y.others y.xml) in
-      record { rest = y.others; here = y.next; count = omega (arith, x.count) }
-
-  pub counting_end : length text ≤ b → n ≡ length (tail (units_from text byte)).clusters
-  counting_end l =
-      let e : [] ≡ x.rest = ok_path [] x.rest (sym (decode_end text b l) ∙ x.here) in
-      let z : length (tail x.rest).clusters ≡ 0 = rw (← e, tail_nil) in
-      omega (arith, x.count)
-
 -- ── counts ──
-
-pub refused_outcome : (r : Reading) (n p : ℕ) → r ≡ Refused (refusal n p) → reading_outcome r ≡ no n p
-refused_outcome r n p h = rw h
 
 -- the counts with a tail of n clusters: it has as many glyphs
 pub tail_counted : (us : List ℕ) (n u c g : ℕ) → n ≡ length (tail us).clusters → counts_within u (c + n) (g + n) ≡ counted_from u c g (ok (tail us))
@@ -100,8 +62,8 @@ module _ (us s : List ℕ) where
   nothing_is b n e h = rw (e, h, ← empty_is us, ← empty_is s)
 
   -- 6
-  pub run_nothing : (r : Reading) → r ≡ Refused (refusal 6 0) → (empty us && empty s) ≡ true → reading_outcome r ≡ counted (run_from us s)
-  run_nothing r q h = rw (q, run_steps us s, h)
+  pub run_nothing : (empty us && empty s) ≡ true → no 6 0 ≡ counted (run_from us s)
+  run_nothing h = rw (run_steps us s, h)
 
   -- a walk that is refused
   pub run_stop : (n p : ℕ) → (empty us && empty s) ≡ false → walk (empty us) (start_state us) (entries s) ≡ no n p → no n p ≡ counted (run_from us s)

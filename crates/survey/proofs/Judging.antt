@@ -11,15 +11,15 @@ use lib.ListN.{length, drop}
 use Rattle.label.specs.Outcome.{Outcome, ok, no, ◌>>=◌}
 use Rattle.label.specs.Checks.{read}
 use Rattle.label.specs.Steps.{decode, text_units, run_from}
-use Rattle.label.specs.Calls.{refusal, counted}
+use Rattle.label.specs.Calls.{outcome_of, counted}
+use Rattle.label.specs.Cause.{cause_number}
 use Rattle.label.specs.declared.Refusal.{Refusal}
+use Rattle.std.specs.Prelude.{Result, Ok, Err}
 use Rattle.label.proofs.Basics.{clash}
 use Rattle.label.proofs.Sound.{text_ok}
 use Rattle.text.specs.Moves.{units_from}
 use Rattle.text.specs.Texts.{units_start, units_read, text_read}
 use Rattle.text.specs.declared.TextUnits.{TextUnits}
-use Rattle.text.specs.declared.TextRead.{TextRead}
-use Rattle.text.specs.declared.TextRead.TheVariants.{Units, Refused as TextRefused}
 use Rattle.text.proofs.Texts.{text_from}
 use Rattle.survey.proofs.Walking.{units_at_holds}
 
@@ -46,11 +46,11 @@ text_has t us h =
     }
 
 -- the same by the code's answer
-pub text_units_holds : (t : List ℕ) (r : TextRead) (u : TextUnits) → r ≡ text_read t → r ≡ Units u → TextHas t u.count u.start
+pub text_units_holds : (t : List ℕ) (r : Result TextUnits Refusal) (u : TextUnits) → outcome_of r ≡ text_read t → r ≡ Ok u → TextHas t u.count u.start
 unfolding text_read
-text_units_holds t r u e h = go (text_units t) refl (sym e ∙ h)
+text_units_holds t r u e h = go (text_units t) refl (sym e ∙ ap outcome_of h)
   where
-    go : (o : Outcome (List ℕ)) → text_units t ≡ o → units_read (units_start t) o ≡ Units u → TextHas t u.count u.start
+    go : (o : Outcome (List ℕ)) → text_units t ≡ o → units_read (units_start t) o ≡ ok u → TextHas t u.count u.start
     go (ok us) q x =
         let n : length us ≡ u.count = cc in
         let s : units_start t ≡ u.start = cc in
@@ -74,10 +74,12 @@ module _ (t s : List ℕ) where
     pub read_units : (n at : ℕ) → TextHas t n at → counted (run_from (units_from t at) s) ≡ counted (read t s)
     read_units n at x = sym (ap counted (read_text ∙ ap (λ (o : Outcome (List ℕ)). o >>= (λ us. run_from us s)) x.is))
 
-    pub text_refused : (r : TextRead) (x : Refusal) → r ≡ text_read t → r ≡ TextRefused x → no x.number x.place ≡ counted (read t s)
+    pub text_refused : (r : Result TextUnits Refusal) (x : Refusal) → outcome_of r ≡ text_read t → r ≡ Err x
+        → no (cause_number x.cause) x.place ≡ counted (read t s)
     unfolding text_read
-    text_refused r x e h = sym (ap counted (read_text ∙ go (text_units t) (sym e ∙ h)))
+    text_refused r x e h = sym (ap counted (read_text ∙ go (text_units t) (sym e ∙ ap outcome_of h)))
       where
-        go : (o : Outcome (List ℕ)) → units_read (units_start t) o ≡ TextRefused x → (o >>= (λ us. run_from us s)) ≡ no x.number x.place
+        go : (o : Outcome (List ℕ)) → units_read (units_start t) o ≡ no (cause_number x.cause) x.place
+            → (o >>= (λ us. run_from us s)) ≡ no (cause_number x.cause) x.place
         go (ok us) q = let z : true ≡ false = cc in clash true refl z
-        go (no i p) q = let y : refusal i p ≡ x = cc in rw (← y)
+        go (no i p) q = cc

@@ -14,45 +14,39 @@ use Rattle.label.specs.Entry.{Entry}
 use Rattle.label.specs.Run.{named, keeps_pair, State}
 use Rattle.label.specs.Steps.{decode, placed}
 use Rattle.label.specs.Calls.{refusal}
+use Rattle.label.specs.declared.Cause.TheVariants as C
 use Rattle.label.specs.declared.Cursor.{Cursor}
 use Rattle.label.specs.declared.Refusal.{Refusal}
-use Rattle.label.proofs.Basics.{and_l, and_r, cases, clash}
+use Rattle.label.proofs.Basics.{cases, clash}
 use Rattle.text.specs.Moves.{units_from, Moves}
-use Rattle.text.specs.declared.Moved.{Moved}
-use Rattle.text.specs.declared.Moved.TheVariants.{To, Past, Half}
+use Rattle.text.specs.declared.MoveFault.{MoveFault}
+use Rattle.text.specs.declared.MoveFault.TheVariants.{PastEnd, InsidePair}
+use Rattle.std.specs.Prelude.{Result, Ok, Err}
 use Rattle.number.specs.Digits.{cap}
 use Rattle.number.specs.declared.Digits.{Digits}
 use Rattle.entry.specs.Items.{cut_item, entry_read, index_item}
 use Rattle.entry.specs.declared.Item.{Item}
-use Rattle.entry.specs.declared.EntryRead.TheVariants.{Read, Refused}
-use Rattle.survey.specs.declared.Turn.{Turn}
-use Rattle.survey.specs.declared.Turn.TheVariants.{Took, Stopped}
-use Rattle.survey.specs.Steps.{item_entry, advanced, Opens, Turns, Carries, state_at}
+use Rattle.survey.specs.Steps.{item_entry, advanced, said_no, Opens, Turns, state_at}
 
 -- ── 12 and 13, by a move over the text ──
 
 module _ (text : List ℕ) (c : Cursor) (a b i : ℕ) where
-  -- a move that goes on, and one that would split a pair, stay inside the units
-  pub moves_fit : (m : Moved) (j : ℕ) → Moves text c.byte a m → m ≡ To j → a ≤ length (units_from text c.byte)
-  moves_fit m j h e = leb-true a (length (units_from text c.byte)) (subst (Moves text c.byte a) e h).0
-
-  pub half_fit : (m : Moved) → Moves text c.byte a m → m ≡ Half → a ≤ length (units_from text c.byte)
-  half_fit m h e = leb-true a (length (units_from text c.byte)) (subst (Moves text c.byte a) e h).0
-
-  pub opens_to : (m : Moved) (j : ℕ) (d : Cursor) (k : ℕ) → Moves text c.byte a m → m ≡ To j → d ≡ advanced c j a b i → Opens text c a b i (Took d k)
+  pub opens_to : (m : Result ℕ MoveFault) (j : ℕ) (d : Cursor) → Moves text c.byte a m → m ≡ Ok j → d ≡ advanced c j a b i → Opens text c a b i (Ok d)
   unfolding Opens advanced
-  opens_to m j d k h e q =
+  opens_to m j d h e q =
       let r = subst (Moves text c.byte a) e h in
       let y : d.byte ≡ j = ap (λ (x : Cursor). x.byte) q in
       (r.0, r.1, subst (λ (k : ℕ). d ≡ advanced c k a b i) (sym y) q, rw y r.2)
 
-  pub opens_past : (m : Moved) (r : Turn) → Moves text c.byte a m → m ≡ Past → r ≡ Stopped (refusal 12 c.entry) → Opens text c a b i r
+  pub opens_past : (m : Result ℕ MoveFault) (r : Refusal) → Moves text c.byte a m → m ≡ Err PastEnd → r ≡ refusal C.PastTextEnd c.entry
+      → Opens text c a b i (Err r)
   unfolding Opens
   opens_past m r h e q =
       let x : leb a (length (units_from text c.byte)) ≡ false = subst (Moves text c.byte a) e h in
       rw (q, x)
 
-  pub opens_half : (m : Moved) (r : Turn) → Moves text c.byte a m → m ≡ Half → r ≡ Stopped (refusal 13 (c.unit + a)) → Opens text c a b i r
+  pub opens_half : (m : Result ℕ MoveFault) (r : Refusal) → Moves text c.byte a m → m ≡ Err InsidePair → r ≡ refusal C.SplitPair (c.unit + a)
+      → Opens text c a b i (Err r)
   unfolding Opens
   opens_half m r h e q =
       let x = subst (Moves text c.byte a) e h in
@@ -70,74 +64,55 @@ module _ (bare : Bool) (text : List ℕ) (c : Cursor) (x : Item) where
   abbrev plain : Bool
   plain = not x.mapped && named x.glyph.index
 
-  pub turn_ten : (r : Turn) → r ≡ Stopped (refusal 10 c.entry) → enough ≡ false → Turns bare text c x r
+  pub turn_ten : (r : Refusal) → r ≡ refusal C.ZeroCount c.entry → enough ≡ false → Turns bare text c x (Err r)
   unfolding Turns
   turn_ten r q h = rw (q, placed_steps bare (state_at text c) (item_entry x), h)
 
-  pub turn_eleven : (r : Turn) → r ≡ Stopped (refusal 11 c.entry) → enough ≡ true → (free || plain) ≡ false → Turns bare text c x r
+  pub turn_eleven : (r : Refusal) → r ≡ refusal C.MisplacedEntry c.entry → enough ≡ true → (free || plain) ≡ false → Turns bare text c x (Err r)
   unfolding Turns
   turn_eleven r q h f = rw (q, placed_steps bare (state_at text c) (item_entry x), h, f)
 
   -- an entry that opens a cluster
-  pub turn_opens : (r : Turn) → Opens text c x.units x.glyphs (c.place + x.used + 1) r → enough ≡ true → free ≡ true → Turns bare text c x r
+  pub turn_opens : (r : Result Cursor Refusal) → Opens text c x.units x.glyphs (c.place + x.used + 1) r → enough ≡ true → free ≡ true → Turns bare text c x r
   unfolding Turns Opens
-  turn_opens (Took d k) o h f = rw (placed_steps bare (state_at text c) (item_entry x), h, f) (rw (o.0, o.1), o.2, o.3)
-  turn_opens (Stopped r) o h f = rw (placed_steps bare (state_at text c) (item_entry x), h, f)
+  turn_opens (Ok d) o h f = rw (placed_steps bare (state_at text c) (item_entry x), h, f) (rw (o.0, o.1), o.2, o.3)
+  turn_opens (Err r) o h f = rw (placed_steps bare (state_at text c) (item_entry x), h, f)
       (go (leb x.units (length (units_from text c.byte))) (keeps_pair x.units (units_from text c.byte)) o)
     where
-      go : (p q : Bool) → (need p 12 c.entry >> need q 13 (c.unit + x.units)) ≡ no r.number r.place
-          → (need p 12 c.entry >> (need q 13 (c.unit + x.units) >> ok (item_entry x))) ≡ no r.number r.place
+      go : (p q : Bool) → (need p 12 c.entry >> need q 13 (c.unit + x.units)) ≡ said_no r
+          → (need p 12 c.entry >> (need q 13 (c.unit + x.units) >> ok (item_entry x))) ≡ said_no r
       go true true o = let z : true ≡ false = cc in clash true refl z
       go true false o = cc
       go false q o = cc
 
   -- a further glyph, or an entry of a text without units
-  pub turn_further : (d : Cursor) (n : ℕ) → d ≡ advanced c c.byte 0 x.glyphs (c.place + x.used + 1)
+  pub turn_further : (d : Cursor) → d ≡ advanced c c.byte 0 x.glyphs (c.place + x.used + 1)
       → decode 0 c.byte (drop c.byte text) ≡ ok (units_from text c.byte)
-      → enough ≡ true → (free || plain) ≡ true → free ≡ false → Turns bare text c x (Took d n)
+      → enough ≡ true → free ≡ false → plain ≡ true → Turns bare text c x (Ok d)
   unfolding Turns advanced
-  turn_further d n q k h o f =
+  turn_further d q k h f p =
       let y : d.byte ≡ c.byte = ap (λ (z : Cursor). z.byte) q in
-      let p : plain ≡ true = rw f at o in
       rw (placed_steps bare (state_at text c) (item_entry x), h, f, p)
       (refl, subst (λ (k : ℕ). d ≡ advanced c k 0 x.glyphs (c.place + x.used + 1)) (sym y) q, rw y k)
 
--- an entry that was not taken brings nothing along
-pub stopped_carries : (r : Turn) (x : Refusal) (n : ℕ) → r ≡ Stopped x → Carries n r
-stopped_carries r x n e = rw e tt
-
--- an index alone at a character of one byte, by the code's flags
+-- an index alone at a character of one byte
 pub turn_plain : (bare : Bool) (text : List ℕ) (c : Cursor) (n : Digits) (d : Cursor) → (eqb c.lack 0 && not bare) ≡ true
-    → Moves text c.byte 1 (To (c.byte + 1))
-    → d ≡ advanced c (c.byte + 1) 1 1 (c.place + n.count + 1) → Turns bare text c (index_item n) (Took d 0)
+    → Moves text c.byte 1 (Ok (c.byte + 1))
+    → d ≡ advanced c (c.byte + 1) 1 1 (c.place + n.count + 1) → Turns bare text c (index_item n) (Ok d)
 turn_plain bare text c n d f m e =
-    turn_opens bare text c (index_item n) (Took d 0) (opens_to text c 1 1 (c.place + n.count + 1) (To (c.byte + 1)) (c.byte + 1) d 0 m refl e) refl f
-
--- the flags of that put together
-pub plain_is : (free plain index : Bool) {both quick : Bool} → both ≡ (free && plain) → quick ≡ (both && index) → quick ≡ true
-    → (free ≡ true) × (plain ≡ true) × (index ≡ true)
-plain_is free plain index e f h =
-    let t : (free && plain && index) ≡ true = rw (f, e) at h in
-    let u = and_l (free && plain) index t in
-    (and_l free plain u, and_r free plain u, and_r (free && plain) index t)
-
--- the flags of 11 put together
-pub allowed_is : (o f p n a m d : Bool) → o ≡ (f || p) → f ≡ a → p ≡ (m && n) → n ≡ d → o ≡ (a || (m && d))
-allowed_is o f p n a m d eo ef ep en = rw (eo, ef, ep, en)
+    turn_opens bare text c (index_item n) (Ok d) (opens_to text c 1 1 (c.place + n.count + 1) (Ok (c.byte + 1)) (c.byte + 1) d m refl e) refl f
 
 -- ── the cut ──
 
 -- what reading an entry says of it
-pub read_is : (n r : ℕ) (o : Outcome Entry) (x : Item) → entry_read n r o ≡ Read x → (e : Entry) × (o ≡ ok e) × (cut_item n r e ≡ x)
+pub read_is : (n r : ℕ) (o : Outcome Entry) (x : Item) → entry_read n r o ≡ ok x → (e : Entry) × (o ≡ ok e) × (cut_item n r e ≡ x)
 read_is n r (ok e) x h = (e, refl, cc)
 read_is n r (no i p) x h = let z : true ≡ false = cc in clash true refl z
 
 -- and what refusing it says
-pub refused_is : (n m : ℕ) (o : Outcome Entry) (r : Refusal) → entry_read n m o ≡ Refused r → o ≡ no r.number r.place
-refused_is n m (ok e) r h = let z : true ≡ false = cc in clash true refl z
-refused_is n m (no i p) r h =
-    let q : refusal i p ≡ r = cc in
-    rw (← q)
+pub refused_is : (n m : ℕ) (o : Outcome Entry) (i p : ℕ) → entry_read n m o ≡ no i p → o ≡ no i p
+refused_is n m (ok e) i p h = let z : true ≡ false = cc in clash true refl z
+refused_is n m (no j q) i p h = cc
 
 one_cut : (a : ℕ) → leb 1 (min a cap) ≡ leb 1 a
 one_cut a =

@@ -5,7 +5,8 @@ use Prim.Native.Nat.{ℕ, ◌+◌, ◌≤◌, ◌<◌}
 use native.Mathlib.Omega.{arith}
 use native.Mathlib.Nat.{zero-add, add-zero, add_assoc}
 use mathlib.Core.Path.{◌≡◌, refl, sym, ◌∙◌, ap}
-use mathlib.Core.Bool.{false, ◌&&◌}
+use mathlib.Core.Bool.{true, false, ◌&&◌}
+use Rattle.label.proofs.Basics.{clash}
 use mathlib.Core.List.{List}
 use lib.Dec.{eqb}
 use lib.ListN.{length, drop}
@@ -16,17 +17,17 @@ use Rattle.label.specs.Checks.{read}
 use Rattle.label.specs.Calls.{reading_outcome, reading_rounded, counted}
 use Rattle.label.specs.Requests.RoundedCount.{rounded_entry, rounded_entries, rounded, beside}
 use Rattle.label.specs.declared.Cursor.{Cursor}
-use Rattle.label.specs.declared.Reading.{Reading}
-use Rattle.label.specs.declared.Reading.TheVariants.{Read, Refused}
+use Rattle.label.specs.Cause.{cause_number}
+use Rattle.std.specs.Prelude.{Result, Ok, Err}
 use Rattle.label.specs.declared.Refusal.{Refusal}
 use Rattle.label.proofs.Lists.{counted_no}
 use Rattle.label.proofs.Cursors.{joined, added}
 use Rattle.label.proofs.Requests.RoundedCount.{rounded_few}
 use Rattle.entry.specs.Items.{here}
 use Rattle.entry.specs.declared.Item.{Item}
-use Rattle.survey.specs.declared.Turn.{Turn}
-use Rattle.survey.specs.declared.Turn.TheVariants.{Took}
-use Rattle.survey.specs.Steps.{first_cursor, Steps, Starts}
+use Rattle.survey.specs.declared.Step.{Step}
+use Rattle.survey.specs.declared.Surveyed.{Surveyed}
+use Rattle.survey.specs.Steps.{first_cursor, said_no, Steps, Starts, reading_of}
 use Rattle.survey.proofs.Entries.{left_from, left_is, left_none, left_all}
 use Rattle.survey.proofs.Walking.{state_of, Stands, Ready, At, Turned, code_took}
 
@@ -77,9 +78,9 @@ pub record Underway (text us s : List ℕ) (c : Cursor) (n : ℕ) : Type 0 where
 
 -- one entry more, in a text of m units
 pub surveyed_on : (text us s : List ℕ) (c : Cursor) (n : ℕ) → Underway text us s c n → c.place ≤ length s → (m : ℕ) → m ≡ length us
-    → (r : Turn) → Steps (eqb m 0) text s c r → (d : Cursor) (k : ℕ) → r ≡ Took d k → Underway text us s d (n + k) × (c.place < d.place)
-surveyed_on text us s c n l hi m em r h d k e =
-    let (x, w, a, q) = code_took text us s l.pre l.lack c l.stands l.ready l.at hi m em r h d k e in (
+    → (r : Result Step Refusal) → Steps (eqb m 0) text s c r → (t : Step) → r ≡ Ok t → Underway text us s t.next (n + t.rounded) × (c.place < t.next.place)
+surveyed_on text us s c n l hi m em r h t e =
+    let (x, w, a, q) = code_took text us s l.pre l.lack c l.stands l.ready l.at hi m em r h t e in (
       record {
         pre = joined l.pre (added (empty us) (state_of us c l.lack) w.e);
         lack = w.lack';
@@ -87,35 +88,30 @@ surveyed_on text us s c n l hi m em r h d k e =
         ready = w.ready;
         at = a;
         some = l.some;
-        rounds = rounding_on us s l.pre l.lack c d _ x w hi n k q l.rounds;
+        rounds = rounding_on us s l.pre l.lack c t.next _ x w hi n t.rounded q l.rounds;
       },
       omega (arith, w.place_is),
     )
 
 -- ── the answer ──
 
--- a refusal's count is 0
-pub none_rounded : (r : Reading) (x : Refusal) (n : ℕ) → r ≡ Refused x → reading_rounded r ≡ beside n (reading_outcome r)
-none_rounded r x n e = rw e
-
 -- the three clauses of a survey: its answer, how many fields were rounded, and where the units start
-abbrev Surveys : List ℕ → List ℕ → Reading → ℕ → Type 0
-Surveys t s r at =
-    record { reading_value : reading_outcome r ≡ counted (read t s); rounded : reading_rounded r ≡ beside (rounded s) (read t s); start : Starts t r at }
+abbrev pub Surveys : List ℕ → List ℕ → Result Surveyed Refusal → Type 0
+Surveys t s r =
+    record {
+      reading_value : reading_outcome (reading_of r) ≡ counted (read t s);
+      rounded : reading_rounded (reading_of r) ≡ beside (rounded s) (read t s);
+      start : Starts t r;
+    }
 
--- a refusal, and an answer that is handed on
-pub refuses : (t s : List ℕ) {r : Reading} (at : ℕ) {x : Refusal} → r ≡ Refused x → no x.number x.place ≡ counted (read t s) → Surveys t s r at
-refuses t s at {x} e h = rw e (record { reading_value = h; rounded = rw (counted_no (read t s) x.number x.place (sym h)); start = tt })
+-- a refusal
+pub refuses : (t s : List ℕ) (x : Refusal) → said_no x ≡ counted (read t s) → Surveys t s (Err x)
+refuses t s x h = record { reading_value = h; rounded = rw (counted_no (read t s) (cause_number x.cause) x.place (sym h)); start = tt }
 
-pub judges : (t s : List ℕ) (r : Reading) {at : ℕ} → reading_outcome r ≡ counted (read t s) → reading_rounded r ≡ beside (rounded s) (reading_outcome r)
-    → at ≡ units_start t
-    → Surveys t s r at
-judges t s r {at} e h a = record { reading_value = e; rounded = h ∙ ap (beside (rounded s)) e ∙ go (read t s); start = starts r }
+-- an answer that is handed on
+pub judges : (t s : List ℕ) (x : Surveyed) → ok x.reading.counts ≡ counted (read t s) → x.reading.rounded ≡ rounded s → x.start ≡ units_start t → Surveys t s (Ok x)
+judges t s x e h a = record { reading_value = e; rounded = h ∙ go (read t s) (sym e); start = a }
   where
-    go : (o : Outcome Run) → beside (rounded s) (counted o) ≡ beside (rounded s) o
-    go (ok x) = refl
-    go (no i p) = refl
-
-    starts : (q : Reading) → Starts t q at
-    starts (Read c n) = a
-    starts (Refused x) = tt
+    go : (o : Outcome Run) → counted o ≡ ok x.reading.counts → rounded s ≡ beside (rounded s) o
+    go (ok r) k = refl
+    go (no i p) k = let z : true ≡ false = cc in clash true refl z

@@ -28,15 +28,14 @@ use Rattle.label.proofs.Run.{Stepped, step_ok}
 use Rattle.label.proofs.Sound.{entry_facts}
 use Rattle.label.proofs.Cursors.{joined, after, added, walk_good, walk_bad, part_rest}
 use Rattle.text.specs.Moves.{units_from}
-use Rattle.number.specs.Digits.{cap, digits_from}
-use Rattle.number.specs.declared.Digits.{Digits}
+use Rattle.number.specs.Digits.{cap}
 use Rattle.entry.specs.Items.{cut_item, here, entry_here}
 use Rattle.entry.specs.declared.Item.{Item}
-use Rattle.entry.specs.declared.EntryRead.{EntryRead}
-use Rattle.entry.specs.declared.EntryRead.TheVariants.{Read, Refused}
-use Rattle.survey.specs.declared.Turn.{Turn}
-use Rattle.survey.specs.declared.Turn.TheVariants.{Took, Stopped}
-use Rattle.survey.specs.Steps.{first_cursor, state_at, item_entry, advanced, Turns, Carries, entry_at, Stops, Steps}
+use Rattle.label.specs.Calls.{outcome_of}
+use Rattle.label.specs.Cause.{cause_number}
+use Rattle.std.specs.Prelude.{Result, Ok, Err}
+use Rattle.survey.specs.declared.Step.{Step}
+use Rattle.survey.specs.Steps.{first_cursor, state_at, item_entry, advanced, said_no, Turns, entry_at, Stops, Steps}
 use Rattle.survey.proofs.Entries.{left_from, left_is, left_none, left_all, here_inside}
 use Rattle.survey.proofs.Placing.{read_is, refused_is, over, placed_cut}
 
@@ -293,7 +292,7 @@ module _ (text us s : List ℕ) (pre : Parts) (lack : ℕ) (c : Cursor) (st : St
   head = here (drop c.place s)
 
   -- an entry that was read, and what 10 to 13 say of it
-  step_read : (x : Item) → entry_at s c ≡ Read x → (o : Outcome Entry) → placed (empty us) (state_at text c) (item_entry x) ≡ o
+  step_read : (x : Item) → entry_at s c ≡ ok x → (o : Outcome Entry) → placed (empty us) (state_at text c) (item_entry x) ≡ o
       → (e : Entry) × (cut_item (length head) (rounded_entry head) e ≡ x) × (step (empty us) (state_of us c lack) head ≡ over e o)
   step_read x h o q =
       let (e, is, ex) = read_is (length head) (rounded_entry head) (entry c.entry head) x h in
@@ -310,10 +309,10 @@ module _ (text us s : List ℕ) (pre : Parts) (lack : ℕ) (c : Cursor) (st : St
             ∙ ap (over e) q',
       )
 
-  turn_took : (x : Item) (d : Cursor) (k : ℕ) → entry_at s c ≡ Read x → Turns (empty us) text c x (Took d k)
+  turn_took : (x : Item) (d : Cursor) → entry_at s c ≡ ok x → Turns (empty us) text c x (Ok d)
       → Turned us s pre lack c d (takes (empty us) (state_at text c) (item_entry x)) x × At text us d
   unfolding Turns
-  turn_took x d k h t =
+  turn_took x d h t =
       let (e, ex, q) = step_read x h (ok (item_entry x)) t.0 in
       let n = takes (empty us) (state_at text c) (item_entry x) in
       let u : takes (empty us) (state_of us c lack) e ≡ n =
@@ -326,60 +325,60 @@ module _ (text us s : List ℕ) (pre : Parts) (lack : ℕ) (c : Cursor) (st : St
       ∙ ap (λ (y : Item). advanced c d.byte (takes (empty us) (state_of us c lack) e) y.glyphs (c.place + y.used + 1)) (sym ex) in
       (turned us s pre lack c st rd hi e q d.byte d x n ex u ed, further_on text us c d n x.glyphs (c.place + x.used + 1) at t.1 t.2)
 
-  turn_stopped : (x : Item) (r : Refusal) → entry_at s c ≡ Read x → Turns (empty us) text c x (Stopped r)
-      → walk (empty us) (start_state us) (entries s) ≡ no r.number r.place
+  turn_stopped : (x : Item) (r : Refusal) → entry_at s c ≡ ok x → Turns (empty us) text c x (Err r)
+      → walk (empty us) (start_state us) (entries s) ≡ said_no r
   unfolding Turns
-  turn_stopped x r h t = let (e, ex, q) = step_read x h (no r.number r.place) t in refusing us s pre lack c st hi r.number r.place q
+  turn_stopped x r h t = let (e, ex, q) = step_read x h (said_no r) t in refusing us s pre lack c st hi (cause_number r.cause) r.place q
 
-  turn_unread : (r : Refusal) → entry_at s c ≡ Refused r → walk (empty us) (start_state us) (entries s) ≡ no r.number r.place
-  turn_unread r h =
-      refusing us s pre lack c st hi r.number r.place
-      (step_no (empty us) (state_of us c lack) head r.number r.place (refused_is (length head) (rounded_entry head) (entry c.entry head) r h))
+  turn_unread : (i p : ℕ) → entry_at s c ≡ no i p → walk (empty us) (start_state us) (entries s) ≡ no i p
+  turn_unread i p h =
+      refusing us s pre lack c st hi i p
+      (step_no (empty us) (state_of us c lack) head i p (refused_is (length head) (rounded_entry head) (entry c.entry head) i p h))
 
   -- the code's step, in a text of n units
-  module _ (n : ℕ) (en : n ≡ length us) (r : Turn) (h : Steps (eqb n 0) text s c r) where
+  module _ (n : ℕ) (en : n ≡ length us) (r : Result Step Refusal) (h : Steps (eqb n 0) text s c r) where
     steps_here : Steps (empty us) text s c r
     steps_here = subst (λ (b : Bool). Steps b text s c r) (ap (λ (m : ℕ). eqb m 0) en ∙ sym (empty_is us)) h
 
-    pub code_took : (d : Cursor) (k : ℕ) → r ≡ Took d k
-        → (x : Item) × Turned us s pre lack c d (takes (empty us) (state_at text c) (item_entry x)) x × At text us d × (k ≡ x.rounded)
+    pub code_took : (t : Step) → r ≡ Ok t
+        → (x : Item) × Turned us s pre lack c t.next (takes (empty us) (state_at text c) (item_entry x)) x × At text us t.next × (t.rounded ≡ x.rounded)
     unfolding Steps
-    code_took d k e = let (x, i, t, q) = subst (Steps (empty us) text s c) e steps_here in let w = turn_took x d k i t in (x, w.0, w.1, q)
+    code_took t e = let (x, i, u, q) = subst (Steps (empty us) text s c) e steps_here in let w = turn_took x t.next i u in (x, w.0, w.1, q)
 
-    pub code_stopped : (q : Refusal) → r ≡ Stopped q → walk (empty us) (start_state us) (entries s) ≡ no q.number q.place
+    pub code_stopped : (q : Refusal) → r ≡ Err q → walk (empty us) (start_state us) (entries s) ≡ said_no q
     unfolding Steps
     code_stopped q e = let (o, i, t) = subst (Steps (empty us) text s c) e steps_here in go o i t
       where
-        go : (o : EntryRead) → entry_at s c ≡ o → Stops (empty us) text c q o → walk (empty us) (start_state us) (entries s) ≡ no q.number q.place
-        go (Read x) i t = turn_stopped x q i t
-        go (Refused p) i t = turn_unread q (i ∙ ap Refused t)
+        go : (o : Outcome Item) → entry_at s c ≡ o → Stops (empty us) text c q o → walk (empty us) (start_state us) (entries s) ≡ said_no q
+        go (ok x) i t = turn_stopped x q i t
+        go (no j p) i t = rw (t.0, t.1) (turn_unread j p i)
 
 -- ── the reading of an entry, as the code has it: the indices from the cursor's place on were handed to it ──
 
 abbrev pub handed : List ℕ → ℕ → List ℕ
 handed s i = take (length s - i) (drop i s)
 
-module _ (s : List ℕ) (c : Cursor) (o : EntryRead) (eo : o ≡ entry_here c.entry (handed s c.place)) where
-  pub read_here : (q : EntryRead) → o ≡ q → entry_at s c ≡ q
-  read_here q e = sym (eo ∙ ap (entry_here c.entry) (part_rest s c.place)) ∙ e
-
-pub digits_here : (s : List ℕ) (i : ℕ) (d : Digits) → d ≡ digits_from 0 (drop i s) → i + d.count ≤ length s
-    → (d ≡ digits_from 0 (handed s i)) × (d.count ≤ length (handed s i))
-digits_here s i d e b = rw (part_rest s i) (e, rw (length-drop i s) (omega (arith, b)))
+module _ (s : List ℕ) (c : Cursor) (o : Result Item Refusal) (eo : outcome_of o ≡ entry_here c.entry (handed s c.place)) where
+  pub read_here : (q : Result Item Refusal) → o ≡ q → entry_at s c ≡ outcome_of q
+  read_here q e = sym (eo ∙ ap (entry_here c.entry) (part_rest s c.place)) ∙ ap outcome_of e
 
 -- what was read, and what 10 to 13 say of it, is a step
-pub steps_read : (bare : Bool) (text s : List ℕ) (c : Cursor) (x : Item) (r : Turn) → entry_at s c ≡ Read x → Turns bare text c x r → Carries x.rounded r
-    → Steps bare text s c r
+pub steps_took : (bare : Bool) (text s : List ℕ) (c : Cursor) (x : Item) (t : Step) → entry_at s c ≡ ok x → Turns bare text c x (Ok t.next)
+    → t.rounded ≡ x.rounded → Steps bare text s c (Ok t)
 unfolding Steps
-steps_read bare text s c x (Took d k) h t q = (x, h, t, q)
-steps_read bare text s c x (Stopped r) h t q = (Read x, h, t)
+steps_took bare text s c x t h u q = (x, h, u, q)
 
-pub steps_refused : (bare : Bool) (text s : List ℕ) (c : Cursor) (r : Refusal) → entry_at s c ≡ Refused r → Steps bare text s c (Stopped r)
+pub steps_turned : (bare : Bool) (text s : List ℕ) (c : Cursor) (x : Item) (r : Refusal) → entry_at s c ≡ ok x → Turns bare text c x (Err r)
+    → Steps bare text s c (Err r)
 unfolding Steps
-steps_refused bare text s c r h = (Refused r, h, refl)
+steps_turned bare text s c x r h t = (ok x, h, t)
+
+pub steps_refused : (bare : Bool) (text s : List ℕ) (c : Cursor) (r : Refusal) → entry_at s c ≡ said_no r → Steps bare text s c (Err r)
+unfolding Steps
+steps_refused bare text s c r h = (said_no r, h, (refl, refl))
 
 -- where an entry was read, its bytes are inside
-pub read_inside : (s : List ℕ) (c : Cursor) (x : Item) → entry_at s c ≡ Read x → c.place ≤ length s → c.place + x.used ≤ length s
+pub read_inside : (s : List ℕ) (c : Cursor) (x : Item) → entry_at s c ≡ ok x → c.place ≤ length s → c.place + x.used ≤ length s
 read_inside s c x h hi =
     let (y, is, ex) = read_is (length (here (drop c.place s))) (rounded_entry (here (drop c.place s))) (entry c.entry (here (drop c.place s))) x h in
     let u : length (here (drop c.place s)) ≡ x.used = ap (λ (z : Item). z.used) ex in

@@ -1,25 +1,23 @@
 -- What the first pass's steps come to, over label's definitions: the cursor in the place of label's state, one entry, and the counts.
 -- Assumes nothing.
-use Rattle.std.specs.Prelude.{ℕ, ◌+◌, ◌-◌, ◌≡◌, Bool, true, cond, List, leb, eqb, length, drop}
+use Rattle.std.specs.Prelude.{ℕ, ◌+◌, ◌-◌, ◌≡◌, Bool, true, cond, List, leb, eqb, length, drop, Result, Ok, Err}
 use Rattle.label.specs.Limits.{max_glyphs}
 use Rattle.label.specs.Outcome.{Outcome, ok, no, ◌>>◌, need}
 use Rattle.label.specs.Bytes.{empty}
 use Rattle.label.specs.Entry.{Entry}
 use Rattle.label.specs.Run.{Parts, keeps_pair, State, takes}
 use Rattle.label.specs.Steps.{decode, placed}
+use Rattle.label.specs.Cause.{cause_number}
 use Rattle.label.specs.declared.Cursor.{Cursor}
 use Rattle.label.specs.declared.Counts.{Counts}
-use Rattle.label.specs.declared.Refusal.{Refusal}
 use Rattle.label.specs.declared.Reading.{Reading}
-use Rattle.label.specs.declared.Reading.TheVariants.{Read as Accepted, Refused as NotRead}
+use Rattle.label.specs.declared.Refusal.{Refusal}
 use Rattle.text.specs.Moves.{units_from}
 use Rattle.text.specs.Texts.{units_start}
 use Rattle.entry.specs.Items.{entry_here}
 use Rattle.entry.specs.declared.Item.{Item}
-use Rattle.entry.specs.declared.EntryRead.{EntryRead}
-use Rattle.entry.specs.declared.EntryRead.TheVariants.{Read, Refused}
-use Rattle.survey.specs.declared.Turn.{Turn}
-use Rattle.survey.specs.declared.Turn.TheVariants.{Took, Stopped}
+use Rattle.survey.specs.declared.Step.{Step}
+use Rattle.survey.specs.declared.Surveyed.{Surveyed}
 
 -- where the first entry starts; past the end where there is none
 abbrev pub first_place : List ℕ → ℕ
@@ -50,41 +48,40 @@ advanced c b units glyphs i =
       clusters = cond (eqb c.lack 0) (c.clusters + 1) c.clusters;
     }
 
+-- a refusal, by its number and its place
+abbrev pub said_no : {A : Type 0} → Refusal → Outcome A
+said_no r = no (cause_number r.cause) r.place
+
 -- what 12 and 13 come to for an entry that opens a cluster of a units and b glyphs
-unfoldable pub Opens : List ℕ → Cursor → ℕ → ℕ → ℕ → Turn → Type 0
-Opens text c a b i (Took d n) =
+unfoldable pub Opens : List ℕ → Cursor → ℕ → ℕ → ℕ → Result Cursor Refusal → Type 0
+Opens text c a b i (Ok d) =
     let us = units_from text c.byte in
     (leb a (length us) ≡ true) × (keeps_pair a us ≡ true) × (d ≡ advanced c d.byte a b i) × (decode 0 d.byte (drop d.byte text) ≡ ok (drop a us))
-Opens text c a b i (Stopped r) =
+Opens text c a b i (Err r) =
     let us = units_from text c.byte in
-    (need (leb a (length us)) 12 c.entry >> need (keeps_pair a us) 13 (c.unit + a)) ≡ no r.number r.place
+    (need (leb a (length us)) 12 c.entry >> need (keeps_pair a us) 13 (c.unit + a)) ≡ said_no r
 
 -- what an entry's checks 10 to 13 come to: the cursor behind it, from whose byte on the units not used yet stand, or the refusal
-unfoldable pub Turns : Bool → List ℕ → Cursor → Item → Turn → Type 0
-Turns bare text c x (Took d n) =
+unfoldable pub Turns : Bool → List ℕ → Cursor → Item → Result Cursor Refusal → Type 0
+Turns bare text c x (Ok d) =
     (placed bare (state_at text c) (item_entry x) ≡ ok (item_entry x))
     × (d ≡ advanced c d.byte (takes bare (state_at text c) (item_entry x)) x.glyphs (c.place + x.used + 1))
     × (decode 0 d.byte (drop d.byte text) ≡ ok (drop (takes bare (state_at text c) (item_entry x)) (units_from text c.byte)))
-Turns bare text c x (Stopped r) = placed bare (state_at text c) (item_entry x) ≡ no r.number r.place
-
--- an entry that was taken brings along how many of its fields were rounded
-abbrev pub Carries : ℕ → Turn → Type 0
-Carries m (Took d n) = n ≡ m
-Carries m (Stopped r) = Unit {0}
+Turns bare text c x (Err r) = placed bare (state_at text c) (item_entry x) ≡ said_no r
 
 -- the reading of the entry at a cursor's place: 7 to 9
-abbrev pub entry_at : List ℕ → Cursor → EntryRead
+abbrev pub entry_at : List ℕ → Cursor → Outcome Item
 entry_at s c = entry_here c.entry (drop c.place s)
 
 -- why an entry, read as o, stops the walk: it is refused itself, or by 10 to 13
-abbrev pub Stops : Bool → List ℕ → Cursor → Refusal → EntryRead → Type 0
-Stops bare text c r (Read x) = Turns bare text c x (Stopped r)
-Stops bare text c r (Refused q) = q ≡ r
+abbrev pub Stops : Bool → List ℕ → Cursor → Refusal → Outcome Item → Type 0
+Stops bare text c r (ok x) = Turns bare text c x (Err r)
+Stops bare text c r (no i p) = (cause_number r.cause ≡ i) × (r.place ≡ p)
 
--- what 7 to 13 come to for the entry at a cursor's place
-unfoldable pub Steps : Bool → List ℕ → List ℕ → Cursor → Turn → Type 0
-Steps bare text s c (Took d n) = (x : Item) × (entry_at s c ≡ Read x) × Turns bare text c x (Took d n) × Carries x.rounded (Took d n)
-Steps bare text s c (Stopped r) = (o : EntryRead) × (entry_at s c ≡ o) × Stops bare text c r o
+-- what 7 to 13 come to for the entry at a cursor's place; an entry that was taken brings along how many of its fields were rounded
+unfoldable pub Steps : Bool → List ℕ → List ℕ → Cursor → Result Step Refusal → Type 0
+Steps bare text s c (Ok t) = (x : Item) × (entry_at s c ≡ ok x) × Turns bare text c x (Ok t.next) × (t.rounded ≡ x.rounded)
+Steps bare text s c (Err r) = (o : Outcome Item) × (entry_at s c ≡ o) × Stops bare text c r o
 
 -- ── the counts ──
 
@@ -98,6 +95,11 @@ counted_from u c g (ok p) = counts_within u (c + length p.clusters) (g + length 
 counted_from u c g (no n p) = no n p
 
 -- the byte where the units start, of a text that was read; of one that was refused nothing is said
-abbrev pub Starts : List ℕ → Reading → ℕ → Type 0
-Starts text (Accepted c n) at = at ≡ units_start text
-Starts text (NotRead x) at = Unit {0}
+abbrev pub Starts : List ℕ → Result Surveyed Refusal → Type 0
+Starts text (Ok x) = x.start ≡ units_start text
+Starts text (Err r) = Unit {0}
+
+-- what the call answers of it: its reading, or the refusal
+abbrev pub reading_of : Result Surveyed Refusal → Result Reading Refusal
+reading_of (Ok x) = Ok x.reading
+reading_of (Err r) = Err r

@@ -1,4 +1,6 @@
+pub mod Walk
 pub mod Counts
 pub mod Moves
-pub mod Texts
 pub mod Fills
+pub mod Tails
+pub mod Texts

@@ -1,119 +1,95 @@
--- A move over a text's characters is one over its units: `Left` splits the units into passed and left, `here_good` takes a character, and a fault contradicts
--- the reading.
+-- A move over a text's characters is one over its units: behind the first k of them the others are left, and one character takes its own from those.
 -- Assumes nothing.
-use Prim.Native.Nat.{ℕ, ◌+◌, ◌-◌, ◌/◌, ◌%◌, ◌≤◌, ◌<◌}
+use Prim.Native.Nat.{ℕ, ◌+◌, ◌-◌, ◌%◌, ◌≤◌, ◌<◌}
 use native.Mathlib.Omega.{arith}
+use native.Mathlib.Nat.{add-zero}
 use mathlib.Core.Path.{◌≡◌, refl, sym, ◌∙◌, ap}
-use mathlib.Core.Bool.{true}
-use mathlib.Core.List.{List, [], ◌∷◌, ◌++◌, append_assoc}
-use borrow.Author.Tests.{le-leb, lt-leb, leb-true, leb-false}
+use mathlib.Core.Bool.{true, false}
+use mathlib.Core.List.{List, [], ◌∷◌, ◌++◌}
+use borrow.Author.Tests.{le-leb}
 use lib.Dec.{leb}
-use lib.ListN.{length, get_or, drop, length-append}
-use lib.Seq.{get_or-drop, drop-append-add, drop-append_seam}
-use Rattle.label.specs.Outcome.{ok}
-use Rattle.label.specs.Text.{within, xml_char, is_low, units_of}
+use lib.ListN.{length, get_or, drop, length-append, length-drop}
+use lib.Seq.{get_or-drop, drop-drop, drop-append_seam}
+use Rattle.std.specs.Prelude.{Result, Ok}
+use Rattle.label.specs.Outcome.{Outcome, ok, no}
+use Rattle.label.specs.Run.{keeps_pair}
+use Rattle.label.specs.Text.{within, is_low, units_of}
 use Rattle.label.specs.Steps.{decode}
-use Rattle.utf8.specs.Chars.{char_at}
-use Rattle.text.specs.Moves.{units_from, Moves}
-use Rattle.utf8.specs.declared.Char.TheVariants.{Good, Ill, Outside}
-use Rattle.text.specs.declared.Moved.TheVariants.{To, Past, Half}
-use Rattle.label.proofs.Basics.{bind_ok, no_ok, cases, within_is}
+use Rattle.label.specs.declared.Refusal.{Refusal}
+use Rattle.label.proofs.Cursors.{onto}
+use Rattle.label.proofs.Basics.{no_ok, cases, within_is, within_hi}
 use Rattle.label.proofs.Run.{ok_path}
 use Rattle.label.proofs.Text.{proper_first}
 use Rattle.label.proofs.Sound.{decode_proper}
-use Rattle.label.proofs.Cursors.{decode_end}
-use Rattle.utf8.proofs.Chars.{char_plain, char_reads, char_stands}
-use Rattle.text.proofs.Counts.{plain_one, one_is, two_are}
+use Rattle.utf8.specs.declared.Char.{Char}
+use Rattle.text.specs.Walk.{characters_from}
+use Rattle.utf8.proofs.Chars.{char_plain}
+use Rattle.text.proofs.Walk.{good_first, units_read, reads}
 
--- what is left: units are passed, and at byte b the units r are left, of which a are still to pass
-pub record Left (s : List ℕ) (at count b a : ℕ) : Type 0 where
-  pub passed : List ℕ
-  pub r : List ℕ
-  pub here : decode 0 b (drop b s) ≡ ok r
-  pub all : passed ++ r ≡ units_from s at
-  pub counts : length passed + a ≡ count
+-- units us, and of these characters the units behind the first k
+abbrev pub Left : List ℕ → ℕ → List (Result Char Refusal) → Type 0
+Left us k cs = units_read cs ≡ ok (drop k us)
 
-pub left_start : (s : List ℕ) (at count : ℕ) → decode 0 at (drop at s) ≡ ok (units_from s at) → Left s at count at count
-left_start s at count h = record { passed = []; r = units_from s at; here = h; all = refl; counts = omega arith }
+-- at the start all are
+pub left_all : (s us : List ℕ) (i : ℕ) → decode 0 i (drop i s) ≡ ok us → Left us 0 (characters_from s i)
+left_all s us i h = sym (reads 0 i (drop i s)) ∙ h
 
-left_rest : (s : List ℕ) (at count b a : ℕ) (x : Left s at count b a) → drop count (units_from s at) ≡ drop a x.r
-left_rest s at count b a x = rw (← x.all, ← x.counts) (drop-append-add x.passed x.r a)
+-- as a number that is 0
+pub left_at_none : (s us : List ℕ) (i k : ℕ) → decode 0 i (drop i s) ≡ ok us → k ≡ 0 → Left us k (characters_from s i)
+left_at_none s us i k h e = rw e (left_all s us i h)
 
-left_unit : (s : List ℕ) (at count b a : ℕ) (x : Left s at count b a) → get_or (units_from s at) count 0 ≡ get_or x.r a 0
-left_unit s at count b a x =
-    rw (← x.all, ← x.counts) (sym (get_or-drop (length x.passed) (x.passed ++ x.r) a 0)
-    ∙ ap (λ (l : List ℕ). get_or l a 0) (drop-append_seam x.passed x.r))
+-- where no character is left, no unit is
+pub left_none : (us : List ℕ) (k : ℕ) → Left us k [] → length us ≤ k
+left_none us k h = omega (arith, length-drop k us, ap length (ok_path [] (drop k us) h))
 
-left_length : (s : List ℕ) (at count b a : ℕ) (x : Left s at count b a) → length (units_from s at) ≡ length x.passed + length x.r
-left_length s at count b a x = rw (← x.all) (length-append x.passed x.r)
+pub taken : (x : List ℕ) (o : Outcome (List ℕ)) (d : List ℕ) → onto x o ≡ ok d → (d ≡ x ++ drop (length x) d) × (o ≡ ok (drop (length x) d))
+taken x (ok q) d h = let e = ok_path (x ++ q) d h in rw (← e, drop-append_seam x q) (refl, refl)
+taken x (no n p) d h = no_ok n p d h
 
--- the character at b, and what is left behind it
-pub record Here (s : List ℕ) (b c j : ℕ) (r : List ℕ) : Type 0 where
-  pub others : List ℕ
-  pub next : decode 0 j (drop j s) ≡ ok others
-  pub is : units_of c ++ others ≡ r
-  pub xml : xml_char c ≡ true
+-- the first character has the first of the units that are left, and the others behind it have the others
+module _ (us : List ℕ) (k : ℕ) (c : Char) (cs : List (Result Char Refusal)) (h : Left us k (Ok c ∷ cs)) where
+  pub left_is : (drop k us ≡ units_of c.code ++ drop (k + length (units_of c.code)) us) × Left us (k + length (units_of c.code)) cs
+  left_is = rw (drop-drop (length (units_of c.code)) k us) at (taken (units_of c.code) (units_read cs) (drop k us) h)
 
-pub here_good : (s : List ℕ) (b c j : ℕ) (r : List ℕ) → decode 0 b (drop b s) ≡ ok r → b < length s → char_at s b ≡ Good c j → Here s b c j r
-here_good s b c j r h l g =
-    let (q, p, e) = bind_ok (decode 0 j (drop j s)) _ r (sym (char_reads s b l g) ∙ h) in
-    record { others = q; next = p; is = ok_path (units_of c ++ q) r e; xml = (char_stands s b l g).0 }
+  pub left_next : (j : ℕ) → j ≡ k + length (units_of c.code) → Left us j cs
+  left_next j e = rw e left_is.1
 
--- past a character of k units
-pub left_next : (s : List ℕ) (at count b a k c j : ℕ) → Left s at count b a → b < length s → char_at s b ≡ Good c j → k ≡ length (units_of c) → k ≤ a
-    → Left s at count j (a - k)
-left_next s at count b a k c j x l g e m =
-    let y : Here s b c j x.r = here_good s b c j x.r x.here l g in
-    record {
-      passed = x.passed ++ units_of c;
-      r = y.others;
-      here = y.next;
-      all = append_assoc x.passed (units_of c) y.others ∙ ap (λ (u : List ℕ). x.passed ++ u) y.is ∙ x.all;
-      counts = rw (length-append x.passed (units_of c)) (omega (arith, x.counts, e, m));
-    }
+  pub left_fits : k ≤ length us → k + length (units_of c.code) ≤ length us
+  left_fits l =
+      let n = length (units_of c.code) in
+      omega (arith, length-drop k us, length-drop (k + n) us, length-append (units_of c.code) (drop (k + n) us), ap length left_is.0)
 
-left_half : (s : List ℕ) (at count b a c j : ℕ) → Left s at count b a → a ≡ 1 → b < length s → char_at s b ≡ Good c j → 65535 < c → Moves s at count Half
-left_half s at count b a c j x n l g k =
-    let y : Here s b c j x.r = here_good s b c j x.r x.here l g in
-    let e : (55296 + (c - 65536) / 1024) ∷ (56320 + (c - 65536) % 1024) ∷ y.others ≡ x.r = ap (λ (u : List ℕ). u ++ y.others) (sym (two_are c k)) ∙ y.is in
-    let w : is_low (56320 + (c - 65536) % 1024) ≡ true = within_is 56320 57343 (56320 + (c - 65536) % 1024) (omega arith) (omega arith) in (
-      le-leb count (length (units_from s at)) (omega (arith, n, x.counts, left_length s at count b a x, ap length e)),
-      rw (left_unit s at count b a x, n, ← e, w),
-    )
+  -- m units end inside it, between the halves of a pair
+  pub left_inside : (m : ℕ) → k ≤ length us → k < m → m < k + length (units_of c.code) → (leb m (length us) ≡ true) × (keeps_pair m us ≡ false)
+  unfolding units_of
+  left_inside m l i j =
+      cases (leb c.code 0xffff)
+      (λ t. absurd (let z : ⊥ = omega (arith, rw t at j) in z))
+      (λ t. let v = c.code - 0x10000 in
+      let low : is_low (0xdc00 + v % 1024) ≡ true = within_is 0xdc00 0xdfff (0xdc00 + v % 1024) (omega arith) (omega arith) in
+      let e : m ≡ k + 1 = omega (arith, rw t at j) in
+      (le-leb m (length us) (omega (arith, left_fits l)), rw (e, ← get_or-drop k us 1 0, left_is.0, t, low)))
 
--- the units to pass end inside a character
-pub left_inside : (s : List ℕ) (at count b a k c j : ℕ) → Left s at count b a → (a ≡ 0 → ⊥) → b < length s → char_at s b ≡ Good c j → k ≡ length (units_of c)
-    → a < k
-    → Moves s at count Half
-left_inside s at count b a k c j x n l g e m =
-    cases (leb c 65535)
-    (λ t. let z : ⊥ = omega (arith, n, e, m, ap length (one_is c (leb-true c 65535 t))) in absurd z)
-    (λ t. let h : 65535 < c = leb-false c 65535 t in left_half s at count b a c j x (omega (arith, n, e, m, ap length (two_are c h))) l g h)
+-- all m units are passed, at byte b of a text
+pub left_done : (s us : List ℕ) (b k m : ℕ) → Left us k (characters_from s b) → k ≤ length us → m ≡ k
+    → (leb m (length us) ≡ true) × (keeps_pair m us ≡ true) × (decode 0 b (drop b s) ≡ ok (drop m us))
+left_done s us b k m h l e =
+    let d = reads 0 b (drop b s) ∙ h in
+    let first = proper_first (drop k us) (decode_proper (drop b s) 0 b (drop k us) d) in
+    rw e (le-leb k (length us) l, rw (get_or-drop k us 0 0, add-zero k) at first, d)
 
--- the text ends before all units are passed
-pub left_past : (s : List ℕ) (at count b a : ℕ) → Left s at count b a → (a ≡ 0 → ⊥) → length s ≤ b → Moves s at count Past
-left_past s at count b a x n l =
-    let e : [] ≡ x.r = ok_path [] x.r (sym (decode_end s b l) ∙ x.here) in
-    lt-leb count (length (units_from s at)) (omega (arith, n, x.counts, left_length s at count b a x, ap length e))
+-- past one of U+0020 to U+007F
+pub left_plain : (s us : List ℕ) (i : ℕ) → decode 0 i (drop i s) ≡ ok us → i < length s → within 32 127 (get_or s i 0) ≡ true
+    → (leb 1 (length us) ≡ true) × (keeps_pair 1 us ≡ true) × (decode 0 (i + 1) (drop (i + 1) s) ≡ ok (drop 1 us))
+unfolding units_of
+left_plain s us i d l w =
+    let b = get_or s i 0 in
+    let c : Char = record { code = b; next = i + 1 } in
+    let e : characters_from s i ≡ Ok c ∷ characters_from s (i + 1) = good_first s i c l (char_plain s i w) in
+    let h : Left us 0 (Ok c ∷ characters_from s (i + 1)) = rw e at (left_all s us i d) in
+    let k : b ≤ 127 = within_hi 32 127 b w in
+    let n : 1 ≡ 0 + length (units_of b) = rw (le-leb b 0xffff (omega arith)) in
+    left_done s us (i + 1) 1 1 (left_next us 0 c (characters_from s (i + 1)) h 1 n) (omega (arith, left_fits us 0 c (characters_from s (i + 1)) h)) refl
 
--- all units are passed
-pub left_done : (s : List ℕ) (at count b a : ℕ) → Left s at count b a → a ≡ 0 → Moves s at count (To b)
-left_done s at count b a x n = (
-  le-leb count (length (units_from s at)) (omega (arith, n, x.counts, left_length s at count b a x)),
-  rw (left_unit s at count b a x, n) (proper_first x.r (decode_proper (drop b s) 0 b x.r x.here)),
-  x.here ∙ ap ok (sym (left_rest s at count b a x ∙ rw n)),
-)
-
--- past a character of U+0020 to U+007F
-pub left_plain : (s : List ℕ) (at : ℕ) → decode 0 at (drop at s) ≡ ok (units_from s at) → at < length s → within 32 127 (get_or s at 0) ≡ true
-    → Moves s at 1 (To (at + 1))
-left_plain s at h l w =
-    left_done s at 1 (at + 1) 0 (left_next s at 1 at 1 1 (get_or s at 0) (at + 1) (left_start s at 1 h) l (char_plain s at w) (plain_one (get_or s at 0) w)
-    (omega arith)) refl
-
--- in a text without a fault there is a character at each place that is reached
-pub no_ill : {A : Type 0} (s : List ℕ) (b : ℕ) (r : List ℕ) → decode 0 b (drop b s) ≡ ok r → b < length s → char_at s b ≡ Ill → A
-no_ill s b r h l g = no_ok 2 b r (sym (char_reads s b l g) ∙ h)
-
-pub no_outside : {A : Type 0} (s : List ℕ) (b : ℕ) (r : List ℕ) → decode 0 b (drop b s) ≡ ok r → b < length s → char_at s b ≡ Outside → A
-no_outside s b r h l g = no_ok 3 b r (sym (char_reads s b l g) ∙ h)
+-- what `move_past` is proved by
+pub ruleset moves = (left_at_none, left_none, left_next, left_fits)

@@ -1,28 +1,29 @@
 -- Laws of a text's run: `{` and `}` are one byte and one unit each, and no other character is either; so `{}` may be looked for among the bytes.
 -- Assumes nothing.
-use Rattle.label.proofs.Steps.{decode_char, decode_none, text_steps}
+use Rattle.label.proofs.Steps.{decode_char, decode_none, four_five, text_steps}
 use Prim.Native.Nat.{ℕ, suc, ◌-◌, ◌≤◌, ◌<◌}
 use native.Mathlib.Omega.{arith}
 use mathlib.Core.Path.{◌≡◌, refl, sym, ◌∙◌, ap, subst}
-use mathlib.Core.Bool.{Bool, true, false, cond, false≢true, and-false}
+use mathlib.Core.Bool.{Bool, true, false, cond, false≢true}
 use mathlib.Core.List.{List, [], ◌∷◌, ◌++◌}
-use borrow.Author.Tests.{eq-eqb, ne_eqb, eqb-true, leb-true, leb-false}
+use borrow.Author.Tests.{ne_eqb, eqb-true, le-leb, leb-true, leb-false}
 use lib.Dec.{eqb, leb}
 use lib.ListN.{length, get_or, drop, length-drop}
 use Rattle.label.specs.Limits.{max_units}
-use Rattle.label.specs.Outcome.{Outcome, ok, no, ◌>>◌, need}
+use Rattle.label.specs.Outcome.{Outcome, ok, no, ◌>>=◌, ◌>>◌, need}
 use Rattle.label.specs.Text.{table, starts_char, following, scalar, code_point, xml_char, units_of, braced, marked}
 use Rattle.label.specs.Steps.{decode, text_units}
-use Rattle.label.specs.Calls.{refusal}
-use Rattle.label.proofs.Basics.{and_l, and_r, clash, cases, bind_ok, need_ok}
+use Rattle.label.specs.Cause.{cause_number}
+use Rattle.label.proofs.Basics.{and_l, and_r, cases, bind_ok, need_ok}
 use Rattle.label.proofs.Utf8.{laws, scalar_of, read_at, utf8_one}
 use Rattle.label.proofs.Run.{ok_path}
 use Rattle.label.proofs.Sound.{TextIs, text_ok}
 use Rattle.utf8.proofs.Rows.{starts_one}
-use Rattle.text.proofs.Counts.{one_is}
+use Rattle.std.specs.Prelude.{nat_eq}
+use Rattle.std.specs.List.{starts_with}
+use Rattle.std.proofs.lemmas.Grind.{common_steps}
 use Rattle.text.specs.Texts.{text_count, units_start, units_read, text_read, units_within}
-use Rattle.text.specs.declared.Counted.TheVariants as C
-use Rattle.text.specs.declared.TextRead.TheVariants.{Refused}
+use Rattle.label.specs.declared.Refusal.{Refusal}
 
 -- ── a character's number and its first byte ──
 
@@ -61,14 +62,14 @@ record One (at b : ℕ) (bs all : List ℕ) : Type 0 where
   is : all ≡ b ∷ others
 
 one : (at b : ℕ) (bs all : List ℕ) → b ≤ 127 → decode 0 at (b ∷ bs) ≡ ok all → One at b bs all
-unfolding scalar
+unfolding scalar units_of
 one at b bs all l h =
     let n = (starts_one b bs l).1 in
     let x = first at b bs all h in
     record {
       others = x.others;
       next = rw n at x.next;
-      is = x.is ∙ rw (n, one_is b (omega arith));
+      is = x.is ∙ rw (n, le-leb b 0xffff (omega arith));
     }
 
 -- any other character's first unit is no such byte
@@ -134,67 +135,71 @@ text_from t us h =
 
 -- ── the survey ──
 
-record Found (t : List ℕ) (n : ℕ) : Type 0 where
-  all : List ℕ
-  decoded : decode 0 0 t ≡ ok all
-  count : length all ≡ n
+-- the code's tests of the first bytes
+pub starts_braced : (t : List ℕ) → starts_with nat_eq t (123 ∷ []) ≡ braced t
+starts_braced [] = refl
+starts_braced (b ∷ bs) = grind (arith, common_steps)
 
-found : (t : List ℕ) (n : ℕ) → text_count (decode 0 0 t) ≡ C.Units n → Found t n
-found t n h = go (decode 0 0 t) refl h
-  where
-    go : (o : Outcome (List ℕ)) → decode 0 0 t ≡ o → text_count o ≡ C.Units n → Found t n
-    go (ok us) d e = record { all = us; decoded = d; count = (cc) }
-    go (no k p) d e = let z : true ≡ false = cc in clash true refl z
+pub starts_marked : (t : List ℕ) → starts_with nat_eq t (123 ∷ 125 ∷ []) ≡ marked t
+starts_marked [] = refl
+starts_marked (b ∷ []) = grind (arith, common_steps)
+starts_marked (b ∷ d ∷ bs) = grind (arith, common_steps)
 
 within_of : (us : List ℕ) (at : ℕ) → units_within (length us) at ≡ units_read at (need (leb (length us) max_units) 5 0 >> ok us)
 unfolding units_within
 within_of us at = cases (leb (length us) max_units) (λ t. rw t) (λ t. rw t)
 
 -- 2 or 3
-pub survey_refused : (t : List ℕ) (n p : ℕ) → text_count (decode 0 0 t) ≡ C.Refused n p → Refused (refusal n p) ≡ text_read t
+pub survey_refused : (t : List ℕ) (r : Refusal) → text_count (decode 0 0 t) ≡ no (cause_number r.cause) r.place
+    → text_read t ≡ no (cause_number r.cause) r.place
 unfolding text_read
-survey_refused t n p h = go (decode 0 0 t) refl h
+survey_refused t r h = rw text_steps (go (decode 0 0 t) h)
   where
-    go : (o : Outcome (List ℕ)) → decode 0 0 t ≡ o → text_count o ≡ C.Refused n p → Refused (refusal n p) ≡ text_read t
-    go (ok us) d e = let z : true ≡ false = cc in clash true refl z
-    go (no k q) d e =
-        let a : k ≡ n = cc in
-        let b : q ≡ p = cc in
-        rw (text_steps t, d, a, b)
+    go : (o : Outcome (List ℕ)) → text_count o ≡ no (cause_number r.cause) r.place
+        → units_read (units_start t) (o >>= (λ all. four_five all)) ≡ no (cause_number r.cause) r.place
+    go (ok us) e = absurd (cc)
+    go (no k q) e = cc
 
-module _ (t : List ℕ) (n : ℕ) (e : text_count (decode 0 0 t) ≡ C.Units n) {b0 : ℕ} (f : b0 ≡ get_or t 0 0) where
-  pub survey_plain : (b0 ≡ 123 → ⊥) → units_within n 0 ≡ text_read t
+record Found (t : List ℕ) (n : ℕ) : Type 0 where
+  all : List ℕ
+  decoded : decode 0 0 t ≡ ok all
+  count : length all ≡ n
+
+found : (t : List ℕ) (n : ℕ) → text_count (decode 0 0 t) ≡ ok n → Found t n
+found t n h = go (decode 0 0 t) refl h
+  where
+    go : (o : Outcome (List ℕ)) → decode 0 0 t ≡ o → text_count o ≡ ok n → Found t n
+    go (ok us) d e = record { all = us; decoded = d; count = (cc) }
+    go (no k p) d e = absurd (cc)
+
+module _ (t : List ℕ) (n : ℕ) (e : text_count (decode 0 0 t) ≡ ok n) where
+  pub survey_plain : braced t ≡ false → text_read t ≡ units_within n 0
   unfolding text_read units_start
-  survey_plain h =
+  survey_plain k =
       let x = found t n e in
-      let k : braced t ≡ false = ne_eqb (get_or t 0 0) 123 (λ z. h (f ∙ z)) in
-      ap (λ (m : ℕ). units_within m 0) (sym x.count) ∙ rw (text_steps t, x.decoded, k, braces t x.all x.decoded ∙ k) (within_of x.all 0)
+      rw (text_steps t, x.decoded, k, braces t x.all x.decoded ∙ k) (sym (within_of x.all 0) ∙ ap (λ (m : ℕ). units_within m 0) x.count)
 
-  module _ (h : b0 ≡ 123) {b1 : ℕ} (g : b1 ≡ get_or t 1 0) where
-    pub survey_braced : (b1 ≡ 125 → ⊥) → Refused (refusal 4 0) ≡ text_read t
-    unfolding text_read
-    survey_braced i =
-        let x = found t n e in
-        let k : braced t ≡ true = eq-eqb (get_or t 0 0) 123 (sym f ∙ h) in
-        let m : marked t ≡ false = rw (ne_eqb (get_or t 1 0) 125 (λ z. i (g ∙ z)), and-false (braced t)) in
-        rw (text_steps t, x.decoded, marks t x.all x.decoded ∙ m, braces t x.all x.decoded ∙ k)
+  pub survey_braced : braced t ≡ true → marked t ≡ false → text_read t ≡ no 4 0
+  unfolding text_read
+  survey_braced k m =
+      let x = found t n e in
+      rw (text_steps t, x.decoded, marks t x.all x.decoded ∙ m, braces t x.all x.decoded ∙ k)
 
-    module _ (i : b1 ≡ 125) where
-      is_marked : marked t ≡ true
-      is_marked = rw (eq-eqb (get_or t 0 0) 123 (sym f ∙ h), eq-eqb (get_or t 1 0) 125 (sym g ∙ i))
+  pub survey_marked : marked t ≡ true → text_read t ≡ units_within (n - 2) 2
+  unfolding text_read units_start
+  survey_marked h =
+      let x = found t n e in
+      let m = marks t x.all x.decoded ∙ h in
+      let c : n - 2 ≡ length (drop 2 x.all) = ap (λ (k : ℕ). k - 2) (sym x.count) ∙ sym (length-drop 2 x.all) in
+      rw (c, text_steps t, x.decoded, h, m, and_l (braced x.all) _ m) (sym (within_of (drop 2 x.all) 2))
 
-      pub survey_marked : units_within (n - 2) 2 ≡ text_read t
-      unfolding text_read units_start
-      survey_marked =
-          let x = found t n e in
-          let m = marks t x.all x.decoded ∙ is_marked in
-          let c : n - 2 ≡ length (drop 2 x.all) = ap (λ (k : ℕ). k - 2) (sym x.count) ∙ sym (length-drop 2 x.all) in
-          ap (λ (k : ℕ). units_within k 2) c ∙ rw (text_steps t, x.decoded, is_marked, m, and_l (braced x.all) _ m) (within_of (drop 2 x.all) 2)
+  pub marked_two : marked t ≡ true → 2 ≤ n
+  marked_two h = let x = found t n e in rw (← x.count) (two x.all (marks t x.all x.decoded ∙ h))
+    where
+      two : (us : List ℕ) → marked us ≡ true → 2 ≤ length us
+      two [] m = absurd (false≢true m)
+      two (a ∷ []) m = absurd (false≢true (and_r (eqb a 123) false m))
+      two (a ∷ b ∷ us) m = omega arith
 
-      pub marked_two : 2 ≤ n
-      marked_two = let x = found t n e in rw (← x.count) (two x.all (marks t x.all x.decoded ∙ is_marked))
-        where
-          two : (us : List ℕ) → marked us ≡ true → 2 ≤ length us
-          two [] m = absurd (false≢true m)
-          two (a ∷ []) m = absurd (false≢true (and_r (eqb a 123) false m))
-          two (a ∷ b ∷ us) m = omega arith
+-- what `survey_text` is proved by
+pub ruleset surveys = (starts_braced, starts_marked, survey_refused, survey_plain, survey_braced, survey_marked, marked_two)

@@ -5,17 +5,12 @@ use Rattle.label.specs.Limits.{max_units}
 use Rattle.label.specs.Outcome.{Outcome, ok, no}
 use Rattle.label.specs.Text.{marked}
 use Rattle.label.specs.Steps.{text_units}
-use Rattle.label.specs.Calls.{refusal}
-use Rattle.text.specs.declared.Counted.{Counted}
-use Rattle.text.specs.declared.Counted.TheVariants as C
 use Rattle.text.specs.declared.TextUnits.{TextUnits}
-use Rattle.text.specs.declared.TextRead.{TextRead}
-use Rattle.text.specs.declared.TextRead.TheVariants.{Units, Refused}
 
--- how many units there are, or the refusal, as the code's enum
-abbrev pub text_count : Outcome (List ℕ) → Counted
-text_count (ok us) = C.Units (length us)
-text_count (no n p) = C.Refused n p
+-- how many units there are, or the refusal
+abbrev pub text_count : Outcome (List ℕ) → Outcome ℕ
+text_count (ok us) = ok (length us)
+text_count (no n p) = no n p
 
 -- the byte of a text where its run's units start: behind the two bytes `{}` where it begins with them
 unfoldable pub units_start : List ℕ → ℕ
@@ -24,14 +19,14 @@ units_start t = cond (marked t) 2 0
 abbrev pub units_at : ℕ → ℕ → TextUnits
 units_at n at = record { count = n; start = at }
 
--- what becomes of a text, whose units start at that byte, as the code's enum
-abbrev pub units_read : ℕ → Outcome (List ℕ) → TextRead
-units_read at (ok us) = Units (units_at (length us) at)
-units_read at (no n p) = Refused (refusal n p)
+-- what becomes of a text, whose units start at that byte
+abbrev pub units_read : ℕ → Outcome (List ℕ) → Outcome TextUnits
+units_read at (ok us) = ok (units_at (length us) at)
+units_read at (no n p) = no n p
 
-unfoldable pub text_read : List ℕ → TextRead
+unfoldable pub text_read : List ℕ → Outcome TextUnits
 text_read t = units_read (units_start t) (text_units t)
 
 -- so many units from that byte on, or "above 4,096 units" (5)
-unfoldable pub units_within : ℕ → ℕ → TextRead
-units_within n at = cond (leb n max_units) (Units (units_at n at)) (Refused (refusal 5 0))
+unfoldable pub units_within : ℕ → ℕ → Outcome TextUnits
+units_within n at = cond (leb n max_units) (ok (units_at n at)) (no 5 0)

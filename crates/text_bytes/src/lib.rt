@@ -2,122 +2,118 @@
 #![tactic(auto)]
 
 ghost use Rattle.label.specs.Text.{braced};
-ghost use Rattle.std.specs.Prelude.{◌≡◌, [], ◌∷◌, ◌+◌, ◌-◌, ◌%◌, ◌≤◌, ◌<◌, length};
+ghost use Rattle.std.specs.Prelude.{◌≡◌, [], ◌∷◌, ◌+◌, ◌%◌, ◌≤◌, ◌<◌, length};
 ghost use Rattle.label.specs.Fetched.{halves};
 ghost use Rattle.label.specs.Write.{utf8, paired, unit_bytes, units_bytes, text_of};
 ghost use Rattle.label.specs.Requests.Attribute.{escape_byte, as_asked};
 ghost use Rattle.octets.specs.Puts.{Put};
-ghost use Rattle.text_bytes.specs.Lengths.{unit_length, asked_length, mark_length};
+ghost use Rattle.octets.specs.Outputs.{Gains};
 
-// ── a run's units in UTF-8 ──
-// Each `put_..` stores its bytes from `at` on and returns the place behind them.
+use octets::Output;
+
+// ── a character in UTF-8 ──
 
 // A byte behind the first, with the six lowest bits of c.
-fn put_tail(out: &mut [u8], at: usize, c: u32) -> usize
-    requires { at < 18446744073709551615 }
-    ensures put { Put out.old at ((128 + c % 64) ∷ []) result out.new }
-    ensures bounds { result ≡ at + 1 }
+fn put_tail(out: &mut Output, c: u32)
+    ensures { Gains out.old ((128 + c % 64) ∷ []) out.new }
 {
-    octets::put_byte(out, at, (128 + c % 64) as u8)
+    out.put_byte((0x80 + c % 64) as u8);
 }
 
+// A character's bytes. A lone half has some too, which is no `char` for `encode_utf8`.
+pub fn put_char(out: &mut Output, c: u32)
+    requires { c < 2097152 }
+    ensures { Gains out.old (utf8 c) out.new }
+{
+    if c <= 0x7f {
+        out.put_byte(c as u8);
+    } else if c <= 0x7ff {
+        out.put_byte((0xc0 + c / 64) as u8);
+        put_tail(out, c);
+    } else if c <= 0xffff {
+        out.put_byte((0xe0 + c / 4096) as u8);
+        put_tail(out, c / 64);
+        put_tail(out, c);
+    } else {
+        out.put_byte((0xf0 + c / 262144) as u8);
+        put_tail(out, c / 4096);
+        put_tail(out, c / 64);
+        put_tail(out, c);
+    }
+}
+
+// The same, stored from `at` on; the place behind it.
 pub fn put_utf8(out: &mut [u8], at: usize, c: u32) -> usize
     requires { (at < 9223372036854775808) × (c < 2097152) }
     ensures put { Put out.old at (utf8 c) result out.new }
     ensures bounds { result ≤ at + 4 }
 {
-    if c <= 0x7f {
-        return octets::put_byte(out, at, c as u8);
-    }
-    if c <= 0x7ff {
-        let p = octets::put_byte(out, at, (192 + c / 64) as u8);
-        return put_tail(out, p, c);
-    }
-    if c <= 0xffff {
-        let p = octets::put_byte(out, at, (224 + c / 4096) as u8);
-        let q = put_tail(out, p, c / 64);
-        return put_tail(out, q, c);
-    }
-    let p = octets::put_byte(out, at, (240 + c / 262144) as u8);
-    let q = put_tail(out, p, c / 4096);
-    let t = put_tail(out, q, c / 64);
-    put_tail(out, t, c)
+    let mut out = Output { bytes: out, at };
+    put_char(&mut out, c);
+    out.at
 }
 
-// What a low half adds to a pair's number; 0 for a unit below the low halves.
-fn above_low(l: u16) -> u32
-    ensures { (result ≡ l - 56320) × (result < 65536) }
-{
-    let n = l as u32;
-    if n < 0xdc00 { 0 } else { n - 0xdc00 }
-}
+// ── a unit ──
 
 // The character of a pair.
 fn pair_of(h: u16, l: u16) -> u32
     requires { (55296 ≤ h) × (h ≤ 56319) }
     ensures { (result ≡ paired h l) × (result < 2097152) }
 {
-    0x10000 + (h as u32 - 0xd800) * 1024 + above_low(l)
+    0x10000 + (u32::from(h) - 0xd800) * 1024 + u32::from(l.saturating_sub(0xdc00))
 }
 
 // The bytes of unit u before unit v: a pair's stand at its high half.
-fn put_unit(out: &mut [u8], at: usize, u: u16, v: u16) -> usize
-    requires { at < 9223372036854775808 }
-    ensures put { Put out.old at (unit_bytes u v) result out.new }
-    ensures bounds { result ≤ at + 4 }
+#[tactic(auto, using(octets::proofs::Outputs::nothing), unfolding(label::specs::Write::unit_bytes))]
+fn put_unit(out: &mut Output, u: u16, v: u16)
+    ensures { Gains out.old (unit_bytes u v) out.new }
 {
     if units::is_low(u) {
-        return at;
+        return;
     }
     if units::is_high(u) {
-        return put_utf8(out, at, pair_of(u, v));
+        put_char(out, pair_of(u, v));
+    } else {
+        put_char(out, u32::from(u));
     }
-    put_utf8(out, at, u as u32)
 }
 
 // A byte escaped: one of six as its reference, any other as it is.
-fn put_escaped(out: &mut [u8], at: usize, b: u8) -> usize
-    requires { at < 9223372036854775808 }
-    ensures put { Put out.old at (escape_byte b) result out.new }
-    ensures bounds { result ≤ at + 6 }
+#[tactic(auto, unfolding(label::specs::Requests::Attribute::escape_byte, label::specs::Bytes::ascii))]
+fn put_escaped(out: &mut Output, b: u8)
+    ensures { Gains out.old (escape_byte b) out.new }
 {
     match b {
-        b'&' => octets::put_bytes(out, at, b"&amp;"),
-        b'<' => octets::put_bytes(out, at, b"&lt;"),
-        b'"' => octets::put_bytes(out, at, b"&quot;"),
-        b'\t' => octets::put_bytes(out, at, b"&#9;"),
-        b'\n' => octets::put_bytes(out, at, b"&#10;"),
-        b'\r' => octets::put_bytes(out, at, b"&#13;"),
-        _ => octets::put_byte(out, at, b),
+        b'&' => out.put_bytes(b"&amp;"),
+        b'<' => out.put_bytes(b"&lt;"),
+        b'"' => out.put_bytes(b"&quot;"),
+        b'\t' => out.put_bytes(b"&#9;"),
+        b'\n' => out.put_bytes(b"&#10;"),
+        b'\r' => out.put_bytes(b"&#13;"),
+        _ => out.put_byte(b),
     }
 }
 
 // The same as it is asked for. Only a character of one byte can be one of the six.
-fn put_asked(escape: bool, out: &mut [u8], at: usize, u: u16, v: u16) -> usize
-    requires { at < 9223372036854775808 }
-    ensures put { Put out.old at (as_asked escape (unit_bytes u v)) result out.new }
-    ensures bounds { result ≤ at + 6 }
+// `escape` is a bool, as the definition `as_asked` has it: an enum would add its reading as one to the contract of each function that hands it on.
+fn put_asked(escape: bool, out: &mut Output, u: u16, v: u16)
+    ensures { Gains out.old (as_asked escape (unit_bytes u v)) out.new }
 {
-    if plain::both(escape, u <= 0x7f) {
-        return put_escaped(out, at, u as u8);
+    if escape && u <= 0x7f {
+        put_escaped(out, u as u8);
+    } else {
+        put_unit(out, u, v);
     }
-    put_unit(out, at, u, v)
 }
 
-fn put_units(escape: bool, out: &mut [u8], from: usize, us: &[u8]) -> usize
-    requires { (from ≤ 2) × (length (halves us.now) ≤ 1000000000000) }
-    ensures { Put out.old from (as_asked escape (units_bytes (halves us.now))) result out.new }
+// ── a run's units ──
+
+fn put_units(escape: bool, out: &mut Output, us: &[u8])
+    ensures { Gains out.old (as_asked escape (units_bytes (halves us.now))) out.new }
 {
-    let count = wire::unit_count(us);
-    let mut at = from;
-    let mut i = 0;
-    while i < count {
-        let u = wire::unit_at(us, i);
-        let v = wire::unit_at(us, i + 1);
-        at = put_asked(escape, out, at, u, v);
-        i += 1;
+    for i in 0..wire::unit_count(us) {
+        put_asked(escape, out, wire::unit_at(us, i), wire::unit_at(us, i + 1));
     }
-    at
 }
 
 // Whether the text of these units begins with `{}`: they begin with `{`.
@@ -128,57 +124,13 @@ fn is_braced(us: &[u8]) -> bool
 }
 
 // The text of a run's units. `{}` has none of the six bytes.
-pub fn put_text(escape: bool, out: &mut [u8], us: &[u8]) -> usize
-    requires { length (halves us.now) ≤ 1000000000000 }
-    ensures { Put out.old 0 (as_asked escape (text_of (halves us.now))) result out.new }
+pub fn put_text(escape: bool, out: &mut Output, us: &[u8])
+    ensures { Gains out.old (as_asked escape (text_of (halves us.now))) out.new }
 {
     if is_braced(us) {
-        let p = octets::put_bytes(out, 0, b"{}");
-        return put_units(escape, out, p, us);
+        out.put_bytes(b"{}");
     }
-    put_units(escape, out, 0, us)
-}
-
-// How many bytes stand for a unit: those of a pair at its high half.
-fn unit_length(u: u16) -> usize
-    ensures value { result ≡ unit_length u }
-    ensures bounds { result ≤ 4 }
-{
-    match u {
-        0x00..=0x7f => 1,
-        0x80..=0x7ff => 2,
-        0xd800..=0xdbff => 4,
-        0xdc00..=0xdfff => 0,
-        _ => 3,
-    }
-}
-
-// How many bytes a byte becomes, escaped: storing it counts them, though there is no room for them.
-fn escaped_length(b: u8) -> usize
-    ensures value { result ≡ length (escape_byte b) }
-    ensures bounds { result ≤ 6 }
-{
-    let mut none = [0u8; 1];
-    put_escaped(&mut none, 0, b)
-}
-
-// How many bytes stand for a unit as they are asked for.
-fn asked_length(escape: bool, u: u16) -> usize
-    ensures value { result ≡ asked_length escape u }
-    ensures bounds { result ≤ 6 }
-{
-    if plain::both(escape, u <= 0x7f) {
-        return escaped_length(u as u8);
-    }
-    unit_length(u)
-}
-
-// The bytes of `{}`, where the text of these units begins with it.
-fn mark_length(us: &[u8]) -> usize
-    ensures value { result ≡ mark_length (halves us.now) }
-    ensures bounds { result ≤ 2 }
-{
-    if is_braced(us) { 2 } else { 0 }
+    put_units(escape, out, us);
 }
 
 // How many bytes the text of a run has.
@@ -186,12 +138,10 @@ pub fn text_length(escape: bool, us: &[u8]) -> usize
     requires { length (halves us.now) ≤ 1000000000000 }
     ensures { result ≡ length (as_asked escape (text_of (halves us.now))) }
 {
-    let count = wire::unit_count(us);
-    let mut n = mark_length(us);
-    let mut i = 0;
-    while i < count {
-        n += asked_length(escape, wire::unit_at(us, i));
-        i += 1;
-    }
-    n
+    let mut none = Output {
+        bytes: &mut [],
+        at: 0,
+    };
+    put_text(escape, &mut none, us);
+    none.at
 }

@@ -1,23 +1,19 @@
--- Laws of the tests of a run's units at a place: one turn and the end of the well-formedness test, by `drop-cons`, and of the pair test, by `get_or-drop`.
+-- Laws of the test of well-formed units: one unit and what is left behind it, by `drop-cons`, and the end.
 -- Assumes nothing.
 use Prim.Native.Nat.{ℕ, suc, ◌+◌, ◌<◌, ◌≤◌}
-use native.Mathlib.Nat.{add-zero}
 use native.Mathlib.Numerals.{add-one}
 use native.Mathlib.Omega.{arith}
-use mathlib.Core.Path.{◌≡◌, refl, ◌∙◌}
+use mathlib.Core.Path.{◌≡◌, refl}
 use mathlib.Core.Bool.{Bool, true, false, not, ◌&&◌}
 use mathlib.Core.List.{List, ◌∷◌}
-use borrow.Author.Tests.{le-leb, not-true, not-false}
+use borrow.Author.Tests.{le-leb}
 use lib.ListN.{length, get_or, drop, drop_of_length-le}
-use lib.Seq.{drop-cons, get_or-drop}
-use Rattle.label.specs.Text.{is_high, is_low, is_pair}
+use lib.Seq.{drop-cons}
 use Rattle.label.specs.Sound.{proper_units}
 use Rattle.units.specs.Units.{unit_ok, next_half}
 
--- ── well-formed characters ──
-
 proper_cons : (half : Bool) (u : ℕ) (l : List ℕ) → u < 65536 → proper_units half (u ∷ l) ≡ (unit_ok half u && proper_units (next_half half u) l)
-unfolding proper_units unit_ok next_half
+unfolding proper_units
 proper_cons true u l h = refl
 proper_cons false u l h = rw (le-leb u 65535 (omega arith))
 
@@ -30,12 +26,3 @@ proper_here half us j {u} h e f = rw (add-one, drop-cons us j 0 h, ← e) (prope
 pub proper_end : (half : Bool) (us : List ℕ) (j : ℕ) → length us ≤ j → proper_units half (drop j us) ≡ not half
 unfolding proper_units
 proper_end half us j h = rw (drop_of_length-le us h, proper_units)
-
--- ── whether the two units at a place are a pair ──
-
-module _ (us : List ℕ) (j : ℕ) {u : ℕ} {h : Bool} (eu : u ≡ get_or us j 0) (eh : h ≡ is_high u) where
-  pub pair_none : not h ≡ true → false ≡ is_pair (drop j us)
-  pair_none k = rw (get_or-drop j us 0 0, add-zero j, ← eu, ← eh, not-true h k)
-
-  pub pair_here : not h ≡ false → {v : ℕ} {r : Bool} → v ≡ get_or us (j + 1) 0 → r ≡ is_low v → r ≡ is_pair (drop j us)
-  pair_here k ev er = er ∙ rw (get_or-drop j us 0 0, get_or-drop j us 1 0, add-zero j, ← eu, ← eh, not-false h k, ← ev)

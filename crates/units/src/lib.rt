@@ -13,13 +13,13 @@ ghost use Rattle.units.specs.Units.{unit_ok, next_half};
 pub fn is_high(u: u16) -> bool
     ensures { result ≡ is_high u }
 {
-    plain::both(0xd800 <= u, u <= 0xdbff)
+    matches!(u, 0xd800..=0xdbff)
 }
 
 pub fn is_low(u: u16) -> bool
     ensures { result ≡ is_low u }
 {
-    plain::both(0xdc00 <= u, u <= 0xdfff)
+    matches!(u, 0xdc00..=0xdfff)
 }
 
 // A unit may stand behind a high half, or where no high half is before it.
@@ -29,7 +29,7 @@ fn unit_ok(half: bool, u: u16) -> bool
     if half {
         is_low(u)
     } else {
-        plain::either(is_high(u), utf8::is_xml(u as u32))
+        is_high(u) || utf8::is_xml(u32::from(u))
     }
 }
 
@@ -37,7 +37,7 @@ fn unit_ok(half: bool, u: u16) -> bool
 fn next_half(half: bool, u: u16) -> bool
     ensures { result ≡ next_half half u }
 {
-    if half { false } else { is_high(u) }
+    is_high(u) && !half
 }
 
 // ── the units of a run ──
@@ -47,27 +47,20 @@ pub fn is_pair_at(us: &[u8], j: usize) -> bool
     requires { j ≤ length us.now / 2 }
     ensures { result ≡ is_pair (drop j (halves us.now)) }
 {
-    let high = is_high(wire::unit_at(us, j));
-    if !high {
-        return false;
-    }
-    is_low(wire::unit_at(us, j + 1))
+    is_high(wire::unit_at(us, j)) && is_low(wire::unit_at(us, j + 1))
 }
 
 // The units are well-formed XML characters.
 pub fn proper_units(us: &[u8]) -> bool
     ensures { result ≡ proper_units false (halves us.now) }
 {
-    let n = wire::unit_count(us);
     let mut half = false;
-    let mut j = 0;
-    while j < n {
+    for j in 0..wire::unit_count(us) {
         let u = wire::unit_at(us, j);
         if !unit_ok(half, u) {
             return false;
         }
         half = next_half(half, u);
-        j += 1;
     }
     !half
 }

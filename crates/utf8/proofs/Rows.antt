@@ -1,22 +1,20 @@
 -- Laws of the rows as the code takes them: they decide what the table decides, by `same`, an induction over rows whose first ranges rise.
 -- Assumes nothing.
-use Prim.Native.Nat.{ℕ, zero, suc, ◌+◌, ◌-◌, ◌≤◌, ◌<◌}
+use Prim.Native.Nat.{ℕ, zero, suc, ◌+◌, ◌≤◌, ◌<◌}
 use native.Mathlib.Omega.{arith}
-use native.Mathlib.Numerals.{add-one}
-use mathlib.Core.Path.{◌≡◌, refl, sym, ◌∙◌}
-use mathlib.Core.Bool.{true, false, not, ◌&&◌, false≢true, and-false}
+use mathlib.Core.Path.{◌≡◌, refl, sym, ◌∙◌, ap}
+use mathlib.Core.Bool.{Bool, true, false, not, ◌&&◌, false≢true, and-false}
 use mathlib.Core.List.{List, [], ◌∷◌}
-use borrow.Author.Tests.{le-leb, lt-leb}
-use lib.Dec.{leb}
-use lib.ListN.{length, get_or, drop, length-drop, drop_of_length-le}
-use lib.Seq.{drop-cons}
+use lib.ListN.{length, get_or, take, drop, length-drop}
+use Rattle.std.specs.Prelude.{Option, Some, None}
+use Rattle.std.specs.List.{list_all}
 use Rattle.label.specs.Bytes.{empty}
 use Rattle.label.specs.Text.{within, Range, ◌‥◌, Row, table, row_fits, fitting, starts_char, more_bytes, following}
 use Rattle.label.specs.Statements.Encoding.{Each}
 use Rattle.label.proofs.Basics.{and_r, cases, within_is, within_lo, within_hi, above_range}
 use Rattle.label.proofs.Utf8.{◌⨾◌, Rising, rising, skips, unfit, fits_first, none_below, alone}
-use Rattle.octets.proofs.Bytes.{outside}
-use Rattle.utf8.specs.Rows.{trailing_row, no_row, in_first, behind, chosen, lead, trail}
+use Rattle.std.proofs.lemmas.Grind.{common_steps}
+use Rattle.utf8.specs.Rows.{trailing_row, in_first, behind, chosen, lead, trail}
 use Rattle.utf8.specs.declared.Trailing.{Trailing}
 
 -- ── the row that a first byte chooses ──
@@ -55,51 +53,38 @@ unfolding lead
 by_row k b h = sym (chosen_nth table 0 k b rising (in_first_holds (nth table k) b h))
 
 -- no row is chosen between 7F and C2, and above F4
-pub by_none : (b : ℕ) → 0x7f < b → (0xc2 ≤ b → 0xf4 < b) → no_row ≡ lead b
+pub by_none : (b : ℕ) → 0x7f < b → (0xc2 ≤ b → 0xf4 < b) → None ≡ lead b
 unfolding lead chosen table
-by_none b h k =
-    rw (
-      above_range 0x00 0x7f b h,
-      outside 0xc2 0xdf b (λ l. omega (arith, k l)),
-      outside 0xe0 0xe0 b (λ l. omega (arith, k (omega arith))),
-      outside 0xe1 0xec b (λ l. omega (arith, k (omega arith))),
-      outside 0xed 0xed b (λ l. omega (arith, k (omega arith))),
-      outside 0xee 0xef b (λ l. omega (arith, k (omega arith))),
-      outside 0xf0 0xf0 b (λ l. omega (arith, k (omega arith))),
-      outside 0xf1 0xf3 b (λ l. omega (arith, k (omega arith))),
-      outside 0xf4 0xf4 b (λ l. omega (arith, k (omega arith))),
-    )
+by_none b h k = grind (arith, common_steps)
 
 -- ── the bytes behind the first ──
 
--- a turn of the code's loop: no byte is asked for, none is there, it is below or above the range, or within it
-pub trail_done : (k l h : ℕ) (s : List ℕ) → k ≡ 0 → trail k l h s ≡ true
+-- too few bytes are there
+pub trail_short : (n l h : ℕ) (s : List ℕ) → length s < n → trail n l h s ≡ false
 unfolding trail
-trail_done k l h s e = rw e
+trail_short zero l h s p = absurd (omega arith)
+trail_short (suc n) l h [] p = refl
+trail_short (suc n) l h (b ∷ s) p = rw (trail_short n 0x80 0xbf s (omega arith)) (and-false (within l h b))
 
-pub trail_short : (s : List ℕ) (k l h i : ℕ) → (k ≡ 0 → ⊥) → length s ≤ i → trail k l h (drop i s) ≡ false
+-- no byte is asked for
+pub trail_none : (n l h : ℕ) (s : List ℕ) → n < 1 → trail n l h s ≡ true
 unfolding trail
-trail_short s zero l h i n p = absurd (n refl)
-trail_short s (suc k) l h i n p = rw (drop_of_length-le s p)
+trail_none zero l h s p = refl
+trail_none (suc n) l h s p = absurd (omega arith)
 
-trail_bad : (s : List ℕ) (k l h i : ℕ) → (k ≡ 0 → ⊥) → i < length s → within l h (get_or s i 0) ≡ false → trail k l h (drop i s) ≡ false
+trail_sixes : (n : ℕ) (s : List ℕ) → n ≤ length s → trail n 0x80 0xbf s ≡ list_all (within 0x80 0xbf) (take n s)
 unfolding trail
-trail_bad s zero l h i n p w = absurd (n refl)
-trail_bad s (suc k) l h i n p w = rw (drop-cons s i 0 p, w)
+trail_sixes zero s p = refl
+trail_sixes (suc n) [] p = absurd (omega arith)
+trail_sixes (suc n) (b ∷ s) p = rw (trail_sixes n s (omega arith))
 
-pub trail_low : (s : List ℕ) (k l h i : ℕ) → (k ≡ 0 → ⊥) → i < length s → get_or s i 0 < l → trail k l h (drop i s) ≡ false
-trail_low s k l h i n p w = trail_bad s k l h i n p (rw (lt-leb l (get_or s i 0) w))
-
-pub trail_high : (s : List ℕ) (k l h i : ℕ) → (k ≡ 0 → ⊥) → i < length s → h < get_or s i 0 → trail k l h (drop i s) ≡ false
-trail_high s k l h i n p w = trail_bad s k l h i n p (rw (lt-leb (get_or s i 0) h w, and-false (leb l (get_or s i 0))))
-
-pub trail_next : (s : List ℕ) (k l h i : ℕ) → (k ≡ 0 → ⊥) → i < length s → l ≤ get_or s i 0 → get_or s i 0 ≤ h
-    → trail k l h (drop i s) ≡ trail (k - 1) 128 191 (drop (i + 1) s)
+-- the n bytes x are there: the first is in its range, and the others are from 80 to BF
+pub trail_there : (n l h : ℕ) (s x : List ℕ) → x ≡ take n s → n ≤ length s → 1 ≤ length x
+    → trail n l h s ≡ (within l h (get_or x 0 0) && list_all (within 0x80 0xbf) (drop 1 x))
 unfolding trail
-trail_next s zero l h i n p a b = absurd (n refl)
-trail_next s (suc k) l h i n p a b =
-    let d : suc k - 1 ≡ k = omega arith in
-    rw (drop-cons s i 0 p, le-leb l (get_or s i 0) a, le-leb (get_or s i 0) h b, d, add-one i)
+trail_there zero l h s x e p z = absurd (omega (arith, ap length e))
+trail_there (suc n) l h [] x e p z = absurd (omega arith)
+trail_there (suc n) l h (b ∷ s) x e p z = rw (e, trail_sixes n s (omega arith))
 
 -- the bytes that follow are there
 trail_inside : (n l h : ℕ) (s : List ℕ) → trail n l h s ≡ true → n ≤ length s
@@ -125,9 +110,19 @@ sixes_trail zero s = refl
 sixes_trail (suc n) [] = refl
 sixes_trail (suc n) (b ∷ s) = rw (sixes_trail n s)
 
+-- the bytes behind the first are those of the row x; there is no row
+abbrev pub fits_row : Option Trailing → List ℕ → Bool
+fits_row None s = false
+fits_row (Some x) s = trail x.more x.lo x.hi s
+
+-- how many bytes it has behind its first
+abbrev pub more_of : Option Trailing → ℕ
+more_of None = 0
+more_of (Some x) = x.more
+
 -- the bytes of a row behind its first are those that the code looks for
 abbrev Trailed : Row → Type 0
-Trailed r = (s : List ℕ) → let x = behind (drop 1 r.bytes) in row_fits (drop 1 r.bytes) s ≡ trail x.more x.lo x.hi s
+Trailed r = (s : List ℕ) → row_fits (drop 1 r.bytes) s ≡ fits_row (behind (drop 1 r.bytes)) s
 
 trailed : (g : Range) (n : ℕ) (s : List ℕ) → row_fits (g ∷ sixes n) s ≡ trail (suc n) g.lo g.hi s
 unfolding row_fits trail
@@ -149,16 +144,16 @@ all_trailed =
     ⨾ tt
 
 -- what the code finds by the row x is what the rows find that fit
-record Same (x : Trailing) (rs : List Row) (bs : List ℕ) : Type 0 where
-  start : not (empty rs) ≡ (x.fits && trail x.more x.lo x.hi bs)
-  more : not (empty rs) ≡ true → more_bytes rs ≡ x.more
+record Same (x : Option Trailing) (rs : List Row) (bs : List ℕ) : Type 0 where
+  start : not (empty rs) ≡ fits_row x bs
+  more : not (empty rs) ≡ true → more_bytes rs ≡ more_of x
 
-same_as : {x y : Trailing} {rs qs : List Row} {bs : List ℕ} → x ≡ y → rs ≡ qs → Same y qs bs → Same x rs bs
+same_as : {x y : Option Trailing} {rs qs : List Row} {bs : List ℕ} → x ≡ y → rs ≡ qs → Same y qs bs → Same x rs bs
 same_as e f h = rw (e, f) h
 
-behind_is : (fs : List Range) → ((behind fs).fits ≡ true) × ((behind fs).more ≡ length fs)
-behind_is [] = (refl, refl)
-behind_is (r ∷ rs) = (refl, refl)
+behind_more : (fs : List Range) → more_of (behind fs) ≡ length fs
+behind_more [] = refl
+behind_more (r ∷ rs) = refl
 
 -- a row whose first byte fits, with the bytes behind it there or not
 module _ (r : Row) (f : Range) (fs : List Range) (e : r.bytes ≡ f ∷ fs) (t : Trailed r) (bs : List ℕ) where
@@ -166,15 +161,12 @@ module _ (r : Row) (f : Range) (fs : List Range) (e : r.bytes ≡ f ∷ fs) (t :
   unfolding more_bytes
   found h =
       let k : row_fits (drop 1 r.bytes) bs ≡ true = rw e h in
-      record {
-        start = sym (rw (behind_is (drop 1 r.bytes)).0 (sym (t bs) ∙ k));
-        more = λ _. rw e (omega (arith, (behind_is fs).1));
-      }
+      record { start = sym k ∙ t bs; more = λ _. rw e (omega (arith, behind_more fs)) }
 
   not_found : row_fits fs bs ≡ false → Same (behind (drop 1 r.bytes)) [] bs
   not_found h =
       let k : row_fits (drop 1 r.bytes) bs ≡ false = rw e h in
-      record { start = sym (rw (behind_is (drop 1 r.bytes)).0 (sym (t bs) ∙ k)); more = λ z. absurd (false≢true z) }
+      record { start = sym k ∙ t bs; more = λ z. absurd (false≢true z) }
 
 same : (rs : List Row) (m : ℕ) → Rising m rs → Each Trailed rs → (b : ℕ) (bs : List ℕ) → Same (chosen rs b) (fitting rs (b ∷ bs)) bs
 unfolding chosen
@@ -191,20 +183,13 @@ same (r ∷ rs) m o ts b bs =
     (λ w. same_as (rw (i, w)) (skips r rs (b ∷ bs) (unfit r f fs e b bs w)) (same rs (suc f.hi) p ts.1 b bs))
 
 -- so a well-formed character starts where the bytes are those of the row chosen, and has as many bytes
-pub starts_is : (b : ℕ) (bs : List ℕ) → starts_char b bs ≡ ((lead b).fits && trail (lead b).more (lead b).lo (lead b).hi bs)
+pub starts_is : (b : ℕ) (bs : List ℕ) → starts_char b bs ≡ fits_row (lead b) bs
 unfolding starts_char lead
 starts_is b bs = (same table 0 rising all_trailed b bs).start
 
-pub following_is : (b : ℕ) (bs : List ℕ) → starts_char b bs ≡ true → following b bs ≡ (lead b).more
+pub following_is : (b : ℕ) (bs : List ℕ) → starts_char b bs ≡ true → following b bs ≡ more_of (lead b)
 unfolding starts_char lead following
 following_is b bs h = (same table 0 rising all_trailed b bs).more h
-
--- its bytes are there
-pub following_inside : (b : ℕ) (bs : List ℕ) → starts_char b bs ≡ true → following b bs ≤ length bs
-following_inside b bs h =
-    let x = lead b in
-    let t = and_r x.fits (trail x.more x.lo x.hi bs) (sym (starts_is b bs) ∙ h) in
-    rw (following_is b bs h) (trail_inside x.more x.lo x.hi bs t)
 
 -- a byte below 128 is a character
 pub starts_one : (b : ℕ) (bs : List ℕ) → b ≤ 127 → (starts_char b bs ≡ true) × (following b bs ≡ 0)

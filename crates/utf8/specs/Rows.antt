@@ -1,16 +1,12 @@
 -- The rows of Table 3-7 as the code takes them: a first byte chooses a row, and the bytes behind it are judged by that row.
 -- Assumes nothing.
-use Rattle.std.specs.Prelude.{ℕ, zero, suc, Bool, true, false, cond, ◌&&◌, List, [], ◌∷◌, length, drop}
+use Rattle.std.specs.Prelude.{ℕ, zero, suc, Bool, true, false, cond, ◌&&◌, List, [], ◌∷◌, length, drop, Option, Some, None}
 use Rattle.label.specs.Text as T
 use Rattle.utf8.specs.declared.Trailing.{Trailing}
 
 -- a row with n bytes behind its first, the second from l to h
-abbrev pub trailing_row : ℕ → ℕ → ℕ → Trailing
-trailing_row n l h = record { fits = true; more = n; lo = l; hi = h }
-
--- no row has the first byte
-abbrev pub no_row : Trailing
-no_row = record { fits = false; more = 0; lo = 0; hi = 0 }
+abbrev pub trailing_row : ℕ → ℕ → ℕ → Option Trailing
+trailing_row n l h = Some (record { more = n; lo = l; hi = h })
 
 -- a byte is in the first of the ranges
 abbrev pub in_first : List T.Range → ℕ → Bool
@@ -18,17 +14,17 @@ in_first [] b = false
 in_first (r ∷ rs) b = T.within r.lo r.hi b
 
 -- what the ranges behind the first say
-abbrev pub behind : List T.Range → Trailing
+abbrev pub behind : List T.Range → Option Trailing
 behind [] = trailing_row 0 0 0
 behind (r ∷ rs) = trailing_row (suc (length rs)) r.lo r.hi
 
--- the row of some rows that first byte b chooses
-unfoldable pub chosen : List T.Row → ℕ → Trailing
-chosen [] b = no_row
+-- the row of some rows that first byte b chooses, where one of them has it
+unfoldable pub chosen : List T.Row → ℕ → Option Trailing
+chosen [] b = None
 chosen (r ∷ rs) b = cond (in_first r.bytes b) (behind (drop 1 r.bytes)) (chosen rs b)
 
--- the row of Table 3-7 that first byte b chooses
-unfoldable pub lead : ℕ → Trailing
+-- the row of Table 3-7 that first byte b chooses, where there is one
+unfoldable pub lead : ℕ → Option Trailing
 lead b = chosen T.table b
 
 -- the bytes behind the first: so many, the second byte from lo to hi, the others from 80 to BF

@@ -2,36 +2,31 @@
 #![tactic(auto)]
 
 ghost use Rattle.std.specs.Prelude.{◌≡◌, true, cond, ◌+◌, ◌*◌, ◌%◌, ◌≤◌, ◌<◌, length, get_or, drop};
-ghost use Rattle.label.specs.Text.{scalar, xml_char};
+ghost use Rattle.std.specs.List.{list_all};
+ghost use Rattle.label.specs.Text.{within, scalar, xml_char};
 ghost use Rattle.utf8.specs.Rows.{lead, trail};
-ghost use Rattle.utf8.specs.Chars.{char_at};
+ghost use Rattle.utf8.specs.Chars.{standing, char_at};
 
 // ── Table 3-7 ──
 
-// What a row says of the bytes behind a first byte in its range: how many there are, and the range of the second, 0 and 0 where there is none; `fits`:
-// there is such a row.
+// What a row says of the bytes behind a first byte in its range: how many there are, and the range of the second, 0 and 0 where there is none.
 #[derive(Clone, Copy)]
 pub struct Trailing {
-    pub fits: bool,
     pub more: usize,
     pub lo: u8,
     pub hi: u8,
 }
 
 // A row with so many bytes behind its first, the second from lo to hi.
-fn row(more: usize, lo: u8, hi: u8) -> Trailing
-    ensures { result ≡ record { fits = true; more = more; lo = lo; hi = hi } }
+fn row(more: usize, lo: u8, hi: u8) -> Option<Trailing>
+    ensures { result ≡ Some (record { more = more; lo = lo; hi = hi }) }
 {
-    Trailing {
-        fits: true,
-        more,
-        lo,
-        hi,
-    }
+    Some(Trailing { more, lo, hi })
 }
 
 // The row of Table 3-7 that a first byte chooses: the nine rows, in the table's order. A third and a fourth byte are from 80 to BF in every row that has one.
-fn row_of(b: u8) -> Trailing
+#[tactic(auto, unfolding(crate::specs::Rows::lead, crate::specs::Rows::chosen, label::specs::Text::table))]
+fn row_of(b: u8) -> Option<Trailing>
     ensures { result ≡ lead b }
 {
     match b {
@@ -53,72 +48,53 @@ fn row_of(b: u8) -> Trailing
         0xf1..=0xf3 => row(3, 0x80, 0xbf),
         // U+100000..U+10FFFF: F4, 80..8F, 80..BF, 80..BF
         0xf4 => row(3, 0x80, 0x8f),
-        _ => Trailing {
-            fits: false,
-            more: 0,
-            lo: 0,
-            hi: 0,
-        },
+        _ => None,
     }
 }
 
-// The n bytes from `at` on are there, the first from lo to hi, the others from 80 to BF.
-fn follows(s: &[u8], at: usize, n: usize, lo: u8, hi: u8) -> bool
-    requires { at ≤ length s.now }
-    ensures { result ≡ trail n lo hi (drop at s.now) }
+// Each is from 80 to BF, as a third and a fourth byte are.
+fn are_trailing(bytes: &[u8]) -> bool
+    ensures { result ≡ list_all (within 0x80 0xbf) bytes.now }
 {
-    let mut l = lo;
-    let mut h = hi;
-    let mut i = at;
-    let mut k = n;
-    while k != 0 {
-        if s.len() <= i {
-            return false;
+    bytes.iter().all(|b| matches!(*b, 0x80..=0xbf))
+}
+
+// The bytes begin with those of a row behind its first: the second byte from its lo to its hi, the others from 80 to BF.
+#[tactic(auto, using(crate::proofs::Rows::trail_short, crate::proofs::Rows::trail_none))]
+fn follows(behind: &[u8], row: Trailing) -> bool
+    ensures { result ≡ trail row.more row.lo row.hi behind.now }
+{
+    match behind.get(..row.more) {
+        None => false,
+        Some([]) => true,
+        Some([second, others @ ..]) => {
+            (row.lo..=row.hi).contains(second) && are_trailing(others)
         }
-        if s[i] < l {
-            return false;
-        }
-        if h < s[i] {
-            return false;
-        }
-        l = 0x80;
-        h = 0xbf;
-        i += 1;
-        k -= 1;
     }
-    true
 }
 
 // ── characters ──
 
-// A character and the place behind it; or no well-formed one; or one that may not stand.
+// A character and the place behind it.
 #[derive(Clone, Copy)]
-pub enum Char {
-    Good { code: u32, next: usize },
-    Ill,
-    Outside,
+pub struct Char {
+    pub code: u32,
+    pub next: usize,
+}
+
+// What is wrong with the bytes at a place: no well-formed character, or one that may not stand.
+#[derive(Clone, Copy)]
+pub enum CharFault {
+    IllFormed,
+    Barred,
 }
 
 // XML 1.0's Char.
+#[tactic(auto, unfolding(label::specs::Text::xml_char))]
 pub fn is_xml(c: u32) -> bool
     ensures { result ≡ xml_char c }
 {
-    if c < 0x20 {
-        return plain::either(plain::either(c == 9, c == 10), c == 13);
-    }
-    if c <= 0xd7ff {
-        return true;
-    }
-    if c < 0xe000 {
-        return false;
-    }
-    if c <= 0xfffd {
-        return true;
-    }
-    if c < 0x10000 {
-        return false;
-    }
-    c <= 0x10ffff
+    matches!(c, 0x9 | 0xa | 0xd | 0x20..=0xd7ff | 0xe000..=0xfffd | 0x10000..=0x10ffff)
 }
 
 // Six more bits, those of a byte after the first.
@@ -126,58 +102,51 @@ fn with_six(c: u32, b: u8) -> u32
     requires { c < 32768 }
     ensures { result ≡ c * 64 + b % 64 }
 {
-    (c << 6) | (b as u32 & 0x3f)
+    (c << 6) | (u32::from(b) & 0x3f)
 }
 
 // The number of the character at `at`, which has `more` bytes after its first, from the bytes' bits.
+#[tactic(auto, unfolding(label::specs::Text::scalar))]
 fn scalar_at(s: &[u8], at: usize, more: usize) -> u32
     requires { at + more < length s.now }
     ensures { result ≡ scalar more (get_or s.now at 0) (drop (at + 1) s.now) }
 {
-    let b = octets::wide(s[at]);
-    if more == 0 {
-        return b;
+    let b = u32::from(s[at]);
+    match more {
+        0 => b,
+        1 => with_six(b & 0x1f, s[at + 1]),
+        2 => with_six(with_six(b & 0x0f, s[at + 1]), s[at + 2]),
+        _ => with_six(
+            with_six(with_six(b & 0x07, s[at + 1]), s[at + 2]),
+            s[at + 3],
+        ),
     }
-    if more == 1 {
-        return with_six(b & 0x1f, s[at + 1]);
-    }
-    if more == 2 {
-        let c = with_six(b & 0x0f, s[at + 1]);
-        return with_six(c, s[at + 2]);
-    }
-    let c = with_six(b & 0x07, s[at + 1]);
-    let d = with_six(c, s[at + 2]);
-    with_six(d, s[at + 3])
 }
 
 // A well-formed character by its number, in front of place `next`.
-fn judged(code: u32, next: usize) -> Char
-    ensures { result ≡ cond (xml_char code) (Char.Good code next) Char.Outside }
+fn judged(code: u32, next: usize) -> Result<Char, CharFault>
+    ensures { result ≡ standing code next }
 {
     if is_xml(code) {
-        Char::Good { code, next }
+        Ok(Char { code, next })
     } else {
-        Char::Outside
+        Err(CharFault::Barred)
     }
 }
 
 // The character at `at`, where it is well-formed and may stand, and the place behind it.
-pub fn char_at(s: &[u8], at: usize) -> Char
+#[tactic(auto, using(crate::proofs::Chars::found))]
+pub fn char_at(s: &[u8], at: usize) -> Result<Char, CharFault>
     requires { at < length s.now }
     ensures { result ≡ char_at s.now at }
 {
     // The first row, for speed: most characters are of one byte.
     if s[at] < 0x80 {
-        return judged(octets::wide(s[at]), at + 1);
+        return judged(u32::from(s[at]), at + 1);
     }
-    let row = row_of(s[at]);
-    let fits = row.fits;
-    let more = row.more;
-    if !fits {
-        return Char::Ill;
+    let row = row_of(s[at]).ok_or(CharFault::IllFormed)?;
+    if !follows(&s[at + 1..], row) {
+        return Err(CharFault::IllFormed);
     }
-    if !follows(s, at + 1, more, row.lo, row.hi) {
-        return Char::Ill;
-    }
-    judged(scalar_at(s, at, more), at + 1 + more)
+    judged(scalar_at(s, at, row.more), at + 1 + row.more)
 }

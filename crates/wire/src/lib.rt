@@ -4,11 +4,11 @@
 
 ghost use Rattle.std.specs.Prelude.{◌≡◌, ◌*◌, ◌/◌, ◌%◌, ◌<◌, length, get_or, pos, [], ◌∷◌};
 ghost use Rattle.label.specs.Wire.{bits_of, four_bytes};
-ghost use Rattle.label.specs.Fetched.{halves, signed, words};
+ghost use Rattle.label.specs.Fetched.{halves, words};
 ghost use Rattle.label.specs.Run.{named};
-ghost use Rattle.label.specs.Sound.{natural, choice, nat as nat_of, size as size_of, clusters_of, glyphs_of, is_font};
+ghost use Rattle.label.specs.Sound.{nat as nat_of, clusters_of, glyphs_of, is_font};
 ghost use Rattle.octets.specs.Puts.{puts};
-ghost use Rattle.wire.specs.Numbers.{glyph_of, as_glyph, glyph_numbers, cluster_numbers};
+ghost use Rattle.wire.specs.Numbers.{as_glyph, glyph_numbers, cluster_numbers};
 
 // ── how many ──
 
@@ -37,14 +37,6 @@ pub fn unit_at(s: &[u8], j: usize) -> u16
         Some(unit) => u16::from_le_bytes(*unit),
         None => 0,
     }
-}
-
-// The bits of number k.
-pub fn number_at(s: &[u8], k: usize) -> u32
-    requires { k < length (words s.now) }
-    ensures { signed result ≡ get_or (words s.now) k (pos 0) }
-{
-    octets::get_u32(s, 4 * k)
 }
 
 // Number k: two's complement, low byte first.
@@ -168,69 +160,6 @@ impl<'a> Run<'a> {
     }
 }
 
-// ── a number in hand, by its bits ──
-
-pub fn is_natural(n: u32) -> bool
-    ensures { result ≡ natural (signed n) }
-{
-    n < 0x8000_0000
-}
-
-// −1 allowed
-pub fn is_choice(n: u32) -> bool
-    ensures { result ≡ choice (signed n) }
-{
-    plain::either(n < 0x8000_0000, n == 0xffff_ffff)
-}
-
-// without its sign
-pub fn size(n: u32) -> u32
-    ensures { result ≡ size_of (signed n) }
-{
-    if n < 0x8000_0000 {
-        n
-    } else {
-        0xffff_ffff - n + 1
-    }
-}
-
-// 0 for a negative one
-pub fn nat(n: u32) -> u32
-    ensures value { result ≡ nat_of (signed n) }
-    ensures bounds { result < 2147483648 }
-{
-    if n < 0x8000_0000 { n } else { 0 }
-}
-
-pub fn count(n: u32) -> usize
-    ensures value { result ≡ nat_of (signed n) }
-    ensures bounds { result < 2147483648 }
-{
-    plain::widened(nat(n))
-}
-
-// with its sign
-pub fn signed_number(n: u32) -> i32
-    ensures { result ≡ signed n }
-{
-    if n < 0x8000_0000 {
-        n as i32
-    } else {
-        (n - 0x8000_0000) as i32 | -0x8000_0000
-    }
-}
-
-// whether the glyph of these four numbers is wholly the font's
-pub fn is_font(index: u32, advance: u32, u: u32, v: u32) -> bool
-    ensures { result ≡ is_font (glyph_of (signed index) (signed advance) (signed u) (signed v)) }
-{
-    let named = is_natural(index);
-    let given = is_natural(advance);
-    let x = size(u);
-    let y = size(v);
-    plain::both(plain::both(plain::both(!named, !given), x == 0), y == 0)
-}
-
 // ── stored ──
 
 pub fn put_unit(out: &mut [u8], j: usize, u: u16)
@@ -246,8 +175,8 @@ pub fn put_bits(out: &mut [u8], k: usize, n: u32)
     requires { k < length out.old / 4 }
     ensures { out.new ≡ puts out.old (4 * k) (four_bytes n) }
 {
-    let at = 4 * k;
-    octets::put_u32(out, at, n);
+    let i = 4 * k;
+    out[i..i + 4].copy_from_slice(&n.to_le_bytes());
 }
 
 pub fn put_number(out: &mut [u8], k: usize, v: i32)

@@ -1,147 +1,116 @@
 // The writer: a sound run's normal writing, text and indices, escaped where that is asked for. The run is read where it stands, in its bytes.
 #![tactic(auto)]
 
-ghost use Rattle.label.specs.Places.{places};
-ghost use Rattle.std.specs.Prelude.{◌≡◌, cond, ◌+◌, ◌<◌, ◌≤◌, length};
+ghost use Rattle.std.specs.Prelude.{◌≡◌, true, ◌+◌, ◌<◌, ◌≤◌, length, replicate};
 ghost use Rattle.label.specs.Fetched.{words};
-ghost use Rattle.label.specs.Sound.{clusters_of, glyphs_of};
+ghost use Rattle.label.specs.Sound.{clusters_of, glyphs_of, sound};
 ghost use Rattle.label.specs.Write.{value_bytes, entry_by, indices_of};
-ghost use Rattle.label.specs.Calls.{refusal, writing_outcome, lengths, text_after, indices_after, write_asked, outputs};
-ghost use Rattle.octets.specs.Puts.{Put};
-ghost use Rattle.wire.specs.Numbers.{glyph_at};
-ghost use Rattle.writer.specs.Entries.{semis, led};
+ghost use Rattle.label.specs.Calls.{outcome_of, lengths, text_after, indices_after, write_asked, outputs};
+ghost use Rattle.octets.specs.Outputs.{Gains};
+ghost use Rattle.wire.specs.Numbers.{as_glyph, as_places};
+ghost use Rattle.writer.specs.Entries.{led, owing};
 
-use label::{Lengths, Refusal, Writing};
+use label::{Cause, Lengths, Refusal};
+use octets::Output;
+use wire::{ClusterNumbers, GlyphNumbers, Run};
 
-// Each `put_..` stores its bytes from `at` on and returns the place behind them; where `out` ends, it only counts.
+// ── the indices ──
 
-// ── the indices, stored as far as there is room ──
-
-fn put_semis(out: &mut [u8], at: usize, n: usize) -> usize
-    requires { (at < 1000000000000000000) × (n < 100000000000000000) }
-    ensures put { Put out.old at (semis n) result out.new }
-    ensures bounds { result ≡ at + n }
+fn put_semis(out: &mut Output, n: usize)
+    ensures { Gains out.old (replicate n 59) out.new }
 {
-    let mut p = at;
-    let mut m = n;
-    while 0 < m {
-        p = octets::put_byte(out, p, 59);
-        m -= 1;
+    for _ in 0..n {
+        out.put_byte(b';');
     }
-    p
 }
 
-// The entry of the glyph at place k, with the separators owed before it; nothing for a glyph wholly the font's, whose entry has no bytes.
-fn put_next(out: &mut [u8], at: usize, owed: usize, a: u32, b: u32, gs: &[u8], k: usize) -> usize
-    requires { (at < 1000000000000000000) × (owed < 100000000000000000) × (k + 3 < length (words gs.now)) }
-    ensures put { Put out.old at (led owed (entry_by value_bytes a b (glyph_at (words gs.now) k))) result out.new }
-    ensures bounds { result ≤ at + owed + 80 }
-{
-    let index = wire::number_at(gs, k);
-    let advance = wire::number_at(gs, k + 1);
-    let u = wire::number_at(gs, k + 2);
-    let v = wire::number_at(gs, k + 3);
-    if wire::is_font(index, advance, u, v) {
-        return at;
-    }
-    let p = put_semis(out, at, owed);
-    entry_bytes::put_entry(out, p, a, b, index, advance, u, v)
-}
-
-// The separators owed before the next entry: one, and those before an entry that was not stored.
-fn owes(stored: bool, owed: usize) -> usize
-    requires { owed < 100000000000000000 }
-    ensures value { result ≡ cond stored 1 (owed + 1) }
+// The entry of a glyph, behind the separators owed before it; nothing for a glyph wholly the font's, whose entry has no bytes. What is owed before the next
+// entry: one separator, and those before an entry that was not stored.
+fn put_next(out: &mut Output, owed: usize, a: u32, b: u32, glyph: GlyphNumbers) -> usize
+    requires { owed < 18446744073709551615 }
+    ensures bytes { Gains out.old (led owed (entry_by value_bytes a b (as_glyph glyph))) out.new }
+    ensures owed { result ≡ owing owed (entry_by value_bytes a b (as_glyph glyph)) }
     ensures bounds { result ≤ owed + 1 }
 {
-    if stored { 1 } else { owed + 1 }
+    if glyph.is_font() {
+        return owed + 1;
+    }
+    put_semis(out, owed);
+    entry_bytes::put_entry(out, a, b, glyph);
+    1
 }
 
 // The indices of a run. Entries without bytes at the end are never stored, as the separators before an entry are stored with it.
-// `lack`: glyphs that the open cluster still lacks.
-fn put_indices(out: &mut [u8], cs: &[u8], gs: &[u8]) -> usize
-    requires { length (words gs.now) ≤ 1000000000000 }
-    ensures { Put out.old 0 (indices_of (clusters_of (words cs.now)) (glyphs_of (words gs.now))) result out.new }
+fn put_indices(out: &mut Output, run: Run)
+    ensures { Gains out.old (indices_of (clusters_of (words run.entry.clusters.now)) (glyphs_of (words run.entry.glyphs.now))) out.new }
 {
-    let counts = wire::number_count(cs);
-    let numbers = wire::number_count(gs);
+    // glyphs that the open cluster still lacks
     let mut lack = 0;
-    let mut i = 0;
-    let mut k = 0;
-    let mut at = 0;
+    let mut opened = 0;
     let mut owed = 0;
-    while 4 <= numbers - k {
+    for k in 0..run.glyph_count() {
+        let glyph = GlyphNumbers::at(run.glyphs, k);
         if 0 < lack {
-            let p = put_next(out, at, owed, 1, 1, gs, k);
-            owed = owes(at < p, owed);
-            at = p;
+            owed = put_next(out, owed, 1, 1, glyph);
             lack -= 1;
-            k += 4;
             continue;
         }
-        if counts - i < 2 {
-            return at;
+        if opened == run.cluster_count() {
+            return;
         }
-        let a = wire::nat(wire::number_at(cs, i));
-        let b = wire::nat(wire::number_at(cs, i + 1));
-        let p = put_next(out, at, owed, a, b, gs, k);
-        owed = owes(at < p, owed);
-        at = p;
-        i += 2;
-        lack = plain::less_one(plain::widened(b));
-        k += 4;
+        let cluster = ClusterNumbers::at(run.clusters, opened);
+        let glyphs = cluster.glyph_count();
+        owed = put_next(out, owed, cluster.unit_count() as u32, glyphs as u32, glyph);
+        opened += 1;
+        lack = glyphs.saturating_sub(1);
     }
-    at
 }
 
 // How many bytes the indices of a run have.
-fn indices_length(cs: &[u8], gs: &[u8]) -> usize
-    requires { length (words gs.now) ≤ 1000000000000 }
-    ensures { result ≡ length (indices_of (clusters_of (words cs.now)) (glyphs_of (words gs.now))) }
+fn indices_length(run: Run) -> usize
+    requires { sound (as_places run) ≡ true }
+    ensures { result ≡ length (indices_of (clusters_of (words run.entry.clusters.now)) (glyphs_of (words run.entry.glyphs.now))) }
 {
-    let mut none = [0u8; 1];
-    put_indices(&mut none, cs, gs)
+    let mut none = Output {
+        bytes: &mut [],
+        at: 0,
+    };
+    put_indices(&mut none, run);
+    none.at
 }
 
 // ── the call ──
 
-fn refused(number: usize, place: usize) -> Writing
-    ensures { result ≡ Writing.Refused (refusal number place) }
-{
-    Writing::Refused(Refusal { number, place })
-}
-
 // The writing of a run as it is asked for, where the run is sound and both outputs have room. Indices have no byte to escape.
 pub fn write_as(
     escape: bool,
-    units: &[u8],
-    clusters: &[u8],
-    glyphs: &[u8],
+    run: Run,
     text: &mut [u8],
     indices: &mut [u8],
-) -> Writing
-    ensures result { let p = places units.now clusters.now glyphs.now in
-        writing_outcome result ≡ lengths (write_asked escape (outputs text.old indices.old) p) }
-    ensures text { let p = places units.now clusters.now glyphs.now in
-        text.new ≡ text_after (write_asked escape (outputs text.old indices.old) p) text.old }
-    ensures indices { let p = places units.now clusters.now glyphs.now in
-        indices.new ≡ indices_after (write_asked escape (outputs text.old indices.old) p) indices.old }
+) -> Result<Lengths, Refusal>
+    ensures result { outcome_of result ≡ lengths (write_asked escape (outputs text.old indices.old) (as_places run.entry)) }
+    ensures text { text.new ≡ text_after (write_asked escape (outputs text.old indices.old) (as_places run.entry)) text.old }
+    ensures indices { indices.new ≡ indices_after (write_asked escape (outputs text.old indices.old) (as_places run.entry)) indices.old }
 {
-    let is_sound = sound::is_sound(units, clusters, glyphs);
-    if !is_sound {
-        return refused(19, 0);
+    if !sound::is_sound(run) {
+        return Err(Cause::UnsoundRun.at(0));
     }
-    let text_bytes = text_bytes::text_length(escape, units);
+    let text_bytes = text_bytes::text_length(escape, run.units);
     if text.len() < text_bytes {
-        return refused(20, text_bytes);
+        return Err(Cause::TextRoom.at(text_bytes));
     }
-    let indices_bytes = indices_length(clusters, glyphs);
+    let indices_bytes = indices_length(run);
     if indices.len() < indices_bytes {
-        return refused(21, indices_bytes);
+        return Err(Cause::IndicesRoom.at(indices_bytes));
     }
-    text_bytes::put_text(escape, text, units);
-    put_indices(indices, clusters, glyphs);
-    Writing::Written(Lengths {
+    let mut out = Output { bytes: text, at: 0 };
+    text_bytes::put_text(escape, &mut out, run.units);
+    let mut out = Output {
+        bytes: indices,
+        at: 0,
+    };
+    put_indices(&mut out, run);
+    Ok(Lengths {
         text: text_bytes,
         indices: indices_bytes,
     })

@@ -1,39 +1,29 @@
--- `attribute::put_resolved`: the loop keeps that what came out, before what the rest resolves to, is what the raw value resolves to (`Reached`); every turn and
--- return is one law of Storing. Assumes nothing.
-use Rattle.attribute.proofs.Storing.{reached_start, reached_end, raw_bad, plain, bad_reference, small, ahead, reference}
-use native.Mathlib.Omega.{arith}
+-- `attribute::put_resolved`: start, turn and both returns are laws of Storing; what the output gains stands in the slice that it lends on.
+-- Assumes nothing.
+use Rattle.std.proofs.Common.{refl, sym, ap, ◌∙◌, rules, arith}
+use Rattle.std.proofs.lemmas.Result.{err_from_is_err_and}
+use Rattle.label.specs.Write.{utf8}
+use Rattle.attribute.specs.Pieces.{piece_bytes}
+use Rattle.attribute.proofs.Storing.{start, end, bad, good}
 use Rattle.attribute.proofs.put_resolved.Goals as goal
 
-pub loop-i-init : goal.loop-i-init
-loop-i-init c = reached_start _ _
+pub loop-piece-init : goal.loop-piece-init
+loop-piece-init c = rw c.into_iter-piece-iterator.ensures.into_iter_gives (start refl refl)
 
-pub returns-then-b-eq60 : goal.returns-then-b-eq60
-returns-then-b-eq60 c = raw_bad c.loop-i.invariant c.loop-i-test.true c.if-b-eq60.true
+pub returns-in_err-b : goal.returns-in_err-b
+returns-in_err-b c =
+    let p = err_from_is_err_and c.from_residual.result c.from_residual.ensures.1 in
+    rw (p.1, p.2) (bad c.loop-piece.invariant _ c.in-Some.ensures.steps c.in_err-b.was)
 
-pub loop-i-preserved-then-b-ne38 : goal.loop-i-preserved-then-b-ne38
-loop-i-preserved-then-b-ne38 c = plain c.loop-i.invariant c.loop-i-test.true c.if-b-eq60.false c.if-b-ne38.true c.spaced_byte.ensures
-    c.put_byte-n.ensures.put c.width_at-i.ensures.value
+pub loop-piece-preserved-in-Byte : goal.loop-piece-preserved-in-Byte
+loop-piece-preserved-in-Byte c = good c.loop-piece.invariant _ c.in-Some.ensures.steps c.in_ok-b.was (sym (ap piece_bytes c.in-Byte.is)) c.put_byte.ensures
 
-pub put_utf8-n-requires : goal.put_utf8-n-requires
-put_utf8-n-requires c = (
-  omega (arith, c.loop-i.invariant.few),
-  small c.loop-i.invariant c.loop-i-test.true c.if-b-ne38.false
-      c.reference_at.ensures c.in-To.is,
-)
-
-pub loop-i-smaller : goal.loop-i-smaller
-loop-i-smaller c = omega (
-  arith,
-  ahead c.loop-i.invariant c.loop-i-test.true c.if-b-ne38.false c.reference_at.ensures
-      c.in-To.is,
-)
-
-pub loop-i-preserved : goal.loop-i-preserved
-loop-i-preserved c = reference c.loop-i.invariant c.loop-i-test.true c.if-b-ne38.false c.reference_at.ensures c.in-To.is
-    c.put_utf8-n.ensures.put
-
-pub returns-in-Bad : goal.returns-in-Bad
-returns-in-Bad c = bad_reference c.loop-i.invariant c.loop-i-test.true c.if-b-ne38.false c.reference_at.ensures c.in-Bad.is
+pub loop-piece-preserved : goal.loop-piece-preserved
+loop-piece-preserved c = good c.loop-piece.invariant _ c.in-Some.ensures.steps c.in_ok-b.was (ap utf8 c.from.ensures ∙ sym (ap piece_bytes c.in-Char.is))
+    c.put_char.ensures
 
 pub returns : goal.returns
-returns c = reached_end c.loop-i.invariant c.loop-i-test.false
+returns c =
+    let g = c.loop-piece.invariant in
+    let p = g.gained.put (omega (arith, g.few, g.inside)) in
+    (g.w, end g c.in-None.ensures.steps, search rules)

@@ -1,16 +1,16 @@
--- `attribute::resolve`: each return is one law of Answers about what the first pass answered: `refuses_23`, `refuses_24`, and `resolves`, which also takes what
--- the second pass stored. Assumes nothing.
-use Rattle.attribute.proofs.Answers.{refuses_23, refuses_24, resolves}
+-- `attribute::resolve`: each return is one law of Answers, about what the first pass answered.
+use Rattle.std.proofs.Common.{rules}
+use Rattle.std.proofs.lemmas.Result.{err_from_is_err_and}
+use Rattle.attribute.proofs.Answers.{bad, too_short, stored}
 use Rattle.attribute.proofs.resolve.Goals as goal
 
+pub returns-in_err-n : goal.returns-in_err-n
+returns-in_err-n c =
+    let p = err_from_is_err_and c.from_residual.result c.from_residual.ensures.1 in
+    rw (p.1, p.2) (bad c.args.raw.now c.args.out.now _ c.in_err-n.ensures)
+
 pub returns-then-out-n : goal.returns-then-out-n
-returns-then-out-n c = refuses_24 c.args.raw.now c.args.out.now _ _ _ c.put_resolved.ensures c.in-Bytes.is c.refused-then-out-n.ensures
-    c.if-out-n.true
+returns-then-out-n c = too_short c.args.raw.now c.args.out.now c.in_ok-n.ensures c.at.ensures (search rules)
 
-pub returns-in-Bad : goal.returns-in-Bad
-returns-in-Bad c = refuses_23 c.args.raw.now c.args.out.now _ _ _ c.put_resolved.ensures c.in-Bad.is
-    c.refused.ensures
-
-pub returns-else-out-n : goal.returns-else-out-n
-returns-else-out-n c = resolves c.args.raw.now c.args.out.now _ _ _ c.put_resolved.ensures c.in-Bytes.is c.if-out-n.false
-    c.put_resolved-in-Bytes.result c.put_resolved-in-Bytes.ensures
+pub returns : goal.returns
+returns c = stored c.args.raw.now c.args.out.now c.in_ok-n.ensures (search rules) _ c.put_resolved-2.ensures

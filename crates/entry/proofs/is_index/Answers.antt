@@ -1,8 +1,8 @@
--- `entry::is_index`: `both_told` of EntryLaws puts the flags of the calls together as the result; `index_told` then says that, where it is true, the entry is
--- an index alone. Assumes nothing.
-use Rattle.entry.proofs.EntryLaws.{both_told, index_told}
+-- `entry::is_index`: `index_told` of EntryLaws says that, where all three tests hold, the entry is an index alone.
+use Rattle.std.proofs.Common.{sym, ◌∙◌}
+use Rattle.entry.proofs.EntryLaws.{index_told}
 use Rattle.entry.proofs.is_index.Goals as goal
 
-pub returns-clause-alone : goal.returns-clause-alone
-returns-clause-alone c = let e = both_told c.both-index.ensures c.ends_at.ensures c.both.ensures in index_told c.args.s.now c.args.at c.args.d c.requires.0
-    c.requires.1 e
+pub returns-then-d-le-INDEX-clause-alone : goal.returns-then-d-le-INDEX-clause-alone
+returns-then-d-le-INDEX-clause-alone c = λ e.
+    index_told c.args.s.now c.args.at c.args.d c.requires.0 c.requires.1 c.if-d-le-INDEX.true.0 c.if-d-le-INDEX.true.1 (sym c.ends_at.ensures ∙ e)

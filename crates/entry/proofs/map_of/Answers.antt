@@ -1,29 +1,29 @@
--- `entry::map_of`: each of five returns is one law of EntryLaws: `code_none`, `code_one`, `code_two`, `code_odd` or `code_open`, chosen by the bytes met;
--- bounds are arithmetic. Assumes nothing.
-use mathlib.Core.Path.{◌∙◌}
-use borrow.Author.Rules.{rules}
+-- `entry::map_of`: each of six returns is one law of EntryLaws, chosen by the bytes met: `code_none`, `code_odd`, `code_open`, `code_one` or `code_two`.
+use Rattle.std.proofs.Common.{◌∙◌, rules}
 use Rattle.entry.proofs.EntryLaws.{code_none, code_one, code_two, code_odd, code_open}
 use Rattle.entry.proofs.map_of.Goals as goal
 
-pub returns-then-byte_or_zero-ne40-clause-value : goal.returns-then-byte_or_zero-ne40-clause-value
-returns-then-byte_or_zero-ne40-clause-value c = let s = c.args.s.now in c.no_map.ensures ∙ code_none s c.byte_or_zero.ensures.value c.if-byte_or_zero-ne40.true
+pub returns-then-ne-clause-value : goal.returns-then-ne-clause-value
+returns-then-ne-clause-value c = code_none c.args.s.now (search rules)
 
-pub returns-then-byte_or_zero-ne41-clause-value : goal.returns-then-byte_or_zero-ne41-clause-value
-returns-then-byte_or_zero-ne41-clause-value c = c.bad_map.ensures
-    ∙ code_open _ c.byte_or_zero.ensures.value c.if-byte_or_zero-ne40.false _ c.digits_at-x.ensures.value
-    c.byte_or_zero-2.ensures.value c.in-58.is _ c.digits_at-y.ensures.value
-    c.byte_or_zero-in-58.ensures.value c.if-byte_or_zero-ne41.true
+pub returns-in_err-get-clause-value : goal.returns-in_err-get-clause-value
+returns-in_err-get-clause-value c = c.from_residual.ensures
+    ∙ code_odd c.args.s.now (search rules) c.digits_at-x.result c.digits_at-x.ensures.value (search rules) (search rules)
+
+pub returns-then-ne-2-clause-value : goal.returns-then-ne-2-clause-value
+returns-then-ne-2-clause-value c =
+    code_open c.args.s.now (search rules) c.digits_at-x.result c.digits_at-x.ensures.value (search rules) c.digits_at-y.result c.digits_at-y.ensures.value
+    (search rules)
 
 pub returns-in-41-clause-value : goal.returns-in-41-clause-value
-returns-in-41-clause-value c = code_one _ c.byte_or_zero.ensures.value c.if-byte_or_zero-ne40.false _ c.digits_at-x.ensures.value
-    c.byte_or_zero-2.ensures.value c.in-41.is
+returns-in-41-clause-value c = c.then_some.ensures
+    ∙ code_one c.args.s.now (search rules) c.digits_at-x.result c.digits_at-x.ensures.value (search rules)
 
-pub returns-else-byte_or_zero-ne41-clause-value : goal.returns-else-byte_or_zero-ne41-clause-value
-returns-else-byte_or_zero-ne41-clause-value c = code_two _ c.byte_or_zero.ensures.value c.if-byte_or_zero-ne40.false _ c.digits_at-x.ensures.value
-    c.byte_or_zero-2.ensures.value c.in-58.is _ c.digits_at-y.ensures.value
-    c.byte_or_zero-in-58.ensures.value c.if-byte_or_zero-ne41.false _ c.both.ensures
+pub returns-after-x-gt0-clause-value : goal.returns-after-x-gt0-clause-value
+returns-after-x-gt0-clause-value c = c.then_some-in-58.ensures
+    ∙ code_two c.args.s.now (search rules) c.digits_at-x.result c.digits_at-x.ensures.value (search rules) c.digits_at-y.result
+    c.digits_at-y.ensures.value (search rules) c.if-x-gt0.then_some (search rules)
 
 pub returns-in_default-clause-value : goal.returns-in_default-clause-value
-returns-in_default-clause-value c = c.bad_map-in_default.ensures
-    ∙ code_odd _ c.byte_or_zero.ensures.value c.if-byte_or_zero-ne40.false _ c.digits_at-x.ensures.value
-    c.byte_or_zero-2.ensures.value (search rules) (search rules)
+returns-in_default-clause-value c =
+    code_odd c.args.s.now (search rules) c.digits_at-x.result c.digits_at-x.ensures.value (search rules) (search rules)

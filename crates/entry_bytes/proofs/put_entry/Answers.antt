@@ -1,10 +1,17 @@
--- `entry_bytes::put_entry`: the index and the fields behind it are two stores joined by `then`; `entry_is` of WriteLaws says that these bytes are the entry.
+-- `entry_bytes::put_entry`: the index and the fields behind it are the entry (`entry_is`).
 -- Assumes nothing.
+use Rattle.std.proofs.Common.{rules}
+use Rattle.label.specs.Sound.{number_index}
+use Rattle.label.specs.Write.{index_bytes}
+use Rattle.octets.specs.Outputs.{Gains}
+use Rattle.octets.proofs.Outputs.{then, gains_as}
+use Rattle.entry_bytes.specs.Fields.{fields}
 use Rattle.entry_bytes.proofs.WriteLaws.{entry_is}
-use Rattle.octets.proofs.Puts.{then, put_as}
-use Rattle.label.specs.Fetched.{signed}
 use Rattle.entry_bytes.proofs.put_entry.Goals as goal
 
-pub returns-clause-put : goal.returns-clause-put
-returns-clause-put c = let a = c.args in put_as (entry_is a.a a.b (signed a.index) (signed a.advance) (signed a.u) (signed a.v))
-    (then c.put_index-p.ensures.put c.put_auv.ensures.put)
+pub returns : goal.returns
+returns c =
+    let g = c.args.g in
+    let p : Gains c.args.out.now (index_bytes c.args.a c.args.b (number_index g.index)) c.put_index.new.out = search rules in
+    let q : Gains c.put_index.new.out (fields g.advance g.u g.v) c.put_fields.new.out = search rules in
+    gains_as (entry_is c.args.a c.args.b g) (then p q)

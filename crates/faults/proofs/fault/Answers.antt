@@ -7,7 +7,7 @@ pub overflow_add-end : goal.overflow_add-end
 overflow_add-end c = record { fits = part_below _ _ _ _ _ c.find_part-part.ensures 18446744073709551616 (omega arith) (omega arith) }
 
 pub slice_bounds-result-end : goal.slice_bounds-result-end
-slice_bounds-result-end c = in_indices _ _ _ _ _ c.find_part-part.ensures c.if-part.true
+slice_bounds-result-end c = in_text _ _ _ _ _ c.find_part-part.ensures c.in-Text.is
 
-pub slice_bounds-result-end-2 : goal.slice_bounds-result-end-2
-slice_bounds-result-end-2 c = in_text _ _ _ _ _ c.find_part-part.ensures c.if-part.false
+pub slice_bounds-result-end-in-Indices : goal.slice_bounds-result-end-in-Indices
+slice_bounds-result-end-in-Indices c = in_indices _ _ _ _ _ c.find_part-part.ensures c.in-Indices.is

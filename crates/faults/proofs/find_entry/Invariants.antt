@@ -1,13 +1,9 @@
--- `faults::find_entry`: the loop keeps "entry k of all is entry `rest` of those from here on" (`part_from`); each return is one law of Faults. Assumes nothing.
-use Prim.Native.Nat.{◌+◌, ◌-◌}
+-- `faults::find_entry`: entry k of all is entry k - i of those from the place on, after i of them. Assumes nothing.
+use Prim.Native.Nat.{◌-◌}
 use mathlib.Core.Path.{◌≡◌}
-use lib.ListN.{length}
 use Rattle.faults.specs.Faults.{entry_shown}
 use Rattle.faults.proofs.Faults.{part_from}
 use Rattle.faults.proofs.find_entry.Given as goal
 
-abbrev pub invariant-loop-place : goal.invariant-loop-place
-invariant-loop-place l = entry_shown l.s l.k ≡ part_from l.s l.place l.rest
-
-abbrev pub decreases-loop-place : goal.decreases-loop-place
-decreases-loop-place l = length l.s + 1 - l.place
+abbrev pub invariant-loop : goal.invariant-loop
+invariant-loop l = entry_shown l.indices l.k ≡ part_from l.indices l.place (l.k - l.counter)

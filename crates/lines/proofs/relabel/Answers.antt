@@ -5,4 +5,4 @@ use Rattle.lines.proofs.relabel.Goals as goal
 
 pub returns-then-indices-gt-LINE_BYTES : goal.returns-then-indices-gt-LINE_BYTES
 returns-then-indices-gt-LINE_BYTES c =
-    rw (← long_line c.args.text.now c.args.indices.now c.if-indices-gt-LINE_BYTES.true) (record { result = refl; text = refl; indices = refl })
+    rw (c.at.ensures, ← long_line c.args.text.now c.args.indices.now c.if-indices-gt-LINE_BYTES.true) (record { result = refl; text = refl; indices = refl })

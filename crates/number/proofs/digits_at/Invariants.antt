@@ -1,12 +1,6 @@
--- `number::digits_at`: the loop keeps `Scanned`: the digits left, read behind v, give the count and value of all behind `start`; `scan_step` steps it,
--- `scan_stop` closes both returns, all of DigitLaws. Assumes nothing.
-use Prim.Native.Nat.{◌-◌}
-use lib.ListN.{length}
+-- `number::digits_at`: what the digits left come to, read behind `value`, is what all come to behind `start` (`Scanned` of DigitLaws).
 use Rattle.number.proofs.DigitLaws.{Scanned}
 use Rattle.number.proofs.digits_at.Given as goal
 
-abbrev pub invariant-loop-i : goal.invariant-loop-i
-invariant-loop-i l = Scanned l.s l.at l.start l.i l.v
-
-abbrev pub decreases-loop-i : goal.decreases-loop-i
-decreases-loop-i l = length l.s - l.i
+abbrev pub invariant-loop-count : goal.invariant-loop-count
+invariant-loop-count l = Scanned l.rest l.start l.count l.value

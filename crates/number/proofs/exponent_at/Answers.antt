@@ -1,13 +1,11 @@
--- `number::exponent_at`: two cases by the letter: `code_raised` or `code_unraised` of NumberLaws over what the calls ensure; `letter_some` shows that a letter
--- found is within the list. Assumes nothing.
-use mathlib.Core.Path.{sym, ◌∙◌}
+-- `number::exponent_at`: two cases by the letter: `code_raised` or `code_unraised` of NumberLaws over what the calls ensure.
+use Rattle.std.proofs.Common.{◌∙◌, rules}
 use Rattle.number.proofs.NumberLaws.{code_raised, code_unraised}
 use Rattle.number.proofs.exponent_at.Goals as goal
 
-pub returns-then-is_exponent-clause-value : goal.returns-then-is_exponent-clause-value
-returns-then-is_exponent-clause-value c = code_raised _ _ _ _ _ c.byte_or_zero.ensures.value (sym c.is_exponent.ensures ∙ c.if-is_exponent.true)
-    c.byte_or_zero-b.ensures.value c.sign_length-k.ensures.value c.digits_at-d.ensures.value
+pub returns-then-not-matches-clause-value : goal.returns-then-not-matches-clause-value
+returns-then-not-matches-clause-value c = code_unraised c.args.s.now c.args.at (search rules)
 
-pub returns-else-is_exponent-clause-value : goal.returns-else-is_exponent-clause-value
-returns-else-is_exponent-clause-value c = let a = c.args in code_unraised a.s.now a.at c.byte_or_zero.ensures.value
-    (sym c.is_exponent.ensures ∙ c.if-is_exponent.false)
+pub returns-clause-value : goal.returns-clause-value
+returns-clause-value c = c.then_some.ensures
+    ∙ code_raised c.args.s.now c.args.at (search rules) _ c.sign_length-from.ensures.value _ c.digits_at-digits.ensures.value _ (search rules)

@@ -1,25 +1,22 @@
--- `number::number_at`: each return is one law of NumberLaws: `code_long`, `code_far`, `code_sized`; `mant_asked` and `expo_asked` give what `to_thousandths`
--- requires from the two counts of digits. Assumes nothing.
-use native.Mathlib.Omega.{arith}
-use Rattle.number.proofs.NumberLaws.{code_long, code_far, code_sized, mant_asked, expo_asked}
+-- `number::number_at`: each return is one law of NumberLaws; `mant_asked` and `expo_asked` give what `to_thousandths` requires from the two counts of digits.
+use Rattle.std.proofs.Common.{◌≡◌, false, ◌&&◌, leb, ◌∙◌, arith, rules}
+use Rattle.number.proofs.NumberLaws.{no_mantissa, no_exponent, code_sized, code_over, mant_asked, expo_asked}
 use Rattle.number.proofs.number_at.Goals as goal
 
+pub returns-in_err-m-clause-value : goal.returns-in_err-m-clause-value
+returns-in_err-m-clause-value c = c.from_residual.ensures ∙ no_mantissa _ c.in_err-m.ensures.value
+
+pub returns-in_err-x-clause-value : goal.returns-in_err-x-clause-value
+returns-in_err-x-clause-value c = c.from_residual-in_err-x.ensures ∙ no_exponent _ _ _ c.in_ok-m.ensures.value c.in_err-x.ensures.value
+
 pub returns-then-m-gt-DIGITS-clause-value : goal.returns-then-m-gt-DIGITS-clause-value
-returns-then-m-gt-DIGITS-clause-value c = code_long _ _ _ c.mantissa_at-m.ensures.value _ c.exponent_at-x.ensures.value _ c.both-ok.ensures
-    c.if-m-gt-DIGITS.true
+returns-then-m-gt-DIGITS-clause-value c =
+    let h : (leb c.in_ok-m.m.count 18 && leb c.in_ok-x.x.count 2) ≡ false = search rules in
+    code_over _ _ _ c.in_ok-m.ensures.value _ c.in_ok-x.ensures.value h
 
-pub returns-then-x-gt-EXPONENT_DIGITS-clause-value : goal.returns-then-x-gt-EXPONENT_DIGITS-clause-value
-returns-then-x-gt-EXPONENT_DIGITS-clause-value c = code_far _ _ _ c.mantissa_at-m.ensures.value _ c.exponent_at-x.ensures.value _ c.both-ok.ensures
-    (omega arith)
-    c.if-x-gt-EXPONENT_DIGITS.true
-
-pub to_thousandths-size-requires : goal.to_thousandths-size-requires
-to_thousandths-size-requires c = (
-  (mant_asked _ _ c.mantissa_at-m.ensures.value (omega arith)).0,
-  (mant_asked _ _ c.mantissa_at-m.ensures.value (omega arith)).1,
-  expo_asked _ _ c.exponent_at-x.ensures.value (omega arith),
-)
+pub to_thousandths-requires : goal.to_thousandths-requires
+to_thousandths-requires c =
+    let m = mant_asked _ _ c.in_ok-m.ensures.value (omega arith) in (m.0, m.1, expo_asked _ _ c.in_ok-x.ensures.value (omega arith))
 
 pub returns-clause-value : goal.returns-clause-value
-returns-clause-value c = code_sized _ _ _ c.mantissa_at-m.ensures.value _ c.exponent_at-x.ensures.value _ c.both-ok.ensures (omega arith)
-    (omega arith) _ c.to_thousandths-size.ensures
+returns-clause-value c = code_sized _ _ _ c.in_ok-m.ensures.value _ c.in_ok-x.ensures.value (omega arith) (omega arith) _ c.to_thousandths.ensures

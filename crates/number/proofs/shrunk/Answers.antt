@@ -1,20 +1,20 @@
--- `number::shrunk`: past 18 places `shrink_none` and `none_whole` give 0; else the test on quotient and remainder decides `round_up` or `round_down`, and
--- `twice_small` gives it room, all of ValueLaws. Assumes nothing.
-use native.Mathlib.Omega.{arith}
+-- `number::shrunk`: past 18 places `shrink_none` and `none_whole` give 0; else the test on quotient and remainder decides `round_up` or `round_down`, all
+-- of ValueLaws.
+use Rattle.std.proofs.Common.{arith}
 use Rattle.number.proofs.ValueLaws.{shrink_none, none_whole, round_up, round_down, ten_pos}
 use Rattle.number.proofs.shrunk.Goals as goal
 
 pub returns-then-k-gt18 : goal.returns-then-k-gt18
-returns-then-k-gt18 c = rw (c.zero.ensures, shrink_none _ _ c.requires c.if-k-gt18.true, none_whole _ _ c.requires c.if-k-gt18.true)
+returns-then-k-gt18 c = rw (shrink_none _ _ c.requires c.if-k-gt18.true, none_whole _ _ c.requires c.if-k-gt18.true) c.limited.ensures
 
 pub nonzero_div-q : goal.nonzero_div-q
-nonzero_div-q c = rw c.power-d.ensures (ten_pos _)
+nonzero_div-q c = rw c.pow-d.ensures (ten_pos _)
 
 pub nonzero_rem-r : goal.nonzero_rem-r
-nonzero_rem-r c = rw c.power-d.ensures (ten_pos _)
+nonzero_rem-r c = rw c.pow-d.ensures (ten_pos _)
 
 pub returns-then-d-r : goal.returns-then-d-r
-returns-then-d-r c = rw (← c.power-d.ensures, round_up c.args.m c.power-d.result (omega (arith, c.if-d-r.true))) c.limited.ensures
+returns-then-d-r c = rw (← c.pow-d.ensures, round_up c.args.m c.pow-d.result (omega (arith, c.if-d-r.true))) c.limited-then-d-r.ensures
 
 pub returns-else-d-r : goal.returns-else-d-r
-returns-else-d-r c = rw (← c.power-d.ensures, round_down c.args.m c.power-d.result (omega (arith, c.if-d-r.false))) c.limited-else-d-r.ensures
+returns-else-d-r c = rw (← c.pow-d.ensures, round_down c.args.m c.pow-d.result (omega (arith, c.if-d-r.false))) c.limited-else-d-r.ensures

@@ -1,15 +1,12 @@
--- `number::to_thousandths`: the ensures of `shifted`, rewritten by both results of `unless`, is the contract by `scaled_is` and `whole_is` of ValueLaws: the
--- exponent's two signs as one shift. Assumes nothing.
-use mathlib.Core.Path.{◌∙◌}
-use Rattle.number.proofs.ValueLaws.{scaled_is, whole_is}
+-- `number::to_thousandths`: the ensures of `shifted` is the contract where `scaled` and `is_whole` are opened.
+use Rattle.label.specs.Entry.{scaled}
+use Rattle.label.specs.Requests.RoundedCount.{is_whole}
 use Rattle.number.proofs.to_thousandths.Goals as goal
 
-pub returns : goal.returns
-returns c = let a = c.args in
-    c.shifted.ensures
-    ∙ rw (
-      c.unless-up.ensures.value,
-      c.unless.ensures.value,
-      scaled_is a.m a.f a.negative a.e,
-      whole_is a.m a.f a.negative a.e,
-    )
+pub returns-then-x : goal.returns-then-x
+unfolding scaled is_whole
+returns-then-x c = rw c.if-x.true c.shifted.ensures
+
+pub returns-else-x : goal.returns-else-x
+unfolding scaled is_whole
+returns-else-x c = rw c.if-x.false c.shifted-else-x.ensures

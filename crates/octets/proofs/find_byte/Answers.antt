@@ -1,20 +1,13 @@
--- `octets::find_byte`: the loop keeps that the first such byte from i on is the first from `from` on; both returns and the next turn are one law of Finds each.
+-- `octets::find_byte`: what `position_of` finds from `from` on is what `cut` counts (`before_from`).
 -- Assumes nothing.
-use native.Mathlib.Omega.{arith}
-use mathlib.Core.Path.{◌∙◌}
-use Rattle.octets.proofs.Finds.{found_here, found_next, found_end}
+use Rattle.std.proofs.Common.{◌+◌, ap, arith}
+use Rattle.octets.proofs.Finds.{before_from}
 use Rattle.octets.proofs.find_byte.Goals as goal
 
-pub returns-then-s-i-clause-value : goal.returns-then-s-i-clause-value
-returns-then-s-i-clause-value c = found_here _ _ _ c.loop-i-test.true c.if-s-i.true ∙ c.loop-i.invariant.2
+pub returns-in-Some-clause-value : goal.returns-in-Some-clause-value
+returns-in-Some-clause-value c =
+    ap (λ n. c.args.from + n) (rw c.in-Some.is at (before_from c.args.b c.args.from c.args.s.now c.position_of.ensures))
 
-pub loop-i-preserved : goal.loop-i-preserved
-loop-i-preserved c = (
-  omega (arith, c.loop-i.invariant.0),
-  omega (arith, c.loop-i-test.true),
-  found_next _ _ _ c.loop-i-test.true c.if-s-i.false
-      ∙ c.loop-i.invariant.2,
-)
-
-pub returns-clause-value : goal.returns-clause-value
-returns-clause-value c = found_end _ _ _ c.loop-i-test.false ∙ c.loop-i.invariant.2
+pub returns-in-None-clause-value : goal.returns-in-None-clause-value
+returns-in-None-clause-value c =
+    omega (arith, rw c.in-None.is at (before_from c.args.b c.args.from c.args.s.now c.position_of.ensures))

@@ -1,8 +1,8 @@
--- `octets::get_u16`: search closes every read and sum; the return unfolds `half_at` and is one rewriting by the values of the two widened bytes. Assumes
--- nothing.
-use Rattle.octets.specs.Words.{half_at}
+-- `octets::get_u16`: the bytes fetched are those at the place (`half_fetched`).
+-- Assumes nothing.
+use Rattle.std.proofs.Common.{rules}
+use Rattle.octets.proofs.Words.{half_fetched}
 use Rattle.octets.proofs.get_u16.Goals as goal
 
 pub returns : goal.returns
-unfolding half_at
-returns c = rw (c.half-a.ensures.0, c.half-b.ensures.0)
+returns c = search (rules, half_fetched)

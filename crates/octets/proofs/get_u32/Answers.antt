@@ -1,8 +1,8 @@
--- `octets::get_u32`: search closes every read, product and sum; the return unfolds `word_at` and is one rewriting by the values of the four widened bytes.
+-- `octets::get_u32`: the bytes fetched are those at the place (`word_fetched`).
 -- Assumes nothing.
-use Rattle.octets.specs.Words.{word_at}
+use Rattle.std.proofs.Common.{rules}
+use Rattle.octets.proofs.Words.{word_fetched}
 use Rattle.octets.proofs.get_u32.Goals as goal
 
 pub returns : goal.returns
-unfolding word_at
-returns c = rw (c.wide-b0.ensures.0, c.wide-b1.ensures.0, c.wide-b2.ensures.0, c.wide-b3.ensures.0)
+returns c = search (rules, word_fetched)

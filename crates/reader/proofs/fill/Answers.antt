@@ -15,7 +15,7 @@ use Rattle.label.specs.Calls.{filled, clusters_after, glyphs_after}
 use Rattle.label.specs.declared.Cursor.{Cursor}
 use Rattle.text.specs.Moves.{units_from}
 use Rattle.entry.specs.declared.Item.{Item}
-use Rattle.entry.specs.declared.EntryRead.TheVariants.{Read}
+use Rattle.label.specs.Outcome.{ok}
 use Rattle.survey.specs.Steps.{entry_at}
 use Rattle.reader.specs.Stores.{cluster_bytes, glyph_bytes, Fillable}
 use Rattle.reader.proofs.Calls.{filling, units_are, clusters_room, glyphs_room, units_filled, clusters_filled, glyphs_filled}
@@ -29,7 +29,7 @@ use Rattle.reader.proofs.fill.Goals as goal
 module _ {t s c₀ g₀ cs gs : List ℕ} {b m u : ℕ} {c : Cursor} (p : Fillable t b s m u (length c₀) (length g₀))
     (l : Filled (units_from t b) s c₀ g₀ cs gs c) where
   -- entry x at the cursor can be stored, and then the walk stands behind it
-  taking : c.place ≤ length s → (x : Item) → entry_at s c ≡ Read x → Fills (units_from t b) s c₀ g₀ cs gs c m x
+  taking : c.place ≤ length s → (x : Item) → entry_at s c ≡ ok x → Fills (units_from t b) s c₀ g₀ cs gs c m x
   taking h x e =
       let f = filling p in
       fills _ _ f.all f.walked _ _ _ _ _ l h (clusters_room p) (glyphs_room p) _ (units_are p) x e
@@ -59,8 +59,8 @@ module _ {t s c₀ g₀ cs gs : List ℕ} {b m u : ℕ} {c : Cursor} (p : Fillab
         glyphs_filled p g₀ (glyphs_end _ _ f.all f.walked _ _ _ l.stands l.ready h _ er _ _ _ l.glyphs e (glyphs_room p))
 
 -- an index alone is the entry at the cursor
-alone : (c : After-index_item) → entry_at c.args.indices.now c.loop-at.at ≡ Read c.index_item.result
-alone c = (c.is_index.ensures.alone c.if-is_index.true).1 c.loop-at.at.entry ∙ ap Read (sym c.index_item.ensures)
+alone : (c : After-index_item) → entry_at c.args.indices.now c.loop-at.at ≡ ok c.index_item.result
+alone c = (c.is_index.ensures.alone c.if-is_index.true).1 c.loop-at.at.entry ∙ ap ok (sym c.index_item.ensures)
 
 pub fill_units-requires-clause-text_value : goal.fill_units-requires-clause-text_value
 fill_units-requires-clause-text_value c = (filling c.requires).text.decodes
@@ -96,26 +96,26 @@ loop-at-preserved-then-is_index c =
     let e = c.put_entry-at.ensures in
     (taking c.requires c.loop-at.invariant c.loop-at-test.true _ x).then _ _ _ e.value e.clusters e.glyphs
 
-pub put_entry-at-requires-in-Read : goal.put_entry-at-requires-in-Read
-put_entry-at-requires-in-Read c =
-    let x = read_here _ c.loop-at.at _ c.read_entry.ensures _ c.in-Read.is in
+pub put_entry-at-requires-in-Ok : goal.put_entry-at-requires-in-Ok
+put_entry-at-requires-in-Ok c =
+    let x = read_here _ c.loop-at.at _ c.read_entry.ensures _ c.in-Ok.is in
     (taking c.requires c.loop-at.invariant c.loop-at-test.true _ x).fits
 
 pub loop-at-smaller : goal.loop-at-smaller
-loop-at-smaller c = omega (arith, place_behind _ _ _ _ _ _ c.put_entry-at-in-Read.ensures.value, c.loop-at-test.true)
+loop-at-smaller c = omega (arith, place_behind _ _ _ _ _ _ c.put_entry-at-in-Ok.ensures.value, c.loop-at-test.true)
 
 pub loop-at-preserved : goal.loop-at-preserved
 loop-at-preserved c =
-    let x = read_here _ c.loop-at.at _ c.read_entry.ensures _ c.in-Read.is in
-    let e = c.put_entry-at-in-Read.ensures in
+    let x = read_here _ c.loop-at.at _ c.read_entry.ensures _ c.in-Ok.is in
+    let e = c.put_entry-at-in-Ok.ensures in
     (taking c.requires c.loop-at.invariant c.loop-at-test.true _ x).then _ _ _ e.value e.clusters e.glyphs
 
-pub returns-in-Refused : goal.returns-in-Refused
-returns-in-Refused c =
+pub unreachable-requires : goal.unreachable-requires
+unreachable-requires c =
     let f = filling c.requires in
     let i = c.loop-at.invariant in
-    let x = read_here _ c.loop-at.at _ c.read_entry.ensures _ c.in-Refused.is in
-    fill_never _ _ f.all f.walked _ _ _ i.stands i.ready c.loop-at-test.true _ x
+    let x = read_here _ c.loop-at.at _ c.read_entry.ensures _ c.in-Err.is in
+    fill_never _ _ f.all f.walked _ _ _ i.stands i.ready c.loop-at-test.true _ _ x
 
 pub slice_bounds-fill_tail-count : goal.slice_bounds-fill_tail-count
 slice_bounds-fill_tail-count c = omega (arith, c.loop-at.invariant.ready.inside, units_are c.requires)

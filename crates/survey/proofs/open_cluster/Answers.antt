@@ -1,12 +1,13 @@
 -- `survey::open_cluster`: the three answers of `move_past` are the cluster, 12 and 13, by one law of Placing each. Assumes nothing.
+use Rattle.std.proofs.Common.{◌∙◌, ap, Err}
 use Rattle.survey.proofs.Placing.{opens_to, opens_past, opens_half}
 use Rattle.survey.proofs.open_cluster.Goals as goal
 
-pub returns-in-To-clause-opens : goal.returns-in-To-clause-opens
-returns-in-To-clause-opens c = opens_to _ _ _ _ _ _ _ _ _ c.move_past.ensures c.in-To.is c.advance.ensures
+pub returns-in-Ok : goal.returns-in-Ok
+returns-in-Ok c = opens_to _ _ _ _ _ _ _ _ c.move_past.ensures c.in-Ok.is c.advance.ensures
 
-pub returns-in-Past-clause-opens : goal.returns-in-Past-clause-opens
-returns-in-Past-clause-opens c = opens_past _ _ _ _ _ _ _ c.move_past.ensures c.in-Past.is c.stopped.ensures
+pub returns-in-Err-PastEnd : goal.returns-in-Err-PastEnd
+returns-in-Err-PastEnd c = opens_past _ _ _ _ _ _ _ c.move_past.ensures (c.in-Err-PastEnd.is ∙ ap Err c.in-Err-PastEnd.field-0-is) c.at.ensures
 
-pub returns-in-Half-clause-opens : goal.returns-in-Half-clause-opens
-returns-in-Half-clause-opens c = opens_half _ _ _ _ _ _ _ c.move_past.ensures c.in-Half.is c.stopped-in-Half.ensures
+pub returns-in-Err-InsidePair : goal.returns-in-Err-InsidePair
+returns-in-Err-InsidePair c = opens_half _ _ _ _ _ _ _ c.move_past.ensures (c.in-Err-InsidePair.is ∙ ap Err c.in-Err-InsidePair.field-0-is) c.at-in-Err-InsidePair.ensures

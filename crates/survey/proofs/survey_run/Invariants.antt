@@ -7,7 +7,7 @@ use Rattle.survey.proofs.Surveying.{Underway}
 use Rattle.survey.proofs.survey_run.Given as goal
 
 abbrev pub invariant-loop-c : goal.invariant-loop-c
-invariant-loop-c l = Underway l.text (units_from l.text l.start) l.indices l.c l.rounded_sum
+invariant-loop-c l = Underway l.text (units_from l.text l.start) l.indices l.c l.rounded
 
 abbrev pub decreases-loop-c : goal.decreases-loop-c
 decreases-loop-c l = length l.indices + 1 - l.c.place

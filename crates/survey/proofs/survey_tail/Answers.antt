@@ -6,11 +6,11 @@ use Rattle.text.specs.Moves.{units_from}
 use Rattle.survey.proofs.Endings.{tail_counted}
 use Rattle.survey.proofs.survey_tail.Goals as goal
 
-pub overflow_add-c : goal.overflow_add-c
-overflow_add-c c = omega (arith, tail_few (units_from c.args.text.now c.args.c.byte))
+pub overflow_add-counts : goal.overflow_add-counts
+overflow_add-counts c = omega (arith, tail_few (units_from c.args.text.now c.args.c.byte))
 
-pub overflow_add-c-2 : goal.overflow_add-c-2
-overflow_add-c-2 c = omega (arith, tail_few (units_from c.args.text.now c.args.c.byte))
+pub overflow_add-counts-2 : goal.overflow_add-counts-2
+overflow_add-counts-2 c = omega (arith, tail_few (units_from c.args.text.now c.args.c.byte))
 
 pub returns-clause-result_value : goal.returns-clause-result_value
 returns-clause-result_value c = c.limit.ensures.result_value ∙ tail_counted _ _ _ _ _ c.count_tail-rest.ensures

@@ -1,40 +1,16 @@
--- `survey::take_entry`: 10, 11, a cluster that opens and a further glyph are one law of Placing each, by the code's flags put together (`enough`, `allowed`).
--- Assumes nothing.
-use mathlib.Core.Bool.{true, not, ◌&&◌, ◌||◌}
-use mathlib.Core.Path.{◌≡◌, sym, ◌∙◌}
-use lib.Dec.{leb, eqb}
-use Rattle.label.specs.Run.{named}
-use Rattle.survey.proofs.Placing.{turn_ten, turn_eleven, turn_opens, turn_further, allowed_is}
-use Rattle.survey.proofs.take_entry.Goals.{Else-not-both}
-use Rattle.survey.proofs.take_entry.Goals.{After-either}
+-- `survey::take_entry`: 10, a cluster that opens, a further glyph and 11 are one law of Placing each, by the three tests. Assumes nothing.
+use Rattle.std.proofs.Common.{rules}
+use Rattle.survey.proofs.Placing.{turn_ten, turn_eleven, turn_opens, turn_further}
 use Rattle.survey.proofs.take_entry.Goals as goal
 
--- what 10 and 11 ask, by the code's flags
-enough : (c : Else-not-both)
-    → (let x = c.args.x in (leb 1 x.units && leb 1 x.glyphs) ≡ true)
-enough c = sym c.both.ensures ∙ c.if-not-both.false
+pub returns-then-not-has_counts : goal.returns-then-not-has_counts
+returns-then-not-has_counts c = turn_ten _ _ _ _ _ c.at.ensures (search rules)
 
-allowed : (c : After-either)
-    → (let a = c.args in
-    c.either.result ≡ ((eqb a.c.lack 0 && not a.bare) || (not a.x.mapped && named a.x.glyph.index)))
-allowed c =
-    allowed_is _ _ _ _ _ (not c.args.x.mapped) _ c.either.ensures c.opens_here-opens.ensures
-    c.both-plain.ensures
-    c.is_named.ensures
+pub returns-then-opens_here : goal.returns-then-opens_here
+returns-then-opens_here c = turn_opens _ _ _ _ _ c.open_cluster.ensures (search rules) (search rules)
 
-pub returns-then-not-both-clause-turns : goal.returns-then-not-both-clause-turns
-returns-then-not-both-clause-turns c = turn_ten _ _ _ _ _ c.stopped.ensures (sym c.both.ensures ∙ c.if-not-both.true)
+pub returns-then-is_plain_index : goal.returns-then-is_plain_index
+returns-then-is_plain_index c = turn_further _ _ _ _ _ c.advance.ensures c.requires.text_value (search rules) (search rules) (search rules)
 
-pub returns-then-not-either-clause-turns : goal.returns-then-not-either-clause-turns
-returns-then-not-either-clause-turns c = turn_eleven _ _ _ _ _ c.stopped-then-not-either.ensures
-    (enough (goal.at.returns-then-not-either-clause-turns c).Else-not-both)
-    (sym (allowed (goal.at.returns-then-not-either-clause-turns c).After-either) ∙ c.if-not-either.true)
-
-pub returns-then-opens-clause-turns : goal.returns-then-opens-clause-turns
-returns-then-opens-clause-turns c = turn_opens _ _ _ _ _ c.open_cluster.ensures.opens (enough (goal.at.returns-then-opens-clause-turns c).Else-not-both)
-    (sym c.opens_here-opens.ensures ∙ c.if-opens.true)
-
-pub returns-clause-turns : goal.returns-clause-turns
-returns-clause-turns c = turn_further _ _ _ _ _ _ c.advance.ensures c.requires.text_value (enough (goal.at.returns-clause-turns c).Else-not-both)
-    (sym (allowed (goal.at.returns-clause-turns c).After-either) ∙ c.if-not-either.false)
-    (sym c.opens_here-opens.ensures ∙ c.if-opens.false)
+pub returns-else-is_plain_index : goal.returns-else-is_plain_index
+returns-else-is_plain_index c = turn_eleven _ _ _ _ _ c.at-else-is_plain_index.ensures (search rules) (search rules)

@@ -1,12 +1,12 @@
--- `text::count_units`: the loop keeps `Reached`: n units were found before i, and with the reading from i on they give the whole; each turn and return is one
--- law of Counts. Assumes nothing.
-use Prim.Native.Nat.{◌≤◌, ◌-◌, ◌*◌}
+-- `text::count_units`: what is counted and the units of the characters left are the whole text's; there are at most two for each byte. Assumes nothing.
+use Prim.Native.Nat.{◌≤◌, ◌+◌, ◌*◌}
+use mathlib.Core.Path.{◌≡◌}
 use lib.ListN.{length}
-use Rattle.text.proofs.Counts.{Reached}
+use Rattle.text.specs.Walk.{characters_from, left}
+use Rattle.text.proofs.Counts.{counted}
 use Rattle.text.proofs.count_units.Given as goal
 
-abbrev pub invariant-loop-i : goal.invariant-loop-i
-invariant-loop-i l = (l.i ≤ length l.s) × (l.n ≤ 2 * l.i) × Reached l.s l.i l.n
-
-abbrev pub decreases-loop-i : goal.decreases-loop-i
-decreases-loop-i l = length l.s - l.i
+abbrev pub invariant-loop-c : goal.invariant-loop-c
+invariant-loop-c l =
+    let rest = left l.c-iterator in
+    (l.n + 2 * length rest ≤ 2 * length l.text) × (counted l.n rest ≡ counted 0 (characters_from l.text 0))

@@ -1,12 +1,13 @@
--- `text::fill_units`: the loop keeps `Fill`: storing the units left behind the n stored gives the whole; `fill_room`, `fill_next`, `fill_end` of Fills carry
--- it, and a fault contradicts the reading. Assumes nothing.
-use Prim.Native.Nat.{◌-◌}
+-- `text::fill_units`: n units are stored, those of the characters left are the others (`Left`), and storing them gives the whole (`Fill`). Assumes nothing.
+use Prim.Native.Nat.{◌≤◌}
 use lib.ListN.{length}
+use Rattle.text.specs.Moves.{units_from}
+use Rattle.text.specs.Walk.{left}
+use Rattle.text.proofs.Moves.{Left}
 use Rattle.text.proofs.Fills.{Fill}
 use Rattle.text.proofs.fill_units.Given as goal
 
-abbrev pub invariant-loop-i : goal.invariant-loop-i
-invariant-loop-i l = Fill l.text l.initial.out l.out l.from l.i l.n
-
-abbrev pub decreases-loop-i : goal.decreases-loop-i
-decreases-loop-i l = length l.text - l.i
+abbrev pub invariant-loop-c : goal.invariant-loop-c
+invariant-loop-c l =
+    let us = units_from l.text l.from in
+    (l.n ≤ length us) × Left us l.n (left l.c-iterator) × Fill us l.initial.out l.out l.n

@@ -1,8 +1,14 @@
--- `text::is_plain`: past the end the test is false, by `le-ltb`, and promises nothing; inside, `lt-ltb` leaves the range's test, and the move is `left_plain`
--- of Moves. Assumes nothing.
-use mathlib.Core.Path.{sym, ◌∙◌}
+-- `text::is_plain`: where such a byte is there, the move past one unit is `left_plain` of Moves. Assumes nothing.
+use Rattle.std.proofs.Common.{arith, ◌≡◌, ◌<◌, true, length, get_or}
+use Rattle.std.proofs.lemmas.Grind.{common_steps}
+use Rattle.label.specs.Text.{within}
+use Rattle.text.specs.Moves.{units_from}
 use Rattle.text.proofs.Moves.{left_plain}
 use Rattle.text.proofs.is_plain.Goals as goal
 
-pub returns-clause-moves : goal.returns-clause-moves
-returns-clause-moves c = let l = c.if-s-at.false in λ h. (l, left_plain c.args.s.now c.args.at c.requires l (sym c.is_within.ensures ∙ h))
+pub returns-in-Some-32-to-127-clause-moves : goal.returns-in-Some-32-to-127-clause-moves
+returns-in-Some-32-to-127-clause-moves c =
+    let s = c.args.text.now in
+    let l : c.args.at < length s = grind (arith, common_steps) in
+    let w : within 32 127 (get_or s c.args.at 0) ≡ true = grind (arith, common_steps) in
+    λ _. (l, left_plain s (units_from s c.args.at) c.args.at c.requires l w)

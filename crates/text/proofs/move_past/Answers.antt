@@ -1,36 +1,25 @@
--- `text::move_past`: the loop keeps `Left`: units passed and units left are all, and a are still to pass; each turn and return is one law of Moves.
+-- `text::move_past`: where the units to pass end inside a character, and where all are passed, the laws of Moves at the units passed so far.
 -- Assumes nothing.
-use native.Mathlib.Omega.{arith}
-use mathlib.Core.Path.{sym, ◌∙◌}
-use borrow.Author.Rules.{rules}
-use Rattle.utf8.proofs.Chars.{char_plain, char_inside}
-use Rattle.text.proofs.Counts.{plain_one}
-use Rattle.text.proofs.Moves.{left_next, left_inside, left_past, left_done, no_ill, no_outside}
+use Rattle.std.proofs.Common.{arith, ◌≡◌, ◌-◌, ◌<◌, ◌∷◌, Ok}
+use Rattle.std.proofs.lemmas.Grind.{common_steps}
+use Rattle.std.proofs.lemmas.Result.{err_from_is_err_and}
+use Rattle.text.specs.Moves.{units_from}
+use Rattle.text.specs.Walk.{characters_from}
+use Rattle.text.specs.declared.MoveFault.TheVariants.{InsidePair}
+use Rattle.text.proofs.Moves.{Left, left_inside, left_done}
 use Rattle.text.proofs.move_past.Goals as goal
 
-pub returns-then-s-b : goal.returns-then-s-b
-returns-then-s-b c = left_past _ _ _ _ _ c.loop-a.invariant c.loop-a-test.true c.if-s-b.true
-
-pub loop-a-preserved-then-is_within : goal.loop-a-preserved-then-is_within
-loop-a-preserved-then-is_within c = let w = sym c.is_within.ensures ∙ c.if-is_within.true in
-    left_next _ _ _ _ _ _ _ _ c.loop-a.invariant c.if-s-b.false (char_plain _ _ w) (plain_one _ w) (search rules)
-
-pub returns-then-a-n : goal.returns-then-a-n
-returns-then-a-n c = left_inside _ _ _ _ _ _ _ _ c.loop-a.invariant c.loop-a-test.true c.if-s-b.false
-    (sym c.char_at.ensures ∙ c.in-Good.is) c.unit_count-n.ensures.value c.if-a-n.true
-
-pub loop-a-smaller : goal.loop-a-smaller
-loop-a-smaller c = let d = char_inside _ _ _ _ c.if-s-b.false (sym c.char_at.ensures ∙ c.in-Good.is) in omega (arith, d, c.if-s-b.false)
-
-pub loop-a-preserved : goal.loop-a-preserved
-loop-a-preserved c = left_next _ _ _ _ _ _ _ _ c.loop-a.invariant c.if-s-b.false (sym c.char_at.ensures ∙ c.in-Good.is)
-    c.unit_count-n.ensures.value c.if-a-n.false
-
-pub returns-in-Ill : goal.returns-in-Ill
-returns-in-Ill c = no_ill _ _ _ c.loop-a.invariant.here c.if-s-b.false (sym c.char_at.ensures ∙ c.in-Ill.is)
-
-pub returns-in-Outside : goal.returns-in-Outside
-returns-in-Outside c = no_outside _ _ _ c.loop-a.invariant.here c.if-s-b.false (sym c.char_at.ensures ∙ c.in-Outside.is)
+pub returns-in_err-left : goal.returns-in_err-left
+returns-in_err-left c =
+    let us = units_from c.args.text.now c.args.at in
+    let k = c.args.count - c.loop-left.left in
+    let ds = characters_from c.args.text.now c.next.new.self.at in
+    let p = err_from_is_err_and c.from_residual.result c.from_residual.ensures.1 in
+    let f : c.in_err-left.field-0.0 ≡ InsidePair = grind (arith, common_steps) in
+    let h : Left us k (Ok c.in-Some-Ok.c ∷ ds) = grind (arith, common_steps) in
+    let n : c.loop-left.left < c.unit_count.result = grind (arith, common_steps) in
+    rw (p.1, p.2, f) (left_inside us k c.in-Some-Ok.c ds h c.args.count c.loop-left.invariant.1 (omega arith) (omega arith))
 
 pub returns : goal.returns
-returns c = left_done _ _ _ _ _ c.loop-a.invariant c.loop-a-test.false
+returns c = left_done c.args.text.now (units_from c.args.text.now c.args.at) c.loop-left.rest.at (c.args.count - c.loop-left.left) c.args.count
+    c.loop-left.invariant.2 c.loop-left.invariant.1 (omega arith)

@@ -1,12 +1,12 @@
--- `text_bytes::put_asked`: two cases by the flag: the bytes stored are the ones asked for by `asked_ascii` or `asked_plain` of Utf8, carried over by `put_as`
--- of octets' Puts. Assumes nothing.
+-- `text_bytes::put_asked`: a character of one byte is escaped as that byte (`asked_ascii`), any other stays (`asked_plain`).
+-- Assumes nothing.
+use Rattle.std.proofs.Common.{rules}
+use Rattle.octets.proofs.Outputs.{gains_as}
 use Rattle.text_bytes.proofs.Utf8.{asked_ascii, asked_plain}
-use Rattle.octets.proofs.Puts.{put_as}
-use mathlib.Core.Path.{sym, ◌∙◌}
 use Rattle.text_bytes.proofs.put_asked.Goals as goal
 
-pub returns-then-both-clause-put : goal.returns-then-both-clause-put
-returns-then-both-clause-put c = let a = c.args in put_as (asked_ascii a.escape a.u a.v (sym c.both.ensures ∙ c.if-both.true)) c.put_escaped.ensures.put
+pub returns-then-u-le127 : goal.returns-then-u-le127
+returns-then-u-le127 c = rw c.if-escape.true (gains_as (asked_ascii c.args.u c.args.v c.if-u-le127.true) c.put_escaped.ensures)
 
-pub returns-clause-put : goal.returns-clause-put
-returns-clause-put c = let a = c.args in put_as (asked_plain a.escape a.u a.v (sym c.both.ensures ∙ c.if-both.false)) c.put_unit.ensures.put
+pub returns-else-escape : goal.returns-else-escape
+returns-else-escape c = gains_as (asked_plain c.args.escape c.args.u c.args.v (λ e. search rules)) c.put_unit.ensures

@@ -1,17 +1,19 @@
--- `writer::put_indices`: the loop keeps "what is left to store gives the whole" (`Left`), with the separators that are owed; either turn stores one entry (law
--- `entry_stored`). Assumes nothing.
-use Prim.Native.Nat.{◌+◌, ◌-◌, ◌*◌, ◌≤◌}
+-- `writer::put_indices`: the output lacks the entries from the next glyph on, with the separators that are owed.
+-- Assumes nothing.
+use Rattle.std.proofs.Common.{◌≤◌, length}
 use Rattle.label.specs.Fetched.{words}
 use Rattle.label.specs.Sound.{clusters_of, glyphs_of}
 use Rattle.label.specs.Write.{indices_of}
-use Rattle.octets.proofs.Puts.{Left}
-use Rattle.writer.proofs.Stores.{owed, written_at}
+use Rattle.octets.proofs.Outputs.{Lacks}
+use Rattle.writer.proofs.Stores.{left}
 use Rattle.writer.proofs.put_indices.Given as goal
 
 abbrev pub invariant-loop-k : goal.invariant-loop-k
-invariant-loop-k l = Left l.initial.out (indices_of (clusters_of (words l.cs)) (glyphs_of (words l.gs))) l.out 0 l.at
-    (owed l.owed (written_at (words l.cs) (words l.gs) l.lack l.i l.k)) × (l.at + l.owed ≤ 21 * l.k)
-    × (l.i ≤ l.counts) × (l.k ≤ l.numbers)
-
-abbrev pub decreases-loop-k : goal.decreases-loop-k
-decreases-loop-k l = l.numbers - l.k
+invariant-loop-k l =
+    let cs = clusters_of (words l.run.clusters.now) in
+    let gs = glyphs_of (words l.run.glyphs.now) in
+    record {
+      lacks : Lacks l.initial.out (indices_of cs gs) l.out (left cs gs l.owed l.lack l.opened l.k);
+      owed_most : l.owed ≤ l.k;
+      opened_most : l.opened ≤ length cs;
+    }

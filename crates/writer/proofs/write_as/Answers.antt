@@ -1,53 +1,53 @@
--- `writer::write_as`: 19, 20 and 21 in order, then both outputs: each return is one law of Answers; a sound run is small enough for the callees (`small`).
+-- `writer::write_as`: 19, 20 and 21 in order, then both outputs: each return is one law of Answers.
 -- Assumes nothing.
-use borrow.Author.Rules.{rules}
-use native.Mathlib.Omega.{arith}
-use mathlib.Core.Path.{ap}
-use mathlib.Core.Bool.{not}
-use Rattle.writer.proofs.Answers.{few, refuses_19, refuses_20, refuses_21, writes}
-use Prim.Native.Nat.{◌≤◌}
-use lib.ListN.{length}
-use Rattle.label.specs.Fetched.{halves, words}
-use Rattle.writer.proofs.write_as.Goals.{Else-not-is_sound}
+use Rattle.std.proofs.Common.{arith, rules}
+use Rattle.sound.proofs.Facts.{few_units}
+use Rattle.writer.proofs.Answers.{refuses_19, refuses_20, refuses_21, written, text_written, indices_written}
 use Rattle.writer.proofs.write_as.Goals as goal
 
--- a sound run is small
-small : (c : Else-not-is_sound)
-    → (let a = c.args in
-    (length (halves a.units.now) ≤ 1000000000000) × (length (words a.glyphs.now) ≤ 1000000000000))
-small c = few _ _ _ c.is_sound-is_sound.ensures (ap not c.if-not-is_sound.false)
-
 pub returns-then-not-is_sound : goal.returns-then-not-is_sound
-returns-then-not-is_sound c = let a = c.args in
-    refuses_19 a.escape a.units.now a.clusters.now a.glyphs.now a.text.now a.indices.now c.is_sound-is_sound.ensures
-    c.refused.ensures (ap not c.if-not-is_sound.true)
+returns-then-not-is_sound c =
+    let a = c.args in
+    let r = a.run in
+    refuses_19 a.escape r.units.now r.clusters.now r.glyphs.now a.text.now a.indices.now c.at.ensures (search rules)
 
 pub text_length-text_bytes-requires : goal.text_length-text_bytes-requires
-text_length-text_bytes-requires c = (small (goal.at.text_length-text_bytes-requires c).Else-not-is_sound).0
+text_length-text_bytes-requires c = let r = c.args.run in omega (arith, few_units r.units.now r.clusters.now r.glyphs.now (search rules))
 
 pub returns-then-text-text_bytes : goal.returns-then-text-text_bytes
-returns-then-text-text_bytes c = let a = c.args in
-    refuses_20 a.escape a.units.now a.clusters.now a.glyphs.now a.text.now a.indices.now c.is_sound-is_sound.ensures
-    (ap not c.if-not-is_sound.false) c.text_length-text_bytes.ensures c.refused-then-text-text_bytes.ensures c.if-text-text_bytes.true
-
-pub indices_length-indices_bytes-requires : goal.indices_length-indices_bytes-requires
-indices_length-indices_bytes-requires c = (small (goal.at.indices_length-indices_bytes-requires c).Else-not-is_sound).1
+returns-then-text-text_bytes c =
+    let a = c.args in
+    let r = a.run in
+    refuses_20 a.escape r.units.now r.clusters.now r.glyphs.now a.text.now a.indices.now (search rules) c.text_length-text_bytes.ensures
+    c.at-then-text-text_bytes.ensures c.if-text-text_bytes.true
 
 pub returns-then-indices-indices_bytes : goal.returns-then-indices-indices_bytes
-returns-then-indices-indices_bytes c = let a = c.args in
-    refuses_21 a.escape a.units.now a.clusters.now a.glyphs.now a.text.now a.indices.now c.is_sound-is_sound.ensures
-    (search rules) c.text_length-text_bytes.ensures (omega arith) c.indices_length-indices_bytes.ensures
-    c.refused-then-indices-indices_bytes.ensures
-    c.if-indices-indices_bytes.true
+returns-then-indices-indices_bytes c =
+    let a = c.args in
+    let r = a.run in
+    refuses_21 a.escape r.units.now r.clusters.now r.glyphs.now a.text.now a.indices.now (search rules) c.text_length-text_bytes.ensures
+    (omega arith) c.indices_length-indices_bytes.ensures
+    c.at-then-indices-indices_bytes.ensures c.if-indices-indices_bytes.true
 
-pub put_text-requires : goal.put_text-requires
-put_text-requires c = (small (goal.at.put_text-requires c).Else-not-is_sound).0
+pub returns-clause-result : goal.returns-clause-result
+returns-clause-result c =
+    let a = c.args in
+    let r = a.run in
+    written a.escape r.units.now r.clusters.now r.glyphs.now a.text.now a.indices.now (search rules) c.text_length-text_bytes.ensures
+    (omega arith) c.indices_length-indices_bytes.ensures (omega arith)
 
-pub put_indices-requires : goal.put_indices-requires
-put_indices-requires c = (small (goal.at.put_indices-requires c).Else-not-is_sound).1
+pub returns-clause-text : goal.returns-clause-text
+returns-clause-text c =
+    let a = c.args in
+    let r = a.run in
+    let p = c.put_text.ensures.put (omega (arith, c.text_length-text_bytes.ensures)) in
+    text_written a.escape r.units.now r.clusters.now r.glyphs.now a.text.now a.indices.now (search rules) c.text_length-text_bytes.ensures
+    (omega arith) c.indices_length-indices_bytes.ensures (omega arith) {p = c.put_text.new.out.at} (search rules)
 
-pub returns : goal.returns
-returns c = let a = c.args in writes a.escape a.units.now a.clusters.now a.glyphs.now a.text.now a.indices.now c.is_sound-is_sound.ensures
-    (search rules) c.text_length-text_bytes.ensures (omega arith) c.indices_length-indices_bytes.ensures
-    (omega arith)
-    c.put_text.ensures c.put_indices.ensures
+pub returns-clause-indices : goal.returns-clause-indices
+returns-clause-indices c =
+    let a = c.args in
+    let r = a.run in
+    let p = c.put_indices.ensures.put (omega (arith, c.indices_length-indices_bytes.ensures)) in
+    indices_written a.escape r.units.now r.clusters.now r.glyphs.now a.text.now a.indices.now (search rules) c.text_length-text_bytes.ensures
+    (omega arith) c.indices_length-indices_bytes.ensures (omega arith) {p = c.put_indices.new.out.at} (search rules)
