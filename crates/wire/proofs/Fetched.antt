@@ -1,13 +1,11 @@
--- How many numbers bytes hold, and each by the bytes at its place: inductions that take two or four bytes at a time, with arithmetic for the places.
+-- How many numbers bytes hold, and the units from one on: inductions that take two or four bytes at a time.
 -- Assumes nothing.
 use mathlib.Core.Path.{◌≡◌, refl}
 use mathlib.Core.List.{List, [], ◌∷◌}
-use Prim.Native.Nat.{ℕ, zero, suc, ◌+◌, ◌*◌, ◌/◌, ◌<◌}
+use Prim.Native.Nat.{ℕ, zero, suc, ◌*◌, ◌/◌}
 use native.Mathlib.Omega.{arith}
-use lib.IntN.{pos}
-use lib.ListN.{length, get_or, drop}
-use Rattle.label.specs.Fetched.{halves, signed, words}
-use Rattle.octets.specs.Words.{word_at}
+use lib.ListN.{length, drop}
+use Rattle.label.specs.Fetched.{halves, words}
 
 pub halves_length : (s : List ℕ) → length (halves s) ≡ length s / 2
 unfolding halves
@@ -30,18 +28,3 @@ halves_drop zero s = refl
 halves_drop (suc j) [] = let e : 2 * suc j ≡ suc (suc (2 * j)) = omega arith in rw e
 halves_drop (suc j) (a ∷ []) = let e : 2 * suc j ≡ suc (suc (2 * j)) = omega arith in rw e
 halves_drop (suc j) (a ∷ b ∷ s) = let e : 2 * suc j ≡ suc (suc (2 * j)) = omega arith in rw e (halves_drop j s)
-
-pub number_is : (s : List ℕ) (k : ℕ) → k < length s / 4 → signed (word_at s (4 * k)) ≡ get_or (words s) k (pos 0)
-unfolding words word_at
-number_is [] k h = absurd (omega arith)
-number_is (a ∷ []) k h = absurd (omega arith)
-number_is (a ∷ b ∷ []) k h = absurd (omega arith)
-number_is (a ∷ b ∷ c ∷ []) k h = absurd (omega arith)
-number_is (a ∷ b ∷ c ∷ d ∷ s) zero h =
-    let e : a + b * 256 + c * 65536 + d * 16777216 ≡ a + 256 * b + 65536 * c + 16777216 * d = omega arith in rw e
-number_is (a ∷ b ∷ c ∷ d ∷ s) (suc k) h =
-    let e : 4 * suc k ≡ suc (suc (suc (suc (4 * k)))) = omega arith in
-    let e₁ : suc (suc (suc (suc (4 * k)))) + 1 ≡ suc (suc (suc (suc (4 * k + 1)))) = omega arith in
-    let e₂ : suc (suc (suc (suc (4 * k)))) + 2 ≡ suc (suc (suc (suc (4 * k + 2)))) = omega arith in
-    let e₃ : suc (suc (suc (suc (4 * k)))) + 3 ≡ suc (suc (suc (suc (4 * k + 3)))) = omega arith in
-    rw (e, e₁, e₂, e₃) (number_is s k (omega arith))

@@ -1,4 +1,3 @@
 pub mod Signed
 pub mod Fetched
 pub mod Runs
-pub mod Stored

@@ -12,6 +12,7 @@ ghost use Rattle.wire.specs.Numbers.{as_glyph, glyph_numbers, cluster_numbers};
 
 // ── how many ──
 
+#[tactic(auto, using(crate::proofs::Fetched::halves_length))]
 pub fn unit_count(s: &[u8]) -> usize
     ensures value { result ≡ length (halves s.now) }
     ensures bounds { result ≡ length s.now / 2 }
@@ -19,6 +20,7 @@ pub fn unit_count(s: &[u8]) -> usize
     s.len() / 2
 }
 
+#[tactic(auto, using(crate::proofs::Fetched::words_length))]
 pub fn number_count(s: &[u8]) -> usize
     ensures value { result ≡ length (words s.now) }
     ensures bounds { result ≡ length s.now / 4 }
@@ -166,8 +168,7 @@ pub fn put_unit(out: &mut [u8], j: usize, u: u16)
     requires { j < length out.old / 2 }
     ensures { out.new ≡ puts out.old (2 * j) (u % 256 ∷ u / 256 ∷ []) }
 {
-    let i = 2 * j;
-    out[i..i + 2].copy_from_slice(&u.to_le_bytes());
+    octets::put_u16(out, 2 * j, u);
 }
 
 // by its bits
@@ -175,14 +176,13 @@ pub fn put_bits(out: &mut [u8], k: usize, n: u32)
     requires { k < length out.old / 4 }
     ensures { out.new ≡ puts out.old (4 * k) (four_bytes n) }
 {
-    let i = 4 * k;
-    out[i..i + 4].copy_from_slice(&n.to_le_bytes());
+    octets::put_u32(out, 4 * k, n);
 }
 
+#[tactic(auto, using(crate::proofs::Signed::bits))]
 pub fn put_number(out: &mut [u8], k: usize, v: i32)
     requires { k < length out.old / 4 }
     ensures { out.new ≡ puts out.old (4 * k) (four_bytes (bits_of v)) }
 {
-    let i = 4 * k;
-    out[i..i + 4].copy_from_slice(&v.to_le_bytes());
+    put_bits(out, k, v.cast_unsigned());
 }
