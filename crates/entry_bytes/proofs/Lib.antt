@@ -1,2 +1,3 @@
 pub mod DecimalLaws
 pub mod WriteLaws
+pub mod Lengths

@@ -1,7 +1,7 @@
 // One entry of the indices, written in its normal form.
 #![tactic(auto)]
 
-ghost use Rattle.std.specs.Prelude.{◌≡◌, cond, [], ◌∷◌, ◌+◌, ◌<◌, eqb};
+ghost use Rattle.std.specs.Prelude.{◌≡◌, cond, [], ◌∷◌, ◌+◌, ◌<◌, ◌≤◌, eqb, length};
 ghost use Rattle.label.specs.Bytes.{decimal};
 ghost use Rattle.label.specs.Sound.{number_index, number_advance};
 ghost use Rattle.label.specs.Write.{fraction, value_bytes, advance_by, offset_by, map_bytes, index_bytes, entry_by};
@@ -160,7 +160,8 @@ fn put_fields(out: &mut Output, advance: i32, u: i32, v: i32)
 
 // The entry of a glyph, which opens a cluster a:b.
 pub fn put_entry(out: &mut Output, a: u32, b: u32, g: GlyphNumbers)
-    ensures { Gains out.old (entry_by value_bytes a b (as_glyph g)) out.new }
+    ensures gains { Gains out.old (entry_by value_bytes a b (as_glyph g)) out.new }
+    ensures bounds { length (entry_by value_bytes a b (as_glyph g)) ≤ 80 }
 {
     put_index(out, a, b, g.index);
     put_fields(out, g.advance, g.u, g.v);

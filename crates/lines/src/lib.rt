@@ -59,7 +59,8 @@ pub struct TwoLines<'a> {
 
 // The first two lines; a missing one is empty.
 pub fn two_lines(input: &[u8]) -> TwoLines<'_>
-    ensures { TwoLinesOf input.now result }
+    ensures lines { TwoLinesOf input.now result }
+    ensures less { 0 < length input.now → length result.rest.now < length input.now }
 {
     let text = first_line(input);
     let indices = first_line(text.rest);

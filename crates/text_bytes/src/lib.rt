@@ -22,7 +22,8 @@ fn put_tail(out: &mut Output, c: u32)
 // A character's bytes. A lone half has some too, which is no `char` for `encode_utf8`.
 pub fn put_char(out: &mut Output, c: u32)
     requires { c < 2097152 }
-    ensures { Gains out.old (utf8 c) out.new }
+    ensures gains { Gains out.old (utf8 c) out.new }
+    ensures bounds { length (utf8 c) ≤ 4 }
 {
     if c <= 0x7f {
         out.put_byte(c as u8);

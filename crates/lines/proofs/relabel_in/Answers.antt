@@ -1,5 +1,5 @@
 -- `lines::relabel_in`: the buffers hold every run, so 16 to 18 never come; the bytes that the reading filled are the run's (laws of Relabels). Assumes nothing.
-use Rattle.std.proofs.Common.{◌≡◌, List, [], rules, Ok, Err}
+use Rattle.std.proofs.Common.{◌≡◌, [], rules, Ok, Err}
 use Rattle.lines.proofs.Relabels.{line_refused, line_room, line_written}
 use Rattle.lines.proofs.relabel_in.Goals as goal
 
