@@ -20,7 +20,7 @@ loop-piece-preserved-in-Byte c = good c.loop-piece.invariant _ c.in-Some.ensures
 
 pub loop-piece-preserved : goal.loop-piece-preserved
 loop-piece-preserved c = good c.loop-piece.invariant _ c.in-Some.ensures.steps c.in_ok-b.was (ap utf8 c.from.ensures ∙ sym (ap piece_bytes c.in-Char.is))
-    c.put_char.ensures
+    c.put_char.ensures.gains
 
 pub returns : goal.returns
 returns c =
