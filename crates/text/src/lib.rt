@@ -70,7 +70,7 @@ impl<'a> Iterator for Characters<'a> {
     }
 }
 
-fn characters(text: &[u8], at: usize) -> Characters<'_>
+fn characters_from(text: &[u8], at: usize) -> Characters<'_>
     ensures { result ≡ record { text = text.entry; at = at } }
 {
     Characters { text, at }
@@ -94,7 +94,7 @@ fn count_units(text: &[u8]) -> Result<usize, Refusal>
     ensures { result ≡ text_count (decode 0 0 text.now) }
 {
     let mut n = 0;
-    for c in characters(text, 0) {
+    for c in characters_from(text, 0) {
         n += unit_count(c?.code);
     }
     Ok(n)
@@ -182,7 +182,7 @@ impl<'a> Passage<'a> {
     pub fn move_past(self, count: usize) -> Result<Passage<'a>, MoveFault>
         ensures { Moves self.entry count result }
     {
-        let mut rest = characters(self.text, self.at);
+        let mut rest = characters_from(self.text, self.at);
         let mut left = count;
         while left != 0 {
             let c = match rest.next() {
@@ -222,7 +222,7 @@ impl<'a> Passage<'a> {
         ensures { out.new ≡ filled (from_halves (units self.entry)) out.old }
     {
         let mut n = 0;
-        for c in characters(self.text, self.at) {
+        for c in characters_from(self.text, self.at) {
             match c {
                 Ok(c) => n = put_char(out, n, c.code),
                 Err(_) => unreachable!(),
@@ -235,6 +235,6 @@ impl<'a> Passage<'a> {
         requires { length (units self) ≤ max_units }
         ensures { result ≡ length (tail (units self.entry)).clusters }
     {
-        characters(self.text, self.at).count()
+        characters_from(self.text, self.at).count()
     }
 }
