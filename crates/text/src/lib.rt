@@ -141,7 +141,7 @@ pub fn survey_text(text: &[u8]) -> Result<TextUnits<'_>, Refusal>
 
 // ── storing a text's units ──
 
-// The halves of a pair: the high ten bits of what the character is above U+FFFF, and the low ten.
+// The halves of a pair: the high ten bits of what the character is above U+FFFF, and the low ten. Document 01 names shifts and masks for them.
 fn halves(c: u32) -> (u16, u16)
     requires { (65536 ≤ c) × (c ≤ 1114111) }
     ensures { (result.0 ≡ 55296 + (c - 65536) / 1024) × (result.1 ≡ 56320 + (c - 65536) % 1024) }
@@ -184,6 +184,7 @@ impl<'a> Passage<'a> {
     {
         let mut rest = characters_from(self.text, self.at);
         let mut left = count;
+        // A `for` reads one character more than the units ask for.
         while left != 0 {
             let c = match rest.next() {
                 Some(Ok(c)) => c,

@@ -97,7 +97,7 @@ pub fn is_xml(c: u32) -> bool
     matches!(c, 0x9 | 0xa | 0xd | 0x20..=0xd7ff | 0xe000..=0xfffd | 0x10000..=0x10ffff)
 }
 
-// Six more bits, those of a byte after the first.
+// Six more bits, those of a byte after the first. Document 01 names shifts and masks for the bits.
 fn with_six(c: u32, b: u8) -> u32
     requires { c < 32768 }
     ensures { result ≡ c * 64 + b % 64 }
