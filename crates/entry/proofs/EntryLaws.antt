@@ -8,7 +8,6 @@ use native.Mathlib.Nat.{add-zero, zero-add}
 use lib.ListN.{length-drop}
 use lib.Seq.{drop-drop, get_or-drop}
 use borrow.Author.Tests.{eq-eqb, ne_eqb, eqb-true, le-leb, lt-leb, lt-ltb, leb-true, leb-false}
-use Rattle.std.proofs.lemmas.Option.{same_Some, none-some}
 use Rattle.std.specs.Bool.{then_some}
 use Rattle.label.specs.Limits.{max_index}
 use Rattle.label.specs.Bytes.{value_from, value}
@@ -24,6 +23,7 @@ use Rattle.number.specs.Digits.{cap, head_of, ends, is_break, lead, digits_from}
 use Rattle.number.specs.Numbers.{Numeral, sign_length, number_of, formed}
 use Rattle.number.specs.declared.Thousandths.{Thousandths}
 use Rattle.number.proofs.DigitLaws.{head_drop}
+use Rattle.number.proofs.NumberLaws.{told_some, told_none}
 use Rattle.entry.specs.declared.MapPart.{MapPart}
 use Rattle.entry.specs.declared.Front.{Front}
 use Rattle.entry.specs.declared.Field.{Field}
@@ -42,15 +42,6 @@ map_none s h = rw (ne_eqb _ _ h)
 map_some : (s : List ℕ) → head_of s ≡ 40 → map_of s ≡ map_with s (lead_at 1 s) (lead_at (1 + (length (lead_at 1 s) + 1)) s)
 unfolding map_of
 map_some s h = rw (eq-eqb _ _ h)
-
--- a test and the value told where it holds
-told_some : {A : Type 0} (b : Bool) (x y : A) → Some y ≡ then_some b x → (b ≡ true) × (x ≡ y)
-told_some true x y e = (refl, sym (same_Some y x e))
-told_some false x y e = absurd (none-some y (sym e))
-
-told_none : {A : Type 0} (b : Bool) (x : A) → None ≡ then_some b x → b ≡ false
-told_none true x e = absurd (none-some x e)
-told_none false x e = refl
 
 -- what the code tells of it
 abbrev told_map : List ℕ → Option MapPart
