@@ -281,6 +281,13 @@ pub struct Counts {
     pub glyphs: usize,
 }
 
+// A label: its text and its indices, where they stand.
+#[derive(Clone, Copy)]
+pub struct Label<'a> {
+    pub text: &'a [u8],
+    pub indices: &'a [u8],
+}
+
 // What the reader says of a label that it accepts: its run's counts, and beside them how many given fields were not whole thousandths.
 #[derive(Clone, Copy)]
 pub struct Reading {
