@@ -1,13 +1,15 @@
--- The entries from a place of the indices on: the one that stands there, up to its `;`, and those behind it (`from_is`); and so what the iterator gives: the
--- result of that entry, and then those of the entries behind it (`results_next`, `results_refused`). For its users `next_entry` and `no_entry` say which
--- entries a result comes from, `result_ok` and `result_no` what the definitions say of that entry.
+-- The entries that bytes are: the one in front, up to its `;`, and those behind it (`split_here`); and so what the iterator gives: the result of that entry,
+-- and then those of the entries behind it (`results_next`, `results_last`, `results_refused`). For its users `next_entry` and `no_entry` say which entries a
+-- result comes from, `result_ok` and `result_no` what the definitions say of that entry.
 -- Assumes nothing.
-use Rattle.std.proofs.Common.{◌≡◌, refl, sym, ap, ◌∙◌, cond, Bool, true, false, ◌&&◌, List, [], ◌∷◌, ℕ, suc, ◌+◌, ◌≤◌, ◌<◌, arith, eqb, leb, length, drop, get_or, Result, Ok, Err, add-one}
-use lib.Dec.{leb-zero, leb-suc-suc}
-use lib.ListN.{length-drop}
-use lib.Seq.{drop-drop}
-use borrow.Author.Tests.{le-leb, lt-leb, leb-true, leb-false}
+use Rattle.std.proofs.Common.{◌≡◌, refl, sym, ap, ◌∙◌, cond, Bool, true, false, not, ◌&&◌, List, [], ◌∷◌, ℕ, suc, ◌+◌, ◌≤◌, ◌<◌, arith, eqb, leb, length, drop, get_or, Option, Some, None, Result, Ok, Err, ◌⊎◌, inl, inr, add-one}
+use Rattle.std.specs.Slice.{IsGetRangeResult}
+use Rattle.std.proofs.lemmas.List.{take_rest}
+use lib.Dec.{leb-suc-suc}
+use borrow.Author.Tests.{le-leb, lt-leb}
 use Rattle.label.specs.Limits.{max_index}
+use Rattle.std.specs.Bool.{then_some}
+use Rattle.std.specs.Borrow.{Bor}
 use Rattle.label.specs.Outcome.{Outcome, ok, no, ◌>>◌, need}
 use Rattle.label.specs.Bytes.{empty, split, Cut, on_before, cut, value}
 use Rattle.label.specs.Entry.{Entry, entries, entry_part, index_digits, well_formed, field_fits, entry_of}
@@ -21,7 +23,7 @@ use Rattle.label.proofs.Steps.{entry_steps}
 use Rattle.label.proofs.Splits.{split_hit, split_miss, split_nil, split_length}
 use Rattle.entry.specs.declared.Item.{Item}
 use Rattle.entry.specs.Items.{is_semi, here, cut_item, entry_cause, entry_read, entry_result, entry_here}
-use Rattle.entry.specs.Results.{entries_from, before, entry_results}
+use Rattle.entry.specs.Results.{before, entry_results, rest_results}
 
 -- ── the entry at a place ──
 
@@ -58,28 +60,6 @@ split_here l =
     split_head l
     ∙ ap (λ (x : List ℕ). x ∷ cond (leb (suc (length x)) (length l)) (split 59 (drop (suc (length x)) l)) []) (here_is l)
 
--- the entry at a place, and those behind it
-from_is : (s : List ℕ) (i : ℕ) → i ≤ length s → entries_from s i ≡ here (drop i s) ∷ entries_from s (i + length (here (drop i s)) + 1)
-unfolding entries_from
-from_is s i h =
-    let n = length (here (drop i s)) in
-    let e : i + n + 1 ≡ i + suc n = omega arith in
-    let t : leb (suc n) (length (drop i s)) ≡ leb (i + suc n) (length s) =
-    cases (leb (i + suc n) (length s))
-    (λ t. rw t (le-leb (suc n) (length (drop i s)) (rw length-drop (omega (arith, leb-true (i + suc n) (length s) t)))))
-    (λ t. rw t (lt-leb (suc n) (length (drop i s)) (rw length-drop (omega (arith, leb-false (i + suc n) (length s) t))))) in
-    rw (le-leb i (length s) h, e, ← drop-drop (suc n) i s, ← t) (split_here (drop i s))
-
-from_none : (s : List ℕ) (i : ℕ) → length s < i → entries_from s i ≡ []
-unfolding entries_from
-from_none s i h = rw (lt-leb i (length s) h)
-
--- all of them
-pub from_all : (s : List ℕ) → entries_from s (cond (empty s) 1 0) ≡ entries s
-unfolding entries_from entries
-from_all [] = refl
-from_all (b ∷ s) = rw (leb-zero (suc (length s)))
-
 -- there are at most as many as bytes and one more
 pub entries_few : (s : List ℕ) → length (entries s) ≤ length s + 1
 unfolding entries
@@ -91,6 +71,15 @@ entries_few (b ∷ s) = omega (arith, split_length 59 (b ∷ s))
 pub results_nil : (k : ℕ) → entry_results k [] ≡ []
 unfolding entry_results
 results_nil k = refl
+
+-- all of them: of no bytes none
+pub results_all : (s : Bor (List ℕ)) → rest_results 0 (then_some (not (empty s.now)) s) ≡ entry_results 0 (entries s.now)
+unfolding entries
+results_all s = go (empty s.now)
+  where
+    go : (b : Bool) → rest_results 0 (then_some (not b) s) ≡ entry_results 0 (cond b [] (split 59 s.now))
+    go true = sym (results_nil 0)
+    go false = refl
 
 pub results_cons : (k : ℕ) (e : List ℕ) (es : List (List ℕ)) → entry_results k (e ∷ es) ≡ before (entry_result k e) (entry_results (suc k) es)
 unfolding entry_results
@@ -125,28 +114,35 @@ result_ok k e x h = read_ok (length e) (rounded_entry e) (entry k e) x h
 pub result_no : (k : ℕ) (e : List ℕ) (r : Refusal) → entry_result k e ≡ Err r → entry k e ≡ no (cause_number r.cause) r.place
 result_no k e r h = read_no (length e) (rounded_entry e) (entry k e) (entry_no k e) r h
 
-module _ (s : List ℕ) (i k : ℕ) where
-  -- past the end there are none
-  pub results_none : length s < i → entry_results k (entries_from s i) ≡ []
-  results_none h = rw (from_none s i h) (results_nil k)
+module _ (s : List ℕ) (k : ℕ) where
+  results_here : entry_results k (split 59 s) ≡ before (entry_here k s)
+      (entry_results (suc k) (cond (leb (suc (length (here s))) (length s)) (split 59 (drop (suc (length (here s))) s)) []))
+  results_here = rw (split_here s) (results_cons k (here s) _)
 
-  module _ (h : i ≤ length s) where
-    results_here : entry_results k (entries_from s i)
-        ≡ before (entry_here k (drop i s)) (entry_results (suc k) (entries_from s (i + length (here (drop i s)) + 1)))
-    results_here = rw (from_is s i h) (results_cons k (here (drop i s)) _)
+  module _ (x : Item) (e : entry_here k s ≡ Ok x) where
+    used_is : length (here s) ≡ x.used
+    used_is = let y = result_ok k (here s) x e in ap (λ (z : Item). z.used) y.2
 
-    -- behind an entry that is taken are the results of the others
-    pub results_next : (x : Item) → entry_here k (drop i s) ≡ Ok x
-        → entry_results k (entries_from s i) ≡ Ok x ∷ entry_results (k + 1) (entries_from s (i + x.used + 1))
-    results_next x e =
-        let y = result_ok k (here (drop i s)) x e in
-        let n : length (here (drop i s)) ≡ x.used = ap (λ (z : Item). z.used) y.2 in
-        rw (add-one k, results_here, e, n)
+    -- behind an entry that is taken are the results of the others, where there is a `;` behind it
+    results_next : x.used + 1 ≤ length s → entry_results k (split 59 s) ≡ Ok x ∷ entry_results (k + 1) (split 59 (drop (x.used + 1) s))
+    results_next h = rw (add-one, add-one, results_here, e, used_is, le-leb (suc x.used) (length s) (omega (arith, h)))
 
-    -- behind one that is refused there is nothing
-    pub results_refused : (r : Refusal) → entry_here k (drop i s) ≡ Err r → (j : ℕ) → length s < j → (m : ℕ)
-        → entry_results k (entries_from s i) ≡ Err r ∷ entry_results m (entries_from s j)
-    results_refused r e j l m = rw (results_here, e, from_none s j l, results_nil)
+    results_last : length s < x.used + 1 → entry_results k (split 59 s) ≡ Ok x ∷ []
+    results_last h = rw (results_here, e, used_is, lt-leb (suc x.used) (length s) (omega (arith, h)), results_nil)
+
+    -- the rest is what is got behind the entry
+    pub results_taken : (r : Option (Bor (List ℕ))) → IsGetRangeResult s (x.used + 1) (length s) r
+        → entry_results k (split 59 s) ≡ Ok x ∷ rest_results (k + 1) r
+    results_taken (Some p) g = rw (g.0.2 ∙ take_rest s (x.used + 1)) (results_next g.0.0)
+    results_taken None g = results_last (past g.0)
+      where
+        past : ((length s < x.used + 1) ⊎ (length s < length s)) → length s < x.used + 1
+        past (inl h) = h
+        past (inr h) = omega (arith, h)
+
+  -- behind one that is refused there is nothing
+  pub results_refused : (r : Refusal) → entry_here k s ≡ Err r → entry_results k (split 59 s) ≡ Err r ∷ []
+  results_refused r e = rw (results_here, e)
 
 -- ── for who takes them ──
 

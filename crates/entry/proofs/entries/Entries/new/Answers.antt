@@ -1,11 +1,8 @@
--- `entry::Entries::new`: `from_all` of Results: the entries from the first place on are all of them. Assumes nothing.
-use Rattle.std.proofs.Common.{◌≡◌, cond, ap, rules}
+-- `entry::Entries::new`: `results_all` of Results. Assumes nothing.
+use Rattle.std.proofs.Common.{◌≡◌, rules}
 use Rattle.label.specs.Bytes.{empty}
-use Rattle.entry.specs.Results.{entry_results}
-use Rattle.entry.proofs.Results.{from_all}
+use Rattle.entry.proofs.Results.{results_all}
 use Rattle.entry.proofs.entries.Entries.new.Goals as goal
 
 pub returns : goal.returns
-returns c =
-    let p : c.from.result ≡ cond (empty c.args.indices.now) 1 0 = search rules in
-    rw p (ap (entry_results 0) (from_all c.args.indices.now))
+returns c = let e : c.is_empty.result ≡ empty c.args.indices.now = search rules in rw (c.then_some.ensures, e) (results_all c.args.indices)
