@@ -52,6 +52,7 @@ pub fn digits_of(s: &[u8], start: u64) -> Digits
 // ── values ──
 
 // Whole thousandths within the limit, and whether the exact value is this one.
+// That they are within it is a clause of `number_of` and no field of this: the definitions (`sized`) make such values from a number alone.
 #[derive(Clone, Copy)]
 pub struct Thousandths {
     pub count: u32,
