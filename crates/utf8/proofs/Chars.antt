@@ -9,8 +9,7 @@ use mathlib.Core.List.{List}
 use Rattle.std.proofs.lemmas.Grind.{common_steps}
 use lib.ListN.{get_or, drop}
 use Rattle.std.specs.Prelude.{Some, None, Err}
-use Rattle.label.specs.Text.{within, starts_char, following, scalar, xml_char}
-use Rattle.label.proofs.Basics.{within_lo, within_hi}
+use Rattle.label.specs.Text.{starts_char, following, scalar, xml_char}
 use Rattle.label.proofs.Cursors.{part_rest, onto, decode_skip}
 use Rattle.utf8.specs.Rows.{lead, trail}
 use Rattle.utf8.specs.Chars.{read_char, standing, char_at}
@@ -30,11 +29,8 @@ unfolding xml_char
 xml_plain c l k = grind (arith, common_steps)
 
 -- a byte from space to 127 is a character
-pub char_plain : (s : List ℕ) (i : ℕ) → within 32 127 (get_or s i 0) ≡ true → char_at s i ≡ read_char (get_or s i 0) (i + 1)
-char_plain s i h =
-    let l : 32 ≤ get_or s i 0 = within_lo 32 127 (get_or s i 0) h in
-    let k : get_or s i 0 ≤ 127 = within_hi 32 127 (get_or s i 0) h in
-    char_one s i (omega arith) ∙ rw (xml_plain (get_or s i 0) l k)
+pub char_plain : (s : List ℕ) (i : ℕ) → 32 ≤ get_or s i 0 → get_or s i 0 ≤ 127 → char_at s i ≡ read_char (get_or s i 0) (i + 1)
+char_plain s i h k = char_one s i (omega arith) ∙ rw (xml_plain (get_or s i 0) h k)
 
 -- by the row of its first byte
 pub char_no_row : (s : List ℕ) (i : ℕ) → lead (get_or s i 0) ≡ None → char_at s i ≡ Err IllFormed
@@ -60,4 +56,4 @@ module _ (s : List ℕ) (i : ℕ) (r : Trailing) (e : lead (get_or s i 0) ≡ So
       rw (t, n)
 
 -- what `char_at` is proved by: these ways, and that the bytes of a row are within the text
-pub ruleset found = (char_one, char_no_row, char_cut, char_whole, trail_fits, part_rest)
+pub ruleset found = (char_plain, char_no_row, char_cut, char_whole, trail_fits, part_rest)

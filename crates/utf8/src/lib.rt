@@ -97,7 +97,7 @@ pub fn is_xml(c: u32) -> bool
     matches!(c, 0x9 | 0xa | 0xd | 0x20..=0xd7ff | 0xe000..=0xfffd | 0x10000..=0x10ffff)
 }
 
-// Six more bits, those of a byte after the first.
+// Six more bits, those of a byte after the first. Document 01 names shifts and masks for the bits.
 fn with_six(c: u32, b: u8) -> u32
     requires { c < 32768 }
     ensures { result ≡ c * 64 + b % 64 }
@@ -135,18 +135,24 @@ fn judged(code: u32, next: usize) -> Result<Char, CharFault>
 }
 
 // The character at `at`, where it is well-formed and may stand, and the place behind it.
+#[inline(always)]
 #[tactic(auto, using(crate::proofs::Chars::found))]
 pub fn char_at(s: &[u8], at: usize) -> Result<Char, CharFault>
     requires { at < length s.now }
     ensures { result ≡ char_at s.now at }
 {
-    // The first row, for speed: most characters are of one byte.
-    if s[at] < 0x80 {
-        return judged(u32::from(s[at]), at + 1);
+    match s[at] {
+        // For speed: such a byte is a character without more reading, and most bytes are such.
+        b @ 0x20..=0x7f => Ok(Char {
+            code: u32::from(b),
+            next: at + 1,
+        }),
+        b => {
+            let row = row_of(b).ok_or(CharFault::IllFormed)?;
+            if !follows(&s[at + 1..], row) {
+                return Err(CharFault::IllFormed);
+            }
+            judged(scalar_at(s, at, row.more), at + 1 + row.more)
+        }
     }
-    let row = row_of(s[at]).ok_or(CharFault::IllFormed)?;
-    if !follows(&s[at + 1..], row) {
-        return Err(CharFault::IllFormed);
-    }
-    judged(scalar_at(s, at, row.more), at + 1 + row.more)
 }
