@@ -144,6 +144,7 @@ fn halves(c: u32) -> (u16, u16)
 }
 
 // Stores the units of a character as units n and following; the number of the next.
+// The number stands beside the bytes, not an `octets::Output`, which tests for room and counts at each byte: a unit is stored as two bytes at once.
 #[tactic(auto, unfolding(label::specs::Text::units_of, label::specs::Wire::from_halves, octets::specs::Puts::puts))]
 fn put_char(out: &mut [u8], n: usize, c: u32) -> usize
     requires { (c ≤ 1114111) × (2 * (n + length (units_of c)) ≤ length out.old) }
