@@ -8,7 +8,6 @@ use native.Mathlib.Nat.{add-zero, zero-add}
 use lib.ListN.{length-drop}
 use lib.Seq.{drop-drop, get_or-drop}
 use borrow.Author.Tests.{eq-eqb, ne_eqb, eqb-true, le-leb, lt-leb, lt-ltb, leb-true, leb-false}
-use Rattle.std.proofs.lemmas.Option.{same_Some, none-some}
 use Rattle.std.specs.Bool.{then_some}
 use Rattle.label.specs.Limits.{max_index}
 use Rattle.label.specs.Bytes.{value_from, value}
@@ -16,6 +15,8 @@ use Rattle.label.specs.declared.Glyph.{Glyph}
 use Rattle.label.specs.declared.Index.{Index}
 use Rattle.label.specs.declared.Index.TheVariants.{Named}
 use Rattle.label.specs.declared.Advance.{Advance}
+use Rattle.label.specs.Calls.{refusal}
+use Rattle.label.specs.declared.Cause.TheVariants as C
 use Rattle.label.proofs.Basics.{cases, clash}
 use Rattle.number.specs.declared.Digits.{Digits}
 use Rattle.number.specs.declared.Number.{Number}
@@ -23,12 +24,12 @@ use Rattle.number.specs.Digits.{cap, head_of, ends, is_break, lead, digits_from}
 use Rattle.number.specs.Numbers.{Numeral, sign_length, number_of, formed}
 use Rattle.number.specs.declared.Thousandths.{Thousandths}
 use Rattle.number.proofs.DigitLaws.{head_drop}
+use Rattle.number.proofs.NumberLaws.{told_some, told_none}
 use Rattle.entry.specs.declared.MapPart.{MapPart}
 use Rattle.entry.specs.declared.Front.{Front}
 use Rattle.entry.specs.declared.Field.{Field}
 use Rattle.entry.specs.declared.Offsets.{Offsets}
 use Rattle.entry.specs.declared.Parts.{Parts as Cut}
-use Rattle.label.specs.Outcome as O
 use Rattle.entry.specs.Items.{is_semi, entry_read, entry_here, IsIndex}
 use Rattle.entry.specs.Parts.{map_of, map_with, no_map, lead_at, cut_map, index_at, front_ok, front_with, front_of, FieldPart, field_of, cut_field, cut_offsets, offsets_of, advance_within, advance_choice, offset_within, offset_by, rounded_number, rounded_by, is_minus, field_with, not_given, given_by, Parts, parts_of, well_parted, cut_parts, rounded_parts, glyph_within, index_within, cut_index, index_choice, judged, scanned}
 use Rattle.entry.proofs.EntryBridge.{bridge}
@@ -42,15 +43,6 @@ map_none s h = rw (ne_eqb _ _ h)
 map_some : (s : List ℕ) → head_of s ≡ 40 → map_of s ≡ map_with s (lead_at 1 s) (lead_at (1 + (length (lead_at 1 s) + 1)) s)
 unfolding map_of
 map_some s h = rw (eq-eqb _ _ h)
-
--- a test and the value told where it holds
-told_some : {A : Type 0} (b : Bool) (x y : A) → Some y ≡ then_some b x → (b ≡ true) × (x ≡ y)
-told_some true x y e = (refl, sym (same_Some y x e))
-told_some false x y e = absurd (none-some y (sym e))
-
-told_none : {A : Type 0} (b : Bool) (x : A) → None ≡ then_some b x → b ≡ false
-told_none true x e = absurd (none-some x e)
-told_none false x e = refl
 
 -- what the code tells of it
 abbrev told_map : List ℕ → Option MapPart
@@ -365,7 +357,7 @@ module _ (k : ℕ) (s : List ℕ) where
   said h = rw scanned_is at (bridge k s h)
 
   -- 7
-  pub code_wrong : None ≡ told_parts s → O.no 7 k ≡ entry_here k s
+  pub code_wrong : None ≡ told_parts s → Err (refusal C.IllFormedEntry k) ≡ entry_here k s
   code_wrong e =
       let w : well_parted (parts_of s) s ≡ false = told_none (well_parted (parts_of s) s) (cut_parts (parts_of s)) e in
       rw w at (said (λ h. clash (well_parted (parts_of s) s) h w))
@@ -387,7 +379,7 @@ module _ (k : ℕ) (s : List ℕ) where
     index_is = rw (← told.1) (index_cut P.digits)
 
     -- 8
-    pub code_index : None ≡ index_within p.index → O.no 8 k ≡ entry_here k s
+    pub code_index : None ≡ index_within p.index → Err (refusal C.IndexTooLarge k) ≡ entry_here k s
     code_index e =
         let l : leb (value P.digits) max_index ≡ false = told_none (leb (value P.digits) max_index)
         (index_choice (ltb 0 (length P.digits)) (value P.digits)) (e ∙ index_is) in
@@ -425,7 +417,7 @@ module _ (k : ℕ) (s : List ℕ) where
           (offset_told P.z.given P.z.negative P.z.size fair_z.size fair_z.negative))
 
       -- 9
-      pub code_limits : None ≡ glyph_within i p → O.no 9 k ≡ entry_here k s
+      pub code_limits : None ≡ glyph_within i p → Err (refusal C.NumberTooLarge k) ≡ entry_here k s
       code_limits e = let l : fit ≡ false = told_none fit glyph (e ∙ glyph_is) in rw (told.0, near.0, l) at said_well
 
       rounded_is : rounded_number p.advance + p.offsets.rounded ≡ rounded_parts P
@@ -439,7 +431,7 @@ module _ (k : ℕ) (s : List ℕ) where
           )
 
       pub code_read : (g : Glyph) → Some g ≡ glyph_within i p → (n : ℕ) → n ≡ rounded_number p.advance + p.offsets.rounded
-          → O.ok (record { mapped = p.map.mapped; units = p.map.units; glyphs = p.map.glyphs; glyph = g; used = p.used; rounded = n }) ≡ entry_here k s
+          → Ok (record { mapped = p.map.mapped; units = p.map.units; glyphs = p.map.glyphs; glyph = g; used = p.used; rounded = n }) ≡ entry_here k s
       code_read g e n en =
           let l = told_some fit glyph g (e ∙ glyph_is) in
           rw (en ∙ rounded_is, ← l.1, ← ap (λ (r : Cut). r.map) told.1, ← used_is, ← near.1) (rw (told.0, near.0, l.0) at said_well)

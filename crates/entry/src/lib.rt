@@ -1,14 +1,19 @@
 // One entry of the indices, read in one pass over its bytes.
 #![tactic(auto)]
 
-ghost use Rattle.std.specs.Prelude.{◌≡◌, true, false, ◌&&◌, ◌+◌, ◌≤◌, leb, ltb, length, drop, IfSome};
+ghost use Rattle.std.specs.Prelude.{◌≡◌, true, false, ◌&&◌, ◌+◌, ◌≤◌, leb, ltb, length, drop, IfSome, IfOk};
 ghost use Rattle.std.specs.Bool.{then_some};
+ghost use Rattle.std.specs.Iterator.{YieldsFirst, item_count};
 ghost use Rattle.label.specs.Limits.{max_index};
-ghost use Rattle.label.specs.Calls.{outcome_of};
+ghost use Rattle.label.specs.Entry.{entries};
 ghost use Rattle.number.specs.Digits.{ends, is_break, digits_from};
+ghost use Rattle.entry.specs.Results.{entry_results, results_left};
 ghost use Rattle.entry.specs.Items.{is_semi, entry_here, index_item, IsIndex};
 ghost use Rattle.entry.specs.Parts.{map_of, cut_map, front_of, field_of, cut_field, offsets_of, parts_of, well_parted, cut_parts, index_within, advance_within, offset_within, glyph_within, rounded_number, SmallNumber};
 
+mod entries;
+
+pub use entries::Entries;
 use label::{Advance, Cause, Glyph, Index, Limits, Refusal};
 use number::{Digits, Thousandths};
 
@@ -300,7 +305,8 @@ fn glyph_of(index: Index, p: Parts) -> Option<Glyph>
 // Entry number k, where s is the indices from its start on, and `first` the digits there: 7, 8 and 9 in order, or what it says.
 pub fn read_entry(s: &[u8], first: Digits, k: usize) -> Result<Item, Refusal>
     requires { (first ≡ digits_from 0 s.now) × (first.count ≤ length s.now) }
-    ensures { outcome_of result ≡ entry_here k s.now }
+    ensures value { result ≡ entry_here k s.now }
+    ensures bounds { IfOk result (λ x. x.used ≤ length s.now) }
 {
     let p = parts_of(s, first).ok_or(Cause::IllFormedEntry.at(k))?;
     let index = index_of(p.index).ok_or(Cause::IndexTooLarge.at(k))?;
@@ -343,5 +349,55 @@ pub fn index_item(d: Digits) -> Item
         },
         used: d.count,
         rounded: 0,
+    }
+}
+
+// ── the entries ──
+
+// Entry number k, which starts at a place: an index alone, or one that is read.
+fn entry_at(s: &[u8], at: usize, k: usize) -> Result<Item, Refusal>
+    requires { at ≤ length s.now }
+    ensures value { result ≡ entry_here k (drop at s.now) }
+    ensures bounds { IfOk result (λ x. at + x.used ≤ length s.now) }
+{
+    let digits = number::digits_at(s, at, 0);
+    if is_index(s, at, digits) {
+        return Ok(index_item(digits));
+    }
+    read_entry(&s[at..], digits, k)
+}
+
+impl<'a> Entries<'a> {
+    // All of them: zero bytes are no entries, and n semicolons make n + 1.
+    pub fn new(indices: &'a [u8]) -> Entries<'a>
+        ensures { results_left result ≡ entry_results 0 (entries indices.now) }
+    {
+        Entries {
+            indices,
+            place: usize::from(indices.is_empty()),
+            number: 0,
+        }
+    }
+}
+
+impl<'a> Iterator for Entries<'a> {
+    type Item = Result<Item, Refusal>;
+
+    ghost next_gives = { YieldsFirst results_left };
+
+    ghost remaining = { item_count results_left };
+
+    fn next(&mut self) -> Option<Result<Item, Refusal>> {
+        let end = self.indices.len();
+        if end < self.place {
+            return None;
+        }
+        let item = entry_at(self.indices, self.place, self.number);
+        self.place = match item {
+            Ok(x) => self.place + x.used + 1,
+            Err(_) => end + 1,
+        };
+        self.number += 1;
+        Some(item)
     }
 }

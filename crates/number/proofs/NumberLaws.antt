@@ -140,11 +140,11 @@ module _ (s : List ℕ) (at : ℕ) where
   code_raised h k ek r er m em = rw (expo_some (drop at s) (rw head_drop h), get_or-drop, ← ek, ← em, drop-drop, er)
 
 -- a test and the value told where it holds
-told_some : {A : Type 0} (b : Bool) (x y : A) → Some y ≡ then_some b x → (b ≡ true) × (x ≡ y)
+pub told_some : {A : Type 0} (b : Bool) (x y : A) → Some y ≡ then_some b x → (b ≡ true) × (x ≡ y)
 told_some true x y e = (refl, sym (same_Some y x e))
 told_some false x y e = absurd (none-some y (sym e))
 
-told_none : {A : Type 0} (b : Bool) (x : A) → None ≡ then_some b x → b ≡ false
+pub told_none : {A : Type 0} (b : Bool) (x : A) → None ≡ then_some b x → b ≡ false
 told_none true x e = absurd (none-some x e)
 told_none false x e = refl
 
