@@ -1,6 +1,7 @@
 -- A step of a walk over a run's clusters, its glyphs or its entries, and what the definitions make of those that a walk gives.
 -- Assumes nothing.
-use Rattle.std.proofs.Common.{◌≡◌, ℕ, ◌<◌, ◌≤◌, List, [], ◌∷◌, ℤ, length, drop, take, map, refl, arith}
+use Rattle.std.proofs.Common.{◌≡◌, ℕ, ◌<◌, ◌≤◌, List, [], ◌∷◌, ℤ, length, drop, take, map, refl, sym, ap, ◌∙◌, arith}
+use Rattle.std.proofs.lemmas.List.{length-map}
 use Rattle.label.specs.Fetched.{words}
 use Rattle.label.specs.Sound.{clusters_of, glyphs_of}
 use Rattle.wire.specs.Numbers.{as_cluster, as_glyph, cluster_numbers, glyph_numbers}
@@ -78,3 +79,10 @@ glyphs_are (i ∷ []) = refl
 glyphs_are (i ∷ a ∷ []) = refl
 glyphs_are (i ∷ a ∷ u ∷ []) = refl
 glyphs_are (i ∷ a ∷ u ∷ v ∷ z) = rw (glyphs_are z)
+
+-- as many
+pub clusters_in_length : (z : List ℤ) → length (clusters_in z) ≡ length (clusters_of z)
+clusters_in_length z = sym (length-map (clusters_in z) as_cluster) ∙ ap length (clusters_are z)
+
+pub glyphs_in_length : (z : List ℤ) → length (glyphs_in z) ≡ length (glyphs_of z)
+glyphs_in_length z = sym (length-map (glyphs_in z) as_glyph) ∙ ap length (glyphs_are z)
