@@ -1,6 +1,6 @@
 -- The call: from the counts that were found to the run (`Found`), and 16 to 18, which hold those counts to the room.
 -- Assumes nothing.
-use Rattle.std.proofs.Common.{◌≡◌, refl, sym, ap, ◌∙◌, Bool, not, ◌&&◌, leb, List, ℕ, ◌*◌, ◌+◌, ◌≤◌, ◌<◌, arith, length, Result, Ok, Err}
+use Rattle.std.proofs.Common.{◌≡◌, refl, sym, ap, ◌∙◌, Bool, not, ◌&&◌, leb, List, ℕ, ◌*◌, ◌≤◌, ◌<◌, arith, length, Result, Ok, Err}
 use borrow.Author.Tests.{le-leb, lt-leb, leb-true}
 use lib.Seq.{sets}
 use Rattle.label.specs.Outcome.{Outcome, ok, no}

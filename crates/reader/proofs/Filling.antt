@@ -1,12 +1,12 @@
 -- The second pass over an accepted label: what a turn stores, and what is left behind the last entry. The walk is accepted, so no entry is refused, and there
 -- is room for what each adds.
 -- Assumes nothing.
-use Rattle.std.proofs.Common.{◌≡◌, refl, sym, ap, ◌∙◌, subst, Bool, true, false, cond, not, ◌&&◌, List, [], ◌∷◌, ℕ, suc, ◌+◌, ◌-◌, ◌*◌, ◌/◌, ◌≤◌, ◌<◌, min, arith, eqb, leb, length, drop, Result, Ok, Err, add-one}
+use Rattle.std.proofs.Common.{◌≡◌, refl, sym, ap, ◌∙◌, subst, Bool, true, false, List, [], ◌∷◌, ℕ, suc, ◌+◌, ◌-◌, ◌*◌, ◌≤◌, min, arith, eqb, leb, length, drop, Result, Ok, Err, add-one}
 use borrow.Author.Tests.{eq-eqb, ne_eqb, eqb-true, eqb-false, leb-true}
 use native.Mathlib.Nat.{add-zero}
 use lib.ListN.{length-drop}
 use lib.Seq.{sets, drop-drop}
-use Rattle.label.specs.Outcome.{ok, no}
+use Rattle.label.specs.Outcome.{ok}
 use Rattle.label.specs.Bytes.{empty}
 use Rattle.label.specs.Entry.{Entry}
 use Rattle.label.specs.Cause.{cause_number}
@@ -16,7 +16,7 @@ use Rattle.label.specs.Requests.RoundedCount.{rounded_entry}
 use Rattle.label.specs.declared.Cluster.{Cluster}
 use Rattle.label.specs.declared.Glyph.{Glyph}
 use Rattle.label.specs.declared.Refusal.{Refusal}
-use Rattle.label.proofs.Basics.{cases, need_ok, no_ok, clash}
+use Rattle.label.proofs.Basics.{cases, need_ok, no_ok}
 use Rattle.label.proofs.Lists.{empty_is}
 use Rattle.label.proofs.Run.{ok_path, Walked, walk_ok, Stepped, step_ok}
 use Rattle.label.proofs.Steps.{walk_end}

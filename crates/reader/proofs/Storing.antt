@@ -1,7 +1,7 @@
 -- A run's parts stored one by one: storing what is left at the place that is reached gives what storing the whole where it begins gives (`Storing`).
 -- Clusters and glyphs are laid out alike (`Flattens`).
 -- Assumes nothing.
-use Rattle.std.proofs.Common.{◌≡◌, refl, sym, ap, ◌∙◌, true, false, List, [], ◌∷◌, ◌++◌, ℕ, suc, ◌+◌, ◌*◌, ◌/◌, ◌≤◌, ◌<◌, arith, length, drop, add-one, append_assoc, length-append}
+use Rattle.std.proofs.Common.{◌≡◌, refl, sym, ap, ◌∙◌, true, List, [], ◌∷◌, ◌++◌, ℕ, suc, ◌+◌, ◌*◌, ◌/◌, ◌≤◌, ◌<◌, arith, length, add-one, length-append}
 use native.Mathlib.Nat.{mul-zero, mul-suc, zero-add}
 use lib.Seq.{sets, sets-eq, length-sets}
 use Rattle.label.specs.Run.{Parts, add_glyph}

@@ -1,6 +1,6 @@
 -- What the second pass stores: the places of an entry's cluster and of its glyph.
 -- Assumes nothing.
-use Rattle.std.specs.Prelude.{ℕ, ◌+◌, ◌-◌, ◌*◌, ◌/◌, ◌≤◌, ◌<◌, ◌≡◌, cond, List, [], ◌++◌, eqb, length}
+use Rattle.std.specs.Prelude.{ℕ, ◌+◌, ◌-◌, ◌*◌, ◌/◌, ◌≤◌, ◌<◌, ◌≡◌, cond, List, [], ◌++◌, eqb}
 use Rattle.label.specs.Limits.{max_units}
 use Rattle.label.specs.Outcome.{ok}
 use Rattle.label.specs.Run.{cluster}

@@ -4,7 +4,7 @@
 
 ghost use Rattle.std.specs.Prelude.{◌+◌, ◌*◌, ◌/◌, ◌≤◌, ◌<◌, ◌≡◌, cond, length, drop};
 ghost use Rattle.std.proofs.lemmas.List.Edits.{sets};
-ghost use Rattle.label.specs.Limits.{max_units, max_glyphs};
+ghost use Rattle.label.specs.Limits.{max_units};
 ghost use Rattle.label.specs.Text.{is_pair};
 ghost use Rattle.label.specs.Run.{cluster, tail};
 ghost use Rattle.label.specs.Steps.{run_from};
@@ -83,13 +83,7 @@ fn add_glyph(at: Stored, glyph: Glyph, glyphs: &mut [u8]) -> Stored
 }
 
 // Stores what entry x says in a text of `count` units: the cluster that it opens, if none is open, and its glyph.
-fn put_entry(
-    count: usize,
-    at: Stored,
-    x: Item,
-    clusters: &mut [u8],
-    glyphs: &mut [u8],
-) -> Stored
+fn put_entry(count: usize, at: Stored, x: Item, clusters: &mut [u8], glyphs: &mut [u8]) -> Stored
     requires { Storable count at x (length clusters.old) (length glyphs.old) }
     ensures value { result ≡ behind count at x }
     ensures clusters { clusters.new ≡ sets clusters.old (8 * at.clusters) (cluster_opened count at x) }
@@ -128,13 +122,7 @@ fn fill_tail(units: &[u8], at: Stored, clusters: &mut [u8], glyphs: &mut [u8])
 }
 
 // Stores the run of these units and indices, which are accepted.
-fn fill(
-    text: TextUnits,
-    indices: &[u8],
-    units: &mut [u8],
-    clusters: &mut [u8],
-    glyphs: &mut [u8],
-)
+fn fill(text: TextUnits, indices: &[u8], units: &mut [u8], clusters: &mut [u8], glyphs: &mut [u8])
     requires { Fillable (units_of text.passage) indices.now (length units.old) (length clusters.old) (length glyphs.old) }
     ensures units { units.new ≡ units_after (run_from (units_of text.entry.passage) indices.now) units.old }
     ensures clusters { clusters.new ≡ clusters_after (run_from (units_of text.entry.passage) indices.now) clusters.old }
@@ -158,7 +146,12 @@ fn fill(
 }
 
 // The reading of a label: 1 to 18 in order, or its run is stored.
-pub fn read(label: Label, units: &mut [u8], clusters: &mut [u8], glyphs: &mut [u8]) -> Result<Reading, Refusal>
+pub fn read(
+    label: Label,
+    units: &mut [u8],
+    clusters: &mut [u8],
+    glyphs: &mut [u8],
+) -> Result<Reading, Refusal>
     ensures result { let room = room_of units.old clusters.old glyphs.old in
         reading_outcome result ≡ counted (read_into room label.entry.text.now label.entry.indices.now) }
     ensures rounded { let room = room_of units.old clusters.old glyphs.old in

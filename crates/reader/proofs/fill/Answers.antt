@@ -1,6 +1,6 @@
 -- `reader::fill`: before the first entry all parts are left (`all_left`), an entry goes on by `fill_turn`, and behind the last the tail is left (`fill_end`).
 -- Assumes nothing.
-use Rattle.std.proofs.Common.{◌≡◌, sym, ap, ◌∙◌, [], ◌∷◌, ◌*◌, ◌≤◌, arith, length, take, drop, length-take-le}
+use Rattle.std.proofs.Common.{◌≡◌, sym, ap, ◌∙◌, ◌∷◌, ◌*◌, ◌≤◌, arith, length, take, drop, length-take-le}
 use Rattle.label.specs.Entry.{entries}
 use Rattle.label.specs.Run.{tail}
 use Rattle.label.specs.Steps.{run_from}

@@ -9,4 +9,5 @@ use Rattle.reader.proofs.fill.Given as goal
 abbrev pub invariant-loop-entry : goal.invariant-loop-entry
 invariant-loop-entry l =
     let o = run_from (units l.text.passage) l.indices in
-    Filled (clusters_after o l.initial.clusters) (glyphs_after o l.initial.glyphs) (units l.text.passage) (results_left l.entry-iterator) l.clusters l.glyphs l.at
+    Filled (clusters_after o l.initial.clusters) (glyphs_after o l.initial.glyphs) (units l.text.passage) (results_left l.entry-iterator) l.clusters l.glyphs
+    l.at
