@@ -44,7 +44,6 @@ fn next_half(half: bool, u: u16) -> bool
 
 // Whether the two units at j are the halves of one pair.
 pub fn is_pair_at(us: &[u8], j: usize) -> bool
-    requires { j ≤ length us.now / 2 }
     ensures { result ≡ is_pair (drop j (halves us.now)) }
 {
     is_high(wire::unit_at(us, j)) && is_low(wire::unit_at(us, j + 1))
