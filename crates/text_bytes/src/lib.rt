@@ -129,10 +129,7 @@ pub fn text_length(escape: bool, us: &[u8]) -> usize
     requires { length (halves us.now) ≤ 1000000000000 }
     ensures { result ≡ length (as_asked escape (text_of (halves us.now))) }
 {
-    let mut none = Output {
-        bytes: &mut [],
-        at: 0,
-    };
-    put_text(escape, &mut none, us);
-    none.at
+    let mut counted = Output::counting();
+    put_text(escape, &mut counted, us);
+    counted.at
 }

@@ -81,12 +81,9 @@ fn indices_length(run: Run) -> usize
     requires { sound (as_places run) ≡ true }
     ensures { result ≡ length (indices_of (clusters_of (words run.entry.clusters.now)) (glyphs_of (words run.entry.glyphs.now))) }
 {
-    let mut none = Output {
-        bytes: &mut [],
-        at: 0,
-    };
-    put_indices(&mut none, run);
-    none.at
+    let mut counted = Output::counting();
+    put_indices(&mut counted, run);
+    counted.at
 }
 
 // ── the call ──
@@ -113,13 +110,8 @@ pub fn write_as(
     if indices.len() < indices_bytes {
         return Err(Cause::IndicesRoom.at(indices_bytes));
     }
-    let mut out = Output { bytes: text, at: 0 };
-    text_bytes::put_text(escape, &mut out, run.units);
-    let mut out = Output {
-        bytes: indices,
-        at: 0,
-    };
-    put_indices(&mut out, run);
+    text_bytes::put_text(escape, &mut Output::on(text), run.units);
+    put_indices(&mut Output::on(indices), run);
     Ok(Lengths {
         text: text_bytes,
         indices: indices_bytes,
