@@ -20,10 +20,6 @@ puts_append : (l : List ℕ) (i : ℕ) (x y : List ℕ) → puts (puts l i x) (i
 unfolding puts
 puts_append l i x y = sets_append x y l i
 
-pub puts_length : (l : List ℕ) (i : ℕ) (w : List ℕ) → length (puts l i w) ≡ length l
-unfolding puts
-puts_length l i w = length-sets l i w
-
 -- nothing stored
 pub none : {l : List ℕ} {at : ℕ} → Put l at [] at l
 unfolding puts
