@@ -6,7 +6,7 @@ use Prim.Native.Nat.{ℕ, suc, ◌+◌, ◌≤◌}
 use native.Mathlib.Nat.{add-zero}
 use native.Mathlib.Omega.{arith}
 use lib.ListN.{length, drop, set, length-append}
-use lib.Seq.{sets, sets-eq, length-sets, set_out}
+use lib.Seq.{sets, sets-eq, set_out}
 use Rattle.octets.specs.Puts.{puts, Put}
 
 -- stores one behind the other
