@@ -1,7 +1,7 @@
--- The writer's call: one law for each return, by 19, 20 and 21 in order (`write_steps`).
+-- The writer's call: that 19 was passed, and one law for each return behind it, by 20 and 21 in order (`write_steps`).
 -- Assumes nothing.
 use Rattle.std.proofs.Common.{Err, Result}
-use Rattle.label.proofs.Basics.{cases, no_ok}
+use Rattle.label.proofs.Basics.{no_ok}
 use Rattle.label.proofs.Steps.{write_steps}
 use mathlib.Core.Path.{◌≡◌, refl, sym, ◌∙◌}
 use mathlib.Core.Bool.{Bool, true, false}
@@ -46,15 +46,6 @@ module _ (a : Bool) (us cs gs T I : List ℕ) where
 
   abbrev i : ℕ
   i = length (indices_of (clusters_of (words cs)) (glyphs_of (words gs)))
-
-  -- what the check of 19 answers
-  pub refuses_19 : (x : Refusal) → no (cause_number x.cause) x.place ≡ need (sound (places us cs gs)) 19 0 → Answer W (Err x) T T I I
-  refuses_19 x e =
-      cases (sound (places us cs gs)) (λ k. no_ok (cause_number x.cause) x.place tt (rw k at e))
-      (λ k. let f = rw k at e in
-      let n : cause_number x.cause ≡ 19 = cc in
-      let p : x.place ≡ 0 = cc in
-      refuses x T I (write_steps a (outputs T I) (places us cs gs) ∙ rw (k, n, p)))
 
   module _ (yes : sound (places us cs gs) ≡ true) {n : ℕ} (et : n ≡ t) where
     pub refuses_20 : {x : Refusal} → x ≡ refusal C.TextRoom n → length T < n → Answer W (Err x) T T I I

@@ -75,7 +75,9 @@ fn indices_length(run: Run) -> usize
 
 // ── the call ──
 
-// The writing of a run as it is asked for, where the run is sound and both outputs have room. Indices have no byte to escape.
+// The writing of a run as it is asked for, where the run is sound and both outputs have room. Indices have no byte to escape. The outputs are two parameters,
+// as each has a clause of its own that says what it holds afterwards.
+#[tactic(auto, using(label::proofs::Steps::write_steps))]
 pub fn write_as(
     escape: bool,
     run: Run,
