@@ -10,11 +10,11 @@ ghost use Rattle.label.specs.Places.{index_number, advance_number};
 ghost use Rattle.label.specs.Run.{named};
 ghost use Rattle.label.specs.Sound.{nat as nat_of, clusters_of, glyphs_of, is_font};
 ghost use Rattle.octets.specs.Puts.{puts};
-ghost use Rattle.wire.specs.Numbers.{as_glyph, glyph_numbers, cluster_numbers};
+ghost use Rattle.wire.specs.Numbers.{as_cluster, as_glyph, glyph_numbers, cluster_numbers};
 ghost use Rattle.wire.specs.Stores.{cluster_stored, glyph_stored, glyph_places};
 ghost use Rattle.wire.specs.Walks.{clusters_in, glyphs_in, entries_in, clusters_left, glyphs_left, entries_left};
 
-use label::{Advance, Glyph, Index};
+use label::{Advance, Cluster, Glyph, Index};
 
 // ── how many ──
 
@@ -101,6 +101,18 @@ impl ClusterNumbers {
         ensures bounds { result < 2147483648 }
     {
         usize::try_from(self.glyphs).unwrap_or(0)
+    }
+}
+
+// The cluster that has these numbers, 0 for a negative one.
+impl From<ClusterNumbers> for Cluster {
+    ghost from_gives = { λ n c. c ≡ as_cluster n };
+
+    fn from(numbers: ClusterNumbers) -> Cluster {
+        Cluster {
+            units: u32::try_from(numbers.units).unwrap_or(0),
+            glyphs: u32::try_from(numbers.glyphs).unwrap_or(0),
+        }
     }
 }
 
