@@ -68,23 +68,11 @@ impl ClusterNumbers {
     // Those in these bytes.
     #[tactic(auto, using(crate::proofs::Fetched::words_length), unfolding(crate::specs::Numbers::cluster_numbers))]
     fn of(bytes: &[u8; 8]) -> ClusterNumbers
-        ensures { result ≡ cluster_numbers (words bytes.now) 0 }
+        ensures { result ≡ cluster_numbers (words bytes.now) }
     {
         ClusterNumbers {
             units: number(bytes, 0),
             glyphs: number(bytes, 1),
-        }
-    }
-
-    // Those of cluster n.
-    #[tactic(auto, using(crate::proofs::Fetched::words_length), unfolding(crate::specs::Numbers::cluster_numbers))]
-    pub fn at(clusters: &[u8], n: usize) -> ClusterNumbers
-        requires { n < length clusters.now / 8 }
-        ensures { result ≡ cluster_numbers (words clusters.now) n }
-    {
-        ClusterNumbers {
-            units: number(clusters, 2 * n),
-            glyphs: number(clusters, 2 * n + 1),
         }
     }
 
@@ -129,27 +117,13 @@ impl GlyphNumbers {
     // Those in these bytes.
     #[tactic(auto, using(crate::proofs::Fetched::words_length), unfolding(crate::specs::Numbers::glyph_numbers))]
     fn of(bytes: &[u8; 16]) -> GlyphNumbers
-        ensures { result ≡ glyph_numbers (words bytes.now) 0 }
+        ensures { result ≡ glyph_numbers (words bytes.now) }
     {
         GlyphNumbers {
             index: number(bytes, 0),
             advance: number(bytes, 1),
             u: number(bytes, 2),
             v: number(bytes, 3),
-        }
-    }
-
-    // Those of glyph k.
-    #[tactic(auto, using(crate::proofs::Fetched::words_length), unfolding(crate::specs::Numbers::glyph_numbers))]
-    pub fn at(glyphs: &[u8], k: usize) -> GlyphNumbers
-        requires { k < length glyphs.now / 16 }
-        ensures { result ≡ glyph_numbers (words glyphs.now) k }
-    {
-        GlyphNumbers {
-            index: number(glyphs, 4 * k),
-            advance: number(glyphs, 4 * k + 1),
-            u: number(glyphs, 4 * k + 2),
-            v: number(glyphs, 4 * k + 3),
         }
     }
 
