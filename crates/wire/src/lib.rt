@@ -26,13 +26,6 @@ pub fn unit_count(s: &[u8]) -> usize
     s.len() / 2
 }
 
-pub fn number_count(s: &[u8]) -> usize
-    ensures value { result ≡ length (words s.now) }
-    ensures bounds { result ≡ length s.now / 4 }
-{
-    s.len() / 4
-}
-
 // ── fetched ──
 
 // A unit, or 0 past the end: that is no half and no `{`, so who looks at the unit behind another needs no case for the end.
