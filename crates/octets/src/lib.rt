@@ -56,10 +56,12 @@ impl<'a> Output<'a> {
     pub fn put_byte(&mut self, b: u8)
         ensures { Gains self.old (b ∷ []) self.new }
     {
-        if self.at < self.bytes.len() {
-            self.bytes[self.at] = b;
+        // A copy of the place: the field would be fetched again behind the store, one instruction in a hundred of a writing.
+        let at = self.at;
+        if at < self.bytes.len() {
+            self.bytes[at] = b;
         }
-        self.at = self.at.saturating_add(1);
+        self.at = at.saturating_add(1);
     }
 
     pub fn put_bytes(&mut self, s: &[u8])
