@@ -1,14 +1,12 @@
 -- Laws that the code's map, front, fields and entry are the definitions'; the parts are rewritten by the bytes met, the entry's answers by `bridge` of
 -- EntryBridge.
 -- Assumes nothing.
-use Rattle.std.proofs.Common.{◌≡◌, refl, cond, ap, sym, ◌∙◌, Bool, true, false, not, ◌&&◌, ◌||◌, List, [], ◌∷◌, ℕ, zero, suc, ◌+◌, ◌≤◌, ◌<◌, min, arith, leb, ltb, eqb, length, drop, get_or, pos, Option, Some, None, Ok, Err, is_some, ℤ, add_assoc, option_and_then}
+use Rattle.std.proofs.Common.{◌≡◌, refl, cond, ap, sym, ◌∙◌, Bool, true, false, not, ◌&&◌, ◌||◌, List, [], ◌∷◌, ℕ, suc, ◌+◌, ◌≤◌, ◌<◌, min, arith, leb, ltb, eqb, length, drop, get_or, pos, Option, Some, None, Ok, Err, is_some, ℤ, add_assoc, option_and_then}
 use Rattle.std.specs.Option.{option_map}
 use mathlib.Core.Bool.{or-true}
-use native.Mathlib.Nat.{add-zero, zero-add}
-use lib.ListN.{length-drop}
-use lib.Seq.{drop-drop, get_or-drop}
+use native.Mathlib.Nat.{zero-add}
+use lib.Seq.{drop-drop}
 use borrow.Author.Tests.{eq-eqb, ne_eqb, eqb-true, le-leb, lt-leb, lt-ltb, leb-true, leb-false}
-use Rattle.std.proofs.lemmas.Option.{same_Some, none-some}
 use Rattle.std.specs.Bool.{then_some}
 use Rattle.label.specs.Limits.{max_index}
 use Rattle.label.specs.Bytes.{value_from, value}
@@ -16,6 +14,8 @@ use Rattle.label.specs.declared.Glyph.{Glyph}
 use Rattle.label.specs.declared.Index.{Index}
 use Rattle.label.specs.declared.Index.TheVariants.{Named}
 use Rattle.label.specs.declared.Advance.{Advance}
+use Rattle.label.specs.Calls.{refusal}
+use Rattle.label.specs.declared.Cause.TheVariants as C
 use Rattle.label.proofs.Basics.{cases, clash}
 use Rattle.number.specs.declared.Digits.{Digits}
 use Rattle.number.specs.declared.Number.{Number}
@@ -23,12 +23,12 @@ use Rattle.number.specs.Digits.{cap, head_of, ends, is_break, lead, digits_from}
 use Rattle.number.specs.Numbers.{Numeral, sign_length, number_of, formed}
 use Rattle.number.specs.declared.Thousandths.{Thousandths}
 use Rattle.number.proofs.DigitLaws.{head_drop}
+use Rattle.number.proofs.NumberLaws.{told_some, told_none}
 use Rattle.entry.specs.declared.MapPart.{MapPart}
 use Rattle.entry.specs.declared.Front.{Front}
 use Rattle.entry.specs.declared.Field.{Field}
 use Rattle.entry.specs.declared.Offsets.{Offsets}
 use Rattle.entry.specs.declared.Parts.{Parts as Cut}
-use Rattle.label.specs.Outcome as O
 use Rattle.entry.specs.Items.{is_semi, entry_read, entry_here, IsIndex}
 use Rattle.entry.specs.Parts.{map_of, map_with, no_map, lead_at, cut_map, index_at, front_ok, front_with, front_of, FieldPart, field_of, cut_field, cut_offsets, offsets_of, advance_within, advance_choice, offset_within, offset_by, rounded_number, rounded_by, is_minus, field_with, not_given, given_by, Parts, parts_of, well_parted, cut_parts, rounded_parts, glyph_within, index_within, cut_index, index_choice, judged, scanned}
 use Rattle.entry.proofs.EntryBridge.{bridge}
@@ -42,15 +42,6 @@ map_none s h = rw (ne_eqb _ _ h)
 map_some : (s : List ℕ) → head_of s ≡ 40 → map_of s ≡ map_with s (lead_at 1 s) (lead_at (1 + (length (lead_at 1 s) + 1)) s)
 unfolding map_of
 map_some s h = rw (eq-eqb _ _ h)
-
--- a test and the value told where it holds
-told_some : {A : Type 0} (b : Bool) (x y : A) → Some y ≡ then_some b x → (b ≡ true) × (x ≡ y)
-told_some true x y e = (refl, sym (same_Some y x e))
-told_some false x y e = absurd (none-some y (sym e))
-
-told_none : {A : Type 0} (b : Bool) (x : A) → None ≡ then_some b x → b ≡ false
-told_none true x e = absurd (none-some x e)
-told_none false x e = refl
 
 -- what the code tells of it
 abbrev told_map : List ℕ → Option MapPart
@@ -128,32 +119,29 @@ field_some t h = rw (eq-eqb _ _ h)
 abbrev told_field : List ℕ → Option Field
 told_field t = let f = field_of t in then_some f.ok (cut_field f)
 
-module _ (s : List ℕ) (at : ℕ) where
-  pub code_absent : (get_or s at 0 ≡ 44 → ⊥) → Some (record { used = 0; number = None }) ≡ told_field (drop at s)
-  code_absent h = rw (field_none (drop at s) (rw head_drop h))
+module _ (t : List ℕ) where
+  pub code_absent : (head_of t ≡ 44 → ⊥) → Some (record { used = 0; number = None }) ≡ told_field t
+  code_absent h = rw (field_none t h)
 
-  module _ (p : get_or s at 0 ≡ 44) where
-    comma : head_of (drop at s) ≡ 44
-    comma = rw head_drop p
+  module _ (p : head_of t ≡ 44) where
+    pub code_empty : ends is_break (drop 1 t) ≡ true → Some (record { used = 1; number = None }) ≡ told_field t
+    code_empty h = rw (field_some t p, h)
 
-    pub code_empty : ends is_break (drop (at + 1) s) ≡ true → Some (record { used = 1; number = None }) ≡ told_field (drop at s)
-    code_empty h = rw (field_some (drop at s) comma, drop-drop 1 at s, h)
-
-    module _ (h : ends is_break (drop (at + 1) s) ≡ false) (k : ℕ) (ek : k ≡ sign_length (get_or s (at + 1) 0)) where
+    module _ (h : ends is_break (drop 1 t) ≡ false) (k : ℕ) (ek : k ≡ sign_length (head_of (drop 1 t))) where
       abbrev numeral : Numeral
-      numeral = number_of (drop (at + (1 + k)) s)
+      numeral = number_of (drop k (drop 1 t))
 
-      field_is : field_of (drop at s) ≡ given_by (get_or s (at + 1) 0) (1 + k) numeral
-      field_is = rw (field_some (drop at s) comma, drop-drop 1 at s, h, get_or-drop, ← ek, drop-drop)
+      field_is : field_of t ≡ given_by (head_of (drop 1 t)) (1 + k) numeral
+      field_is = rw (field_some t p, h, ← head_drop t 1, ← ek, drop-drop)
 
-      pub code_ill : None ≡ formed numeral → None ≡ told_field (drop at s)
+      pub code_ill : None ≡ formed numeral → None ≡ told_field t
       code_ill e = rw (field_is, told_none numeral.ok (record { used = numeral.used; size = numeral.size }) e)
 
-      pub code_given : (n : Number) → Some n ≡ formed numeral → (b : Bool) → b ≡ eqb (get_or s (at + 1) 0) 45
-          → Some (record { used = 1 + k + n.used; number = Some (record { negative = b; size = n.size }) }) ≡ told_field (drop at s)
+      pub code_given : (n : Number) → Some n ≡ formed numeral → (b : Bool) → b ≡ eqb (head_of (drop 1 t)) 45
+          → Some (record { used = 1 + k + n.used; number = Some (record { negative = b; size = n.size }) }) ≡ told_field t
       code_given n en b eb =
-          let t = told_some numeral.ok (record { used = numeral.used; size = numeral.size }) n en in
-          rw (field_is, t.0, eb, ap (λ (r : Number). r.used) t.1, ap (λ (r : Number). r.size) t.1)
+          let e = told_some numeral.ok (record { used = numeral.used; size = numeral.size }) n en in
+          rw (field_is, e.0, eb, ap (λ (r : Number). r.used) e.1, ap (λ (r : Number). r.size) e.1)
 
 -- where no number is given, nothing is negative, too large or rounded
 record Fair (f : FieldPart) : Type 0 where
@@ -201,32 +189,32 @@ field_ok t x e = told_some (field_of t).ok (cut_field (field_of t)) x e
 field_ill : (t : List ℕ) → None ≡ told_field t → (field_of t).ok ≡ false
 field_ill t e = told_none (field_of t).ok (cut_field (field_of t)) e
 
-module _ (s : List ℕ) (at : ℕ) where
-  pub no_offsets : (get_or s at 0 ≡ 44 → ⊥) → Some (record { used = 0; u = Some (pos 0); v = Some (pos 0); rounded = 0 }) ≡ offsets_of (drop at s)
+module _ (t : List ℕ) where
+  pub no_offsets : (head_of t ≡ 44 → ⊥) → Some (record { used = 0; u = Some (pos 0); v = Some (pos 0); rounded = 0 }) ≡ offsets_of t
   unfolding offsets_of
-  no_offsets h = let e : field_of (drop at s) ≡ not_given 0 = field_none (drop at s) (rw head_drop h) in rw (e, e)
+  no_offsets h = let e : field_of t ≡ not_given 0 = field_none t h in rw (e, e)
 
-  pub ill_u : None ≡ told_field (drop at s) → None ≡ offsets_of (drop at s)
+  pub ill_u : None ≡ told_field t → None ≡ offsets_of t
   unfolding offsets_of
-  ill_u e = rw (field_ill (drop at s) e)
+  ill_u e = rw (field_ill t e)
 
-  module _ (y : Field) (ey : Some y ≡ told_field (drop at s)) where
-    u_told : ((field_of (drop at s)).ok ≡ true) × (cut_field (field_of (drop at s)) ≡ y)
-    u_told = field_ok (drop at s) y ey
+  module _ (y : Field) (ey : Some y ≡ told_field t) where
+    u_told : ((field_of t).ok ≡ true) × (cut_field (field_of t) ≡ y)
+    u_told = field_ok t y ey
 
-    behind_is : drop (field_of (drop at s)).used (drop at s) ≡ drop (at + y.used) s
-    behind_is = rw (drop-drop, ← u_told.1)
+    behind_is : drop (field_of t).used t ≡ drop y.used t
+    behind_is = rw (← u_told.1)
 
-    pub ill_v : None ≡ told_field (drop (at + y.used) s) → None ≡ offsets_of (drop at s)
+    pub ill_v : None ≡ told_field (drop y.used t) → None ≡ offsets_of t
     unfolding offsets_of
-    ill_v e = rw (u_told.0, behind_is, field_ill (drop (at + y.used) s) e)
+    ill_v e = rw (u_told.0, behind_is, field_ill (drop y.used t) e)
 
-    pub code_offsets : (z : Field) → Some z ≡ told_field (drop (at + y.used) s) → (u v : Option ℤ) → u ≡ offset_within y.number
+    pub code_offsets : (z : Field) → Some z ≡ told_field (drop y.used t) → (u v : Option ℤ) → u ≡ offset_within y.number
         → v ≡ offset_within z.number → (n : ℕ) → n ≡ rounded_number y.number + rounded_number z.number
-        → Some (record { used = y.used + z.used; u = u; v = v; rounded = n }) ≡ offsets_of (drop at s)
+        → Some (record { used = y.used + z.used; u = u; v = v; rounded = n }) ≡ offsets_of t
     unfolding offsets_of
     code_offsets z ez u v eu ev n en =
-        let w = field_ok (drop (at + y.used) s) z ez in
+        let w = field_ok (drop y.used t) z ez in
         rw (
           eu,
           ev,
@@ -261,10 +249,6 @@ module _ (s : List ℕ) (f : Front) (ef : Some f ≡ front_of s) where
   abbrev first : FieldPart
   first = field_of (drop f.used s)
 
-  first_is : (parts_of s).x ≡ first
-  unfolding parts_of
-  first_is = rw front_used
-
   pub no_first : None ≡ told_field (drop f.used s) → None ≡ told_parts s
   unfolding parts_of
   no_first e = rw (front_told.0, front_used, field_ill (drop f.used s) e)
@@ -290,25 +274,27 @@ module _ (s : List ℕ) (f : Front) (ef : Some f ≡ front_of s) where
       abbrev third : FieldPart
       third = field_of (drop (f.used + x.used + second.used) s)
 
-      offsets_are : offsets_of (drop (f.used + x.used) s) ≡ then_some (second.ok && third.ok) (cut_offsets second third)
+      offsets_are : offsets_of (drop x.used (drop f.used s)) ≡ then_some (second.ok && third.ok) (cut_offsets second third)
       unfolding offsets_of
-      offsets_are = rw drop-drop
+      offsets_are = rw (drop-drop, drop-drop)
 
-      pub ill_offsets : None ≡ offsets_of (drop (f.used + x.used) s) → None ≡ told_parts s
+      pub ill_offsets : None ≡ offsets_of (drop x.used (drop f.used s)) → None ≡ told_parts s
       unfolding parts_of
       ill_offsets e =
-          rw (front_told.0, front_used, x_told.0, sym x_minus ∙ n, x_used, told_none (second.ok && third.ok) (cut_offsets second third) (e ∙ offsets_are))
+          let i : (second.ok && third.ok) ≡ false = told_none (second.ok && third.ok) (cut_offsets second third) (e ∙ offsets_are) in
+          rw (front_told.0, front_used, x_told.0, sym x_minus ∙ n, x_used, i)
 
-      module _ (o : Offsets) (eo : Some o ≡ offsets_of (drop (f.used + x.used) s)) where
+      module _ (o : Offsets) (eo : Some o ≡ offsets_of (drop x.used (drop f.used s))) where
         o_told : ((second.ok && third.ok) ≡ true) × (cut_offsets second third ≡ o)
         o_told = told_some (second.ok && third.ok) (cut_offsets second third) o (eo ∙ offsets_are)
 
-        pub code_parts : (e : Bool) → e ≡ ends is_semi (drop (f.used + x.used + o.used) s)
+        pub code_parts : (e : Bool) → e ≡ ends is_semi (drop o.used (drop x.used (drop f.used s)))
             → then_some e (record { map = f.map; index = f.index; advance = x.number; offsets = o; used = f.used + x.used + o.used }) ≡ told_parts s
         unfolding parts_of
         code_parts e h =
             let w : e ≡ ends is_semi (drop (f.used + x.used + second.used + third.used) s) =
-            rw (← o_told.1, ← add_assoc (f.used + x.used) second.used third.used) at h in
+            rw (drop-drop, drop-drop, ← o_told.1, ← add_assoc f.used x.used (second.used + third.used), ← add_assoc (f.used + x.used) second.used third.used) at
+            h in
             rw (
               ← ap (λ (r : Front). r.map) front_told.1,
               ← ap (λ (r : Front). r.index) front_told.1,
@@ -365,7 +351,7 @@ module _ (k : ℕ) (s : List ℕ) where
   said h = rw scanned_is at (bridge k s h)
 
   -- 7
-  pub code_wrong : None ≡ told_parts s → O.no 7 k ≡ entry_here k s
+  pub code_wrong : None ≡ told_parts s → Err (refusal C.IllFormedEntry k) ≡ entry_here k s
   code_wrong e =
       let w : well_parted (parts_of s) s ≡ false = told_none (well_parted (parts_of s) s) (cut_parts (parts_of s)) e in
       rw w at (said (λ h. clash (well_parted (parts_of s) s) h w))
@@ -387,7 +373,7 @@ module _ (k : ℕ) (s : List ℕ) where
     index_is = rw (← told.1) (index_cut P.digits)
 
     -- 8
-    pub code_index : None ≡ index_within p.index → O.no 8 k ≡ entry_here k s
+    pub code_index : None ≡ index_within p.index → Err (refusal C.IndexTooLarge k) ≡ entry_here k s
     code_index e =
         let l : leb (value P.digits) max_index ≡ false = told_none (leb (value P.digits) max_index)
         (index_choice (ltb 0 (length P.digits)) (value P.digits)) (e ∙ index_is) in
@@ -425,7 +411,7 @@ module _ (k : ℕ) (s : List ℕ) where
           (offset_told P.z.given P.z.negative P.z.size fair_z.size fair_z.negative))
 
       -- 9
-      pub code_limits : None ≡ glyph_within i p → O.no 9 k ≡ entry_here k s
+      pub code_limits : None ≡ glyph_within i p → Err (refusal C.NumberTooLarge k) ≡ entry_here k s
       code_limits e = let l : fit ≡ false = told_none fit glyph (e ∙ glyph_is) in rw (told.0, near.0, l) at said_well
 
       rounded_is : rounded_number p.advance + p.offsets.rounded ≡ rounded_parts P
@@ -439,7 +425,7 @@ module _ (k : ℕ) (s : List ℕ) where
           )
 
       pub code_read : (g : Glyph) → Some g ≡ glyph_within i p → (n : ℕ) → n ≡ rounded_number p.advance + p.offsets.rounded
-          → O.ok (record { mapped = p.map.mapped; units = p.map.units; glyphs = p.map.glyphs; glyph = g; used = p.used; rounded = n }) ≡ entry_here k s
+          → Ok (record { mapped = p.map.mapped; units = p.map.units; glyphs = p.map.glyphs; glyph = g; used = p.used; rounded = n }) ≡ entry_here k s
       code_read g e n en =
           let l = told_some fit glyph g (e ∙ glyph_is) in
           rw (en ∙ rounded_is, ← l.1, ← ap (λ (r : Cut). r.map) told.1, ← used_is, ← near.1) (rw (told.0, near.0, l.0) at said_well)
@@ -451,18 +437,17 @@ no_digit : (t : List ℕ) → head_of t ≡ 40 → length (lead t) ≡ 0
 no_digit [] h = refl
 no_digit (b ∷ t) h = rw h
 
-no_comma : (t : List ℕ) (n : ℕ) → ends is_semi (drop n t) ≡ true → get_or t n 0 ≡ 44 → ⊥
-no_comma [] n w h = omega (arith, h)
-no_comma (b ∷ t) zero w h = omega (arith, h, eqb-true b 59 w)
-no_comma (b ∷ t) (suc n) w h = no_comma t n w h
+no_comma : (t : List ℕ) → ends is_semi t ≡ true → head_of t ≡ 44 → ⊥
+no_comma [] w h = omega (arith, h)
+no_comma (b ∷ t) w h = omega (arith, h, eqb-true b 59 w)
 
 -- the digits d are the whole entry
-index_alone : (t : List ℕ) (d : Digits) → d ≡ digits_from 0 t → d.count ≤ length t → 0 < d.count → d.value ≤ max_index
+pub index_alone : (t : List ℕ) (d : Digits) → d ≡ digits_from 0 t → d.count ≤ length t → 0 < d.count → d.value ≤ max_index
     → ends is_semi (drop d.count t) ≡ true → IsIndex t d
 index_alone t d ed bound some l w =
     let n : ℕ = d.count in
     let sum : n + 0 + 0 ≡ n = omega arith in
-    let comma : get_or t n 0 ≡ 44 → ⊥ = no_comma t n w in
+    let comma : head_of (drop n t) ≡ 44 → ⊥ = no_comma (drop n t) w in
     let m : Some (record { used = 0; mapped = false; units = 1; glyphs = 1 }) ≡ told_map t =
     code_none t (λ h. omega (arith, some, ap (λ (r : Digits). r.count) ed, no_digit t h)) in
     let f : Some (record {
@@ -470,21 +455,15 @@ index_alone t d ed bound some l w =
       used = n;
       index = then_some (ltb 0 n) d.value;
     }) ≡ front_of t = rw zero-add at (code_front t _ m d ed (rw (or-true (ltb 0 n)))) in
-    let x : Some (record { used = 0; number = None }) ≡ told_field (drop n t) = code_absent t n comma in
-    let o : Some (record { used = 0; u = Some (pos 0); v = Some (pos 0); rounded = 0 }) ≡ offsets_of (drop (n + 0) t) = rw add-zero (no_offsets t n comma) in
+    let x : Some (record { used = 0; number = None }) ≡ told_field (drop n t) = code_absent (drop n t) comma in
+    let o : Some (record { used = 0; u = Some (pos 0); v = Some (pos 0); rounded = 0 }) ≡ offsets_of (drop n t) = no_offsets (drop n t) comma in
     let p : Some (record {
       map = record { used = 0; mapped = false; units = 1; glyphs = 1 };
       index = then_some (ltb 0 n) d.value;
       advance = None;
       offsets = record { used = 0; u = Some (pos 0); v = Some (pos 0); rounded = 0 };
       used = n + 0 + 0;
-    }) ≡ told_parts t = code_parts t _ f _ x refl _ o true (rw sum (sym w)) in (
+    }) ≡ told_parts t = code_parts t _ f _ x refl _ o true (sym w) in (
       l,
       λ k. sym (rw sum at (code_read k t _ p (rw sum bound) (Named d.value) (rw (lt-ltb 0 n some, le-leb d.value max_index l)) _ refl 0 refl)),
     )
-
--- the same of the entry at a place, by the code's test
-pub index_told : (s : List ℕ) (at : ℕ) (d : Digits) → d ≡ digits_from 0 (drop at s) → at + d.count ≤ length s → 0 < d.count → d.value ≤ max_index
-    → ends is_semi (drop (at + d.count) s) ≡ true → IsIndex (drop at s) d
-index_told s at d ed b some l w =
-    index_alone (drop at s) d ed (omega (arith, b, length-drop at s)) some l (ap (λ (y : List ℕ). ends is_semi y) (drop-drop d.count at s) ∙ w)

@@ -1,14 +1,20 @@
 // One entry of the indices, read in one pass over its bytes.
 #![tactic(auto)]
 
-ghost use Rattle.std.specs.Prelude.{◌≡◌, true, false, ◌&&◌, ◌+◌, ◌≤◌, leb, ltb, length, drop, IfSome};
+ghost use Rattle.std.specs.Prelude.{◌≡◌, true, false, ◌&&◌, ◌+◌, ◌≤◌, leb, ltb, length, drop, IfSome, IfOk};
 ghost use Rattle.std.specs.Bool.{then_some};
+ghost use Rattle.std.specs.Iterator.{YieldsFirst, item_count};
 ghost use Rattle.label.specs.Limits.{max_index};
-ghost use Rattle.label.specs.Calls.{outcome_of};
+ghost use Rattle.label.specs.Entry.{entries};
 ghost use Rattle.number.specs.Digits.{ends, is_break, digits_from};
+ghost use Rattle.entry.specs.Results.{entry_results, results_left};
 ghost use Rattle.entry.specs.Items.{is_semi, entry_here, index_item, IsIndex};
 ghost use Rattle.entry.specs.Parts.{map_of, cut_map, front_of, field_of, cut_field, offsets_of, parts_of, well_parted, cut_parts, index_within, advance_within, offset_within, glyph_within, rounded_number, SmallNumber};
 
+mod entries;
+
+pub use entries::Entries;
+use entries::EntryBytes;
 use label::{Advance, Cause, Glyph, Index, Limits, Refusal};
 use number::{Digits, Thousandths};
 
@@ -27,18 +33,18 @@ pub struct Item {
 
 // ── bytes ──
 
-// Whether the entry ends at a place.
-fn ends_at(s: &[u8], at: usize) -> bool
-    ensures { result ≡ ends is_semi (drop at s.now) }
+// Whether the entry ends before these bytes.
+fn ends_entry(s: &[u8]) -> bool
+    ensures { result ≡ ends is_semi s.now }
 {
-    s.get(at).is_none_or(|b| *b == b';')
+    s.first().is_none_or(|b| *b == b';')
 }
 
-// Whether a field ends at a place.
-fn breaks_at(s: &[u8], at: usize) -> bool
-    ensures { result ≡ ends is_break (drop at s.now) }
+// Whether a field ends before them.
+fn ends_field(s: &[u8]) -> bool
+    ensures { result ≡ ends is_break s.now }
 {
-    s.get(at).is_none_or(|b| matches!(b, b',' | b';'))
+    s.first().is_none_or(|b| matches!(b, b',' | b';'))
 }
 
 // ── the index part ──
@@ -52,6 +58,13 @@ struct MapPart {
     glyphs: usize,
 }
 
+const NO_MAP: MapPart = MapPart {
+    used: 0,
+    mapped: false,
+    units: 1,
+    glyphs: 1,
+};
+
 // The map, where it is well formed.
 fn map_of(s: &[u8]) -> Option<MapPart>
     ensures value { let m = map_of s.now in result ≡ then_some m.ok (cut_map m) }
@@ -59,14 +72,9 @@ fn map_of(s: &[u8]) -> Option<MapPart>
     ensures unmapped { IfSome result (λ m. m.mapped ≡ false → m.used ≡ 0) }
 {
     if s.first() != Some(&b'(') {
-        return Some(MapPart {
-            used: 0,
-            mapped: false,
-            units: 1,
-            glyphs: 1,
-        });
+        return Some(NO_MAP);
     }
-    let x = number::digits_at(s, 1, 0);
+    let x = number::digits_of(&s[1..], 0);
     let end = 1 + x.count;
     match s.get(end)? {
         b')' => (0 < x.count).then_some(MapPart {
@@ -76,7 +84,7 @@ fn map_of(s: &[u8]) -> Option<MapPart>
             glyphs: 1,
         }),
         b':' => {
-            let y = number::digits_at(s, end + 1, 0);
+            let y = number::digits_of(&s[end + 1..], 0);
             let close = end + 1 + y.count;
             if s.get(close) != Some(&b')') {
                 return None;
@@ -100,17 +108,16 @@ struct Front {
     index: Option<u64>,
 }
 
-// Both, where they are well formed; `first` are the digits at the start of the entry.
-fn front_of(s: &[u8], first: Digits) -> Option<Front>
-    requires { (first ≡ digits_from 0 s.now) × (first.count ≤ length s.now) }
-    ensures value { result ≡ front_of s.now }
-    ensures bounds { IfSome result (λ f. f.used ≤ length s.now) }
+// Both, where they are well formed.
+fn front_of(e: EntryBytes) -> Option<Front>
+    ensures value { result ≡ front_of e.entry.bytes.now }
+    ensures bounds { IfSome result (λ f. f.used ≤ length e.entry.bytes.now) }
 {
-    let map = map_of(s)?;
+    let map = map_of(e.bytes)?;
     let digits = if map.mapped {
-        number::digits_at(s, map.used, 0)
+        number::digits_of(&e.bytes[map.used..], 0)
     } else {
-        first
+        e.first
     };
     if map.mapped && digits.count == 0 {
         return None;
@@ -138,31 +145,31 @@ struct Field {
     number: Option<Signed>,
 }
 
-// The field at a place, where it is well formed.
-fn field_at(s: &[u8], at: usize) -> Option<Field>
-    requires { at ≤ length s.now }
-    ensures value { let f = field_of (drop at s.now) in result ≡ then_some f.ok (cut_field f) }
-    ensures bounds { IfSome result (λ f. at + f.used ≤ length s.now) }
+// The field in front, where it is well formed.
+fn field_of(s: &[u8]) -> Option<Field>
+    ensures value { let f = field_of s.now in result ≡ then_some f.ok (cut_field f) }
+    ensures bounds { IfSome result (λ f. f.used ≤ length s.now) }
     ensures small { IfSome result (λ f. SmallNumber f.number) }
 {
-    if s.get(at) != Some(&b',') {
+    if s.first() != Some(&b',') {
         return Some(Field {
             used: 0,
             number: None,
         });
     }
-    if breaks_at(s, at + 1) {
+    let behind = &s[1..];
+    if ends_field(behind) {
         return Some(Field {
             used: 1,
             number: None,
         });
     }
-    let from = 1 + number::sign_length(s, at + 1);
-    let n = number::number_at(s, at + from)?;
+    let sign = number::sign_length(behind);
+    let n = number::number_of(&behind[sign..])?;
     Some(Field {
-        used: from + n.used,
+        used: 1 + sign + n.used,
         number: Some(Signed {
-            negative: s.get(at + 1) == Some(&b'-'),
+            negative: behind.first() == Some(&b'-'),
             size: n.size,
         }),
     })
@@ -226,13 +233,12 @@ struct Offsets {
 }
 
 // The offsets behind the advance, where both are well formed.
-fn offsets_at(s: &[u8], at: usize) -> Option<Offsets>
-    requires { at ≤ length s.now }
-    ensures value { result ≡ offsets_of (drop at s.now) }
-    ensures bounds { IfSome result (λ o. (at + o.used ≤ length s.now) × (o.rounded ≤ 2)) }
+fn offsets_of(s: &[u8]) -> Option<Offsets>
+    ensures value { result ≡ offsets_of s.now }
+    ensures bounds { IfSome result (λ o. (o.used ≤ length s.now) × (o.rounded ≤ 2)) }
 {
-    // Most entries have none.
-    if s.get(at) != Some(&b',') {
+    // Most entries have none: the test for a comma, which each field makes too, is made here once for both.
+    if s.first() != Some(&b',') {
         return Some(Offsets {
             used: 0,
             u: Some(0),
@@ -240,8 +246,8 @@ fn offsets_at(s: &[u8], at: usize) -> Option<Offsets>
             rounded: 0,
         });
     }
-    let y = field_at(s, at)?;
-    let z = field_at(s, at + y.used)?;
+    let y = field_of(s)?;
+    let z = field_of(&s[y.used..])?;
     Some(Offsets {
         used: y.used + z.used,
         u: offset_of(y.number),
@@ -262,26 +268,25 @@ struct Parts {
     used: usize,
 }
 
-// The parts of the entry that s begins with, where it is well formed (7): each of them is, the advance has no `-`, and behind them is a `;` or the end.
-fn parts_of(s: &[u8], first: Digits) -> Option<Parts>
-    requires { (first ≡ digits_from 0 s.now) × (first.count ≤ length s.now) }
-    ensures value { let p = parts_of s.now in result ≡ then_some (well_parted p s.now) (cut_parts p) }
-    ensures bounds { IfSome result (λ p. (p.used ≤ length s.now) × (p.offsets.rounded ≤ 2)) }
+// The parts of the entry, where it is well formed (7): each of them is, the advance has no `-`, and behind them is a `;` or the end.
+fn parts_of(e: EntryBytes) -> Option<Parts>
+    ensures value { let p = parts_of e.entry.bytes.now in result ≡ then_some (well_parted p e.entry.bytes.now) (cut_parts p) }
+    ensures bounds { IfSome result (λ p. (p.used ≤ length e.entry.bytes.now) × (p.offsets.rounded ≤ 2)) }
 {
-    let front = front_of(s, first)?;
-    let x = field_at(s, front.used)?;
+    let front = front_of(e)?;
+    let fields = &e.bytes[front.used..];
+    let x = field_of(fields)?;
     if x.number.is_some_and(|n| n.negative) {
         return None;
     }
-    let at = front.used + x.used;
-    let offsets = offsets_at(s, at)?;
-    let used = at + offsets.used;
-    ends_at(s, used).then_some(Parts {
+    let behind = &fields[x.used..];
+    let offsets = offsets_of(behind)?;
+    ends_entry(&behind[offsets.used..]).then_some(Parts {
         map: front.map,
         index: front.index,
         advance: x.number,
         offsets,
-        used,
+        used: front.used + x.used + offsets.used,
     })
 }
 
@@ -297,51 +302,101 @@ fn glyph_of(index: Index, p: Parts) -> Option<Glyph>
     })
 }
 
-// Entry number k, where s is the indices from its start on, and `first` the digits there: 7, 8 and 9 in order, or what it says.
-pub fn read_entry(s: &[u8], first: Digits, k: usize) -> Result<Item, Refusal>
-    requires { (first ≡ digits_from 0 s.now) × (first.count ≤ length s.now) }
-    ensures { outcome_of result ≡ entry_here k s.now }
+// An entry of `used` bytes with this map and this glyph record, `rounded` of whose fields were rounded.
+fn item_of(map: MapPart, glyph: Glyph, used: usize, rounded: usize) -> Item
+    ensures { result ≡ record { mapped = map.mapped; units = map.units; glyphs = map.glyphs; glyph = glyph; used = used; rounded = rounded } }
 {
-    let p = parts_of(s, first).ok_or(Cause::IllFormedEntry.at(k))?;
+    Item {
+        mapped: map.mapped,
+        units: map.units,
+        glyphs: map.glyphs,
+        glyph,
+        used,
+        rounded,
+    }
+}
+
+// Entry number k from its parts: 7, 8 and 9 in order, or what it says.
+fn read_parts(e: EntryBytes, k: usize) -> Result<Item, Refusal>
+    ensures value { result ≡ entry_here k e.entry.bytes.now }
+    ensures bounds { IfOk result (λ x. x.used ≤ length e.entry.bytes.now) }
+{
+    let p = parts_of(e).ok_or(Cause::IllFormedEntry.at(k))?;
     let index = index_of(p.index).ok_or(Cause::IndexTooLarge.at(k))?;
     let glyph = glyph_of(index, p).ok_or(Cause::NumberTooLarge.at(k))?;
-    Ok(Item {
-        mapped: p.map.mapped,
-        units: p.map.units,
-        glyphs: p.map.glyphs,
-        glyph,
-        used: p.used,
-        rounded: rounded_of(p.advance) + p.offsets.rounded,
-    })
+    let rounded = rounded_of(p.advance) + p.offsets.rounded;
+    Ok(item_of(p.map, glyph, p.used, rounded))
 }
 
 // ── an index alone ──
 
-// Whether the entry at a place is the digits d there and nothing else, within the limit: such an entry needs no more reading.
-pub fn is_index(s: &[u8], at: usize, d: Digits) -> bool
-    requires { (d ≡ digits_from 0 (drop at s.now)) × (at + d.count ≤ length s.now) }
-    ensures value { result ≡ ((ltb 0 d.count && leb d.value max_index) && ends is_semi (drop (at + d.count) s.now)) }
-    ensures alone { result ≡ true → IsIndex (drop at s.now) d }
+// Whether the entry is the first digits and nothing else, within the limit: such an entry needs no more reading.
+fn is_index(e: EntryBytes) -> bool
+    ensures value { result ≡ ((ltb 0 e.entry.first.count && leb e.entry.first.value max_index) && ends is_semi (drop e.entry.first.count e.entry.bytes.now)) }
+    ensures alone { result ≡ true → IsIndex e.entry.bytes.now e.entry.first }
 {
-    0 < d.count && d.value <= Limits::INDEX && ends_at(s, at + d.count)
+    0 < e.first.count && e.first.value <= Limits::INDEX && ends_entry(&e.bytes[e.first.count..])
 }
 
-// What it says.
-pub fn index_item(d: Digits) -> Item
+// What these digits alone say.
+fn index_item(d: Digits) -> Item
     requires { d.value ≤ max_index }
     ensures { result ≡ index_item d }
 {
-    Item {
-        mapped: false,
-        units: 1,
-        glyphs: 1,
-        glyph: Glyph {
-            index: Index::Named(d.value as u16),
-            advance: Advance::Own,
-            u: 0,
-            v: 0,
-        },
-        used: d.count,
-        rounded: 0,
+    let glyph = Glyph {
+        index: Index::Named(d.value as u16),
+        advance: Advance::Own,
+        u: 0,
+        v: 0,
+    };
+    item_of(NO_MAP, glyph, d.count, 0)
+}
+
+// ── the entries ──
+
+// The entry that s begins with, entry number k: an index alone, or one that is read by its parts.
+fn read_entry(s: &[u8], k: usize) -> Result<Item, Refusal>
+    ensures value { result ≡ entry_here k s.now }
+    ensures bounds { IfOk result (λ x. x.used ≤ length s.now) }
+{
+    let e = EntryBytes {
+        bytes: s,
+        first: number::digits_of(s, 0),
+    };
+    if is_index(e) {
+        return Ok(index_item(e.first));
+    }
+    read_parts(e, k)
+}
+
+impl<'a> Entries<'a> {
+    // All of them: zero bytes are no entries, and n semicolons make n + 1.
+    pub fn new(indices: &'a [u8]) -> Entries<'a>
+        ensures { results_left result ≡ entry_results 0 (entries indices.now) }
+    {
+        Entries {
+            rest: (!indices.is_empty()).then_some(indices),
+            number: 0,
+        }
+    }
+}
+
+impl<'a> Iterator for Entries<'a> {
+    type Item = Result<Item, Refusal>;
+
+    ghost next_gives = { YieldsFirst results_left };
+
+    ghost remaining = { item_count results_left };
+
+    fn next(&mut self) -> Option<Result<Item, Refusal>> {
+        let s = self.rest?;
+        let item = read_entry(s, self.number);
+        // Behind the last entry there is no `;`, and so no rest.
+        self.rest = match item {
+            Ok(x) => s.get(x.used + 1..),
+            Err(_) => None,
+        };
+        self.number += 1;
+        Some(item)
     }
 }

@@ -7,12 +7,12 @@ use mathlib.Core.List.{List, [], ◌∷◌, ◌++◌}
 use Prim.Native.Nat.{ℕ, ◌+◌, ◌-◌, ◌*◌, ◌^◌, ◌≤◌, ◌<◌, min}
 use native.Mathlib.Omega.{arith}
 use Rattle.std.proofs.lemmas.Option.{same_Some, none-some}
-use native.Mathlib.Nat.{add_assoc, mul-le-mul_right, pow-suc, lt_of_lt_of_le}
+use native.Mathlib.Nat.{mul-le-mul_right, pow-suc, lt_of_lt_of_le}
 use lib.Pow.{pow-add}
 use lib.Dec.{leb, ltb, eqb}
 use lib.ListN.{length, drop, get_or, length-append}
 use borrow.Author.Tests.{le-leb, leb-true, eq-eqb, ne_eqb}
-use lib.Seq.{drop-drop, get_or-drop}
+use lib.Seq.{drop-drop}
 use Rattle.label.specs.Bytes.{is_digit, value_from, value}
 use Rattle.label.specs.Entry.{is_e, scaled}
 use Rattle.label.specs.Requests.RoundedCount.{is_whole}
@@ -99,24 +99,15 @@ abbrev told_exponent : List ℕ → Option Exponent
 told_exponent t = let x = exponent_of t in then_some x.ok (cut_exponent x)
 
 -- what the code makes of two runs of digits
-module _ (s : List ℕ) (at : ℕ) (r : Digits) (e : r ≡ digits_from 0 (drop at s)) where
-  pub code_pointed : get_or s (at + r.count) 0 ≡ 46 → (q : Digits) → q ≡ digits_from r.value (drop (at + r.count + 1) s)
+module _ (t : List ℕ) (r : Digits) (e : r ≡ digits_from 0 t) where
+  pub code_pointed : get_or t r.count 0 ≡ 46 → (q : Digits) → q ≡ digits_from r.value (drop (r.count + 1) t)
       → then_some (ltb 0 q.count) (record { used = r.count + 1 + q.count; count = r.count + q.count; value = q.value; behind = q.count })
-      ≡ told_mantissa (drop at s)
-  code_pointed h q f =
-      rw (
-        mant_pointed (drop at s) (rw (get_or-drop, ← ap (λ (d : Digits). d.count) e) h),
-        f,
-        e,
-        drop-drop,
-        add_assoc at (length (lead (drop at s))) 1,
-        length-append,
-        ← cut_append,
-      )
+      ≡ told_mantissa t
+  code_pointed h q f = rw (mant_pointed t (rw (← ap (λ (d : Digits). d.count) e) h), f, e, length-append, ← cut_append)
 
-  pub code_plain : (get_or s (at + r.count) 0 ≡ 46 → ⊥)
-      → then_some (ltb 0 r.count) (record { used = r.count; count = r.count; value = r.value; behind = 0 }) ≡ told_mantissa (drop at s)
-  code_plain h = rw (mant_plain (drop at s) (λ k. h (rw (ap (λ (d : Digits). d.count) e) (rw get_or-drop at k))), e)
+  pub code_plain : (get_or t r.count 0 ≡ 46 → ⊥)
+      → then_some (ltb 0 r.count) (record { used = r.count; count = r.count; value = r.value; behind = 0 }) ≡ told_mantissa t
+  code_plain h = rw (mant_plain t (λ k. h (rw (ap (λ (d : Digits). d.count) e) k)), e)
 
 -- the exponent by its letter, and what the code makes of it
 pub expo_none : (t : List ℕ) → is_e (head_of t) ≡ false → exponent_of t ≡ unraised
@@ -127,24 +118,22 @@ pub expo_some : (t : List ℕ) → is_e (head_of t) ≡ true → exponent_of t �
 unfolding exponent_of
 expo_some t h = rw h
 
-module _ (s : List ℕ) (at : ℕ) where
-  pub code_unraised : is_e (get_or s at 0) ≡ false
-      → Some (record { used = 0; negative = false; count = 0; value = 0 }) ≡ told_exponent (drop at s)
-  unfolding value_from
-  code_unraised h = rw (expo_none (drop at s) (rw head_drop h))
+pub code_unraised : (t : List ℕ) → is_e (head_of t) ≡ false → Some (record { used = 0; negative = false; count = 0; value = 0 }) ≡ told_exponent t
+unfolding value_from
+code_unraised t h = rw (expo_none t h)
 
-  pub code_raised : is_e (get_or s at 0) ≡ true → (k : ℕ) → k ≡ sign_length (get_or s (at + 1) 0) → (r : Digits)
-      → r ≡ digits_from 0 (drop (at + (1 + k)) s) → (m : Bool) → m ≡ eqb (get_or s (at + 1) 0) 45
-      → then_some (ltb 0 r.count) (record { used = 1 + k + r.count; negative = m; count = r.count; value = r.value })
-      ≡ told_exponent (drop at s)
-  code_raised h k ek r er m em = rw (expo_some (drop at s) (rw head_drop h), get_or-drop, ← ek, ← em, drop-drop, er)
+pub code_raised : (t : List ℕ) → is_e (head_of t) ≡ true → (k : ℕ) → k ≡ sign_length (head_of (drop 1 t)) → (r : Digits)
+    → r ≡ digits_from 0 (drop k (drop 1 t)) → (m : Bool) → m ≡ eqb (head_of (drop 1 t)) 45
+    → then_some (ltb 0 r.count) (record { used = 1 + k + r.count; negative = m; count = r.count; value = r.value })
+    ≡ told_exponent t
+code_raised t h k ek r er m em = rw (expo_some t h, ← head_drop t 1, ← ek, ← em, er, drop-drop)
 
 -- a test and the value told where it holds
-told_some : {A : Type 0} (b : Bool) (x y : A) → Some y ≡ then_some b x → (b ≡ true) × (x ≡ y)
+pub told_some : {A : Type 0} (b : Bool) (x y : A) → Some y ≡ then_some b x → (b ≡ true) × (x ≡ y)
 told_some true x y e = (refl, sym (same_Some y x e))
 told_some false x y e = absurd (none-some y (sym e))
 
-told_none : {A : Type 0} (b : Bool) (x : A) → None ≡ then_some b x → b ≡ false
+pub told_none : {A : Type 0} (b : Bool) (x : A) → None ≡ then_some b x → b ≡ false
 told_none true x e = absurd (none-some x e)
 told_none false x e = refl
 
@@ -166,8 +155,8 @@ module _ (t : List ℕ) (m : Mantissa) (e : Some m ≡ told_mantissa t) where
     mant_exact : value (mantissa_of t).digits ≡ m.value
     mant_exact = rw (← mant_is) (omega (arith, mant_below))
 
-    pub mant_asked : (m.value < cap) × (m.behind ≤ 18)
-    mant_asked = (rw (← mant_exact) mant_below, rw (← mant_is) (omega (arith, mant_behind t, mant_count)))
+    pub mant_asked : m.behind ≤ 18
+    mant_asked = rw (← mant_is) (omega (arith, mant_behind t, mant_count))
 
 -- and of an exponent
 module _ (t : List ℕ) (x : Exponent) (e : Some x ≡ told_exponent t) where
@@ -199,36 +188,33 @@ pub no_mantissa : (t : List ℕ) → None ≡ told_mantissa t → None ≡ forme
 unfolding number_of
 no_mantissa t e = rw (told_none (mantissa_of t).ok (cut_mantissa (mantissa_of t)) e)
 
-module _ (s : List ℕ) (at : ℕ) (m : Mantissa) (em : Some m ≡ told_mantissa (drop at s)) where
-  abbrev t : List ℕ
-  t = drop at s
+module _ (t : List ℕ) (m : Mantissa) (em : Some m ≡ told_mantissa t) where
+  rest_is : drop m.used t ≡ drop (mantissa_of t).used t
+  rest_is = rw (ap (λ (r : Mantissa). r.used) (mant_is t m em))
 
-  rest_is : drop (at + m.used) s ≡ drop (mantissa_of t).used t
-  rest_is = rw (drop-drop, ap (λ (r : Mantissa). r.used) (mant_is t m em))
-
-  pub no_exponent : None ≡ told_exponent (drop (at + m.used) s) → None ≡ formed (number_of t)
+  pub no_exponent : None ≡ told_exponent (drop m.used t) → None ≡ formed (number_of t)
   unfolding number_of
   no_exponent e =
       let y : List ℕ = drop (mantissa_of t).used t in
       rw (mant_ok t m em, told_none (exponent_of y).ok (cut_exponent (exponent_of y)) (rw rest_is at e))
 
-  module _ (x : Exponent) (ex : Some x ≡ told_exponent (drop (at + m.used) s)) where
-    number_told : (z : Option Thousandths) → z ≡ size_of (mantissa_of t) (exponent_of (drop (at + m.used) s))
+  module _ (x : Exponent) (ex : Some x ≡ told_exponent (drop m.used t)) where
+    number_told : (z : Option Thousandths) → z ≡ size_of (mantissa_of t) (exponent_of (drop m.used t))
         → Some (record { used = m.used + x.used; size = z }) ≡ formed (number_of t)
     unfolding number_of
     number_told z ez = rw (
       ez,
       ← rest_is,
       mant_ok t m em,
-      expo_ok (drop (at + m.used) s) x ex,
+      expo_ok (drop m.used t) x ex,
       ap (λ (r : Mantissa). r.used) (mant_is t m em),
-      ap (λ (r : Exponent). r.used) (expo_is (drop (at + m.used) s) x ex),
+      ap (λ (r : Exponent). r.used) (expo_is (drop m.used t) x ex),
     )
 
-    size_is : size_of (mantissa_of t) (exponent_of (drop (at + m.used) s))
+    size_is : size_of (mantissa_of t) (exponent_of (drop m.used t))
         ≡ cond (leb m.count 18 && leb x.count 2) (sized (scaled m.value m.behind x.negative x.value) (is_whole m.value m.behind x.negative x.value)) None
     size_is =
-        let y : List ℕ = drop (at + m.used) s in
+        let y : List ℕ = drop m.used t in
         rw (ap (λ (r : Mantissa). r.count) (mant_is t m em), ap (λ (r : Exponent). r.count) (expo_is y x ex))
         (within_few (leb m.count 18 && leb x.count 2) _ _ None
         (λ h. rw (

@@ -5,7 +5,7 @@ use mathlib.Core.Path.{◌≡◌, refl, sym, ap, ◌∙◌}
 use mathlib.Core.Bool.{Bool, true}
 use Prim.Native.Nat.{ℕ, suc, zero, ◌+◌, ◌-◌, ◌*◌, ◌/◌, ◌%◌, ◌^◌, ◌≤◌, ◌<◌}
 use native.Mathlib.Omega.{arith}
-use native.Mathlib.Nat.{add-zero, zero-mul, mul-div-mul_right, mul-div_cancel, mul-mod_left, div-eq_of_lt, mul_assoc, one-le-pow, mod-eq_of_lt, lt_of_lt_of_le, pow-le-pow_right, mul-le-mul_right, mul-lt-mul_of_pos_right}
+use native.Mathlib.Nat.{add-zero, zero-mul, mul-div-mul_right, mul-div_cancel, mul-mod_left, div-eq_of_lt, mul_assoc, one-le-pow, mod-eq_of_lt, pow-le-pow_right, mul-le-mul_right, mul-lt-mul_of_pos_right}
 use lib.Arith.{mod-mul}
 use lib.Pow.{pow-add}
 use lib.Dec.{ltb, eqb, lit<}
@@ -16,7 +16,6 @@ use Rattle.label.proofs.Basics.{cases}
 use Rattle.label.proofs.Values.{nearest_exact}
 use Rattle.label.proofs.Statements.Rounding.{nearest_below, nearest_above, nearest_half, three}
 use Rattle.std.proofs.Common.{None}
-use Rattle.number.specs.Digits.{cap}
 use Rattle.number.specs.Numbers.{sized}
 
 -- ── powers of ten ──
@@ -69,8 +68,8 @@ scale_grow m up down h = rw (ten_split up down h, ← mul_assoc m (10 ^ (up - do
 pub scale_shrink : (m up down : ℕ) → up ≤ down → nearest (m * 10 ^ up) (10 ^ down) ≡ nearest m (10 ^ (down - up))
 scale_shrink m up down h = rw (ten_split down up h) (nearest_cancel m (10 ^ (down - up)) (10 ^ up) (ten_pos (down - up)) (ten_pos up))
 
-pub shrink_none : (m k : ℕ) → m < cap → 18 < k → nearest m (10 ^ k) ≡ 0
-shrink_none m k h b = nearest_none m (10 ^ k) (omega (arith, ten_mono 19 k b))
+pub shrink_none : (m k : ℕ) → m < 18446744073709551616 → 19 < k → nearest m (10 ^ k) ≡ 0
+shrink_none m k h b = nearest_none m (10 ^ k) (omega (arith, ten_mono 20 k b))
 
 -- ── exactness ──
 
@@ -86,9 +85,9 @@ shrink_whole m up down h =
     rw (ten_split down up h, mod_cancel m (10 ^ (down - up)) (10 ^ up) (ten_pos (down - up)) (ten_pos up))
     (product_zero (m % 10 ^ (down - up)) (10 ^ up) (ten_pos up))
 
-pub none_whole : (m k : ℕ) → m < cap → 18 < k → eqb (m % 10 ^ k) 0 ≡ eqb m 0
+pub none_whole : (m k : ℕ) → m < 18446744073709551616 → 19 < k → eqb (m % 10 ^ k) 0 ≡ eqb m 0
 none_whole m k h b =
-    let l : m < 10 ^ k = lt_of_lt_of_le h (ten_mono 18 k (omega arith)) in rw (mod-eq_of_lt l)
+    let l : m < 10 ^ k = omega (arith, ten_mono 20 k b) in rw (mod-eq_of_lt l)
 
 -- ── the limit ──
 

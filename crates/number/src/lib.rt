@@ -1,19 +1,19 @@
-// The digits that stand at a place, and the number that stands there, rounded to whole thousandths.
+// The digits that bytes begin with, and the number, rounded to whole thousandths.
 #![tactic(auto)]
 
-ghost use Rattle.std.specs.Prelude.{◌≡◌, true, ◌+◌, ◌-◌, ◌*◌, ◌%◌, ◌^◌, ◌≤◌, ◌<◌, eqb, length, get_or, drop, IfSome};
+ghost use Rattle.std.specs.Prelude.{◌≡◌, true, ◌+◌, ◌-◌, ◌*◌, ◌%◌, ◌^◌, ◌≤◌, ◌<◌, eqb, length, IfSome};
 ghost use Rattle.std.specs.Bool.{then_some};
 ghost use Rattle.label.specs.Bytes.{is_digit};
 ghost use Rattle.label.specs.Entry.{nearest, scaled};
 ghost use Rattle.label.specs.Requests.RoundedCount.{is_whole};
-ghost use Rattle.number.specs.Digits.{cap, pushed, digits_from};
+ghost use Rattle.number.specs.Digits.{cap, head_of, pushed, digits_from};
 ghost use Rattle.number.specs.Numbers.{sized, Small, mantissa_of, cut_mantissa, sign_length, exponent_of, cut_exponent, number_of, formed};
 
 use label::Limits;
 
 // ── digits ──
 
-// The digits that stand at a place: how many, and their value, cut at 10^18.
+// The digits that bytes begin with: how many, and their value, cut at 10^18.
 #[derive(Clone, Copy)]
 pub struct Digits {
     pub count: usize,
@@ -22,7 +22,7 @@ pub struct Digits {
 
 const CAP: u64 = 1_000_000_000_000_000_000;
 
-// One more digit behind v.
+// One more digit behind v. A value that is cut stays above every limit, so who compares it needs no case for it.
 fn push_digit(v: u64, b: u8) -> u64
     requires { (v ≤ cap) × (is_digit b ≡ true) }
     ensures { result ≡ pushed v b }
@@ -30,22 +30,21 @@ fn push_digit(v: u64, b: u8) -> u64
     (v * 10 + u64::from(b - b'0')).min(CAP)
 }
 
-// The digits at a place, read behind `start`.
-pub fn digits_at(s: &[u8], at: usize, start: u64) -> Digits
-    requires { (at ≤ length s.now) × (start ≤ cap) }
-    ensures value { result ≡ digits_from start (drop at s.now) }
-    ensures bounds { (at + result.count ≤ length s.now) × (result.value ≤ cap) }
+// The digits that s begins with, read behind `start`.
+pub fn digits_of(s: &[u8], start: u64) -> Digits
+    requires { start ≤ cap }
+    ensures value { result ≡ digits_from start s.now }
+    ensures bounds { (result.count ≤ length s.now) × (result.value ≤ cap) }
 {
-    let rest = &s[at..];
     let mut value = start;
-    for (count, b) in rest.iter().enumerate() {
+    for (count, b) in s.iter().enumerate() {
         if !b.is_ascii_digit() {
             return Digits { count, value };
         }
         value = push_digit(value, *b);
     }
     Digits {
-        count: rest.len(),
+        count: s.len(),
         value,
     }
 }
@@ -53,6 +52,7 @@ pub fn digits_at(s: &[u8], at: usize, start: u64) -> Digits
 // ── values ──
 
 // Whole thousandths within the limit, and whether the exact value is this one.
+// That they are within it is a clause of `number_of` and no field of this: the definitions (`sized`) make such values from a number alone.
 #[derive(Clone, Copy)]
 pub struct Thousandths {
     pub count: u32,
@@ -86,19 +86,18 @@ fn grown(m: u64, k: usize) -> Option<Thousandths>
 }
 
 // m / 10^k, rounded: the one place where a value is rounded, by its quotient and its remainder. More than a half goes up, and a half where the quotient is
-// odd. The value is exact where nothing remains.
+// odd: what remains is held against what it lacks to the divisor. The value is exact where nothing remains.
 fn shrunk(m: u64, k: usize) -> Option<Thousandths>
-    requires { m < cap }
     ensures { result ≡ sized (nearest m (10 ^ k)) (eqb (m % 10 ^ k) 0) }
 {
-    if 18 < k {
+    if 19 < k {
         return limited(0, m == 0);
     }
     let d = 10u64.pow(k as u32);
     let q = m / d;
     let r = m % d;
     let exact = r == 0;
-    if d < 2 * r + q % 2 {
+    if d - r < r + q % 2 {
         limited(q + 1, exact)
     } else {
         limited(q, exact)
@@ -107,7 +106,6 @@ fn shrunk(m: u64, k: usize) -> Option<Thousandths>
 
 // m × 10^up / 10^down, rounded.
 fn shifted(m: u64, up: usize, down: usize) -> Option<Thousandths>
-    requires { m < cap }
     ensures { result ≡ sized (nearest (m * 10 ^ up) (10 ^ down)) (eqb (m * 10 ^ up % 10 ^ down) 0) }
 {
     if down <= up {
@@ -145,15 +143,13 @@ pub struct Number {
 }
 
 // The digits before any exponent, where they are well formed.
-fn mantissa_at(s: &[u8], at: usize) -> Option<Mantissa>
-    requires { at ≤ length s.now }
-    ensures value { let m = mantissa_of (drop at s.now) in result ≡ then_some m.ok (cut_mantissa m) }
-    ensures bounds { IfSome result (λ m. at + m.used ≤ length s.now) }
+fn mantissa_of(s: &[u8]) -> Option<Mantissa>
+    ensures value { let m = mantissa_of s.now in result ≡ then_some m.ok (cut_mantissa m) }
+    ensures bounds { IfSome result (λ m. m.used ≤ length s.now) }
 {
-    let whole = digits_at(s, at, 0);
-    let end = at + whole.count;
-    if s.get(end) == Some(&b'.') {
-        let part = digits_at(s, end + 1, whole.value);
+    let whole = digits_of(s, 0);
+    if s.get(whole.count) == Some(&b'.') {
+        let part = digits_of(&s[whole.count + 1..], whole.value);
         (0 < part.count).then_some(Mantissa {
             used: whole.count + 1 + part.count,
             count: whole.count + part.count,
@@ -170,21 +166,20 @@ fn mantissa_at(s: &[u8], at: usize) -> Option<Mantissa>
     }
 }
 
-// How many bytes a sign at a place has: none where there is none.
-pub fn sign_length(s: &[u8], at: usize) -> usize
-    ensures value { result ≡ sign_length (get_or s.now at 0) }
-    ensures bounds { (result ≤ 1) × (result ≤ length s.now - at) }
+// How many bytes the sign has that s begins with: none where there is none.
+pub fn sign_length(s: &[u8]) -> usize
+    ensures value { result ≡ sign_length (head_of s.now) }
+    ensures bounds { (result ≤ 1) × (result ≤ length s.now) }
 {
-    usize::from(matches!(s.get(at), Some(b'+' | b'-')))
+    usize::from(matches!(s.first(), Some(b'+' | b'-')))
 }
 
-// The exponent, where it is well formed.
-fn exponent_at(s: &[u8], at: usize) -> Option<Exponent>
-    requires { at ≤ length s.now }
-    ensures value { let x = exponent_of (drop at s.now) in result ≡ then_some x.ok (cut_exponent x) }
-    ensures bounds { IfSome result (λ x. at + x.used ≤ length s.now) }
+// The exponent, where it is well formed. None is read as 0 of no digits, as the value needs no case for it.
+fn exponent_of(s: &[u8]) -> Option<Exponent>
+    ensures value { let x = exponent_of s.now in result ≡ then_some x.ok (cut_exponent x) }
+    ensures bounds { IfSome result (λ x. x.used ≤ length s.now) }
 {
-    if !matches!(s.get(at), Some(b'e' | b'E')) {
+    if !matches!(s.first(), Some(b'e' | b'E')) {
         return Some(Exponent {
             used: 0,
             negative: false,
@@ -192,19 +187,20 @@ fn exponent_at(s: &[u8], at: usize) -> Option<Exponent>
             value: 0,
         });
     }
-    let from = 1 + sign_length(s, at + 1);
-    let digits = digits_at(s, at + from, 0);
+    let behind = &s[1..];
+    let sign = sign_length(behind);
+    let digits = digits_of(&behind[sign..], 0);
     (0 < digits.count).then_some(Exponent {
-        used: from + digits.count,
-        negative: s.get(at + 1) == Some(&b'-'),
+        used: 1 + sign + digits.count,
+        negative: behind.first() == Some(&b'-'),
         count: digits.count,
         value: digits.value,
     })
 }
 
-// m × 10^(e − f) × 1000, rounded.
+// m × 10^(e − f) × 1000, rounded. `number_of` asks the limits on digits first, so what is required here is of this call and not of every mantissa.
 fn to_thousandths(m: Mantissa, x: Exponent) -> Option<Thousandths>
-    requires { (m.value < cap) × (m.behind ≤ 18) × (x.value ≤ 99) }
+    requires { (m.behind ≤ 18) × (x.value ≤ 99) }
     ensures { result ≡ sized (scaled m.value m.behind x.negative x.value) (is_whole m.value m.behind x.negative x.value) }
 {
     let e = x.value as usize;
@@ -216,15 +212,14 @@ fn to_thousandths(m: Mantissa, x: Exponent) -> Option<Thousandths>
     shifted(m.value, up, down)
 }
 
-// The number at a place, where one is well formed there.
-pub fn number_at(s: &[u8], at: usize) -> Option<Number>
-    requires { at ≤ length s.now }
-    ensures value { result ≡ formed (number_of (drop at s.now)) }
-    ensures bounds { IfSome result (λ n. at + n.used ≤ length s.now) }
+// The number that s begins with, where that is well formed.
+pub fn number_of(s: &[u8]) -> Option<Number>
+    ensures value { result ≡ formed (number_of s.now) }
+    ensures bounds { IfSome result (λ n. n.used ≤ length s.now) }
     ensures small { IfSome result (λ n. Small n.size) }
 {
-    let m = mantissa_at(s, at)?;
-    let x = exponent_at(s, at + m.used)?;
+    let m = mantissa_of(s)?;
+    let x = exponent_of(&s[m.used..])?;
     let used = m.used + x.used;
     if Limits::DIGITS < m.count || Limits::EXPONENT_DIGITS < x.count {
         return Some(Number { used, size: None });

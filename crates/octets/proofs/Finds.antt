@@ -1,14 +1,11 @@
--- What the library's `position` and `starts_with` find, in the words of the definitions: as many bytes stand before the first b as `cut` has, and `begins`
--- compares the same bytes. Each by induction on the list.
+-- What the library's `position` finds, in the words of the definitions: as many bytes stand before the first b as `cut` has, by induction on the list.
 -- Assumes nothing.
-use Rattle.std.proofs.Common.{ℕ, suc, ◌+◌, ◌-◌, le_refl, drop, length-drop, ◌&&◌, cond, not, ltb, eqb, Bool, true, false, List, [], ◌∷◌, length, position, Option, Some, None, ◌≡◌, refl, sym, ap, ap₂, ◌∙◌, one-add, le_antisymm, unwrap_or}
-use Rattle.std.specs.List.{position_or_len, starts_with, between}
+use Rattle.std.proofs.Common.{ℕ, suc, ◌+◌, ◌-◌, le_refl, drop, length-drop, cond, not, ltb, eqb, Bool, true, false, List, [], ◌∷◌, length, position, Option, Some, None, ◌≡◌, refl, sym, ap, ◌∙◌, one-add, le_antisymm, unwrap_or}
+use Rattle.std.specs.List.{position_or_len, between}
 use Rattle.std.proofs.lemmas.Slice.{between_to_end}
 use Rattle.std.proofs.lemmas.List.Sums.{prefix_len-le-length}
-use Rattle.std.proofs.lemmas.Bool.{eq-eqb, eqb-true}
-use Rattle.std.proofs.lemmas.Bool.Decides.{Decides-eqb, same_from_decides}
 use borrow.Author.Tests.{ltb-false}
-use Rattle.label.specs.Bytes.{begins, cut, on_before}
+use Rattle.label.specs.Bytes.{cut, on_before}
 
 module _ (b : ℕ) where
   counted : (s : List ℕ) → length (cut (λ x. eqb x b) s).before ≡ position_or_len (λ x. eqb x b) s
@@ -36,15 +33,3 @@ pub before_from : (b from : ℕ) (s : List ℕ) {r : Option ℕ} → r ≡ posit
     → unwrap_or r (length s - from) ≡ length (cut (λ x. eqb x b) (drop from s)).before
 before_from b from s e =
     rw (e, between_to_end s from (length s) (le_refl (length s)), ← length-drop from s) (sym (before_is b (drop from s)))
-
-eqb_turned : (x y : ℕ) → eqb x y ≡ eqb y x
-eqb_turned x y = same_from_decides (eqb x y) (eqb y x) (Decides-eqb x y) (λ e. sym (eqb-true y x e), λ p. eq-eqb y x (sym p))
-
-pub begins_is : (w s : List ℕ) → starts_with eqb s w ≡ begins w s
-unfolding begins
-begins_is [] s = refl
-begins_is (x ∷ w) [] = refl
-begins_is (x ∷ w) (y ∷ s) = ap₂ (λ a b. a && b) (eqb_turned x y) (begins_is w s)
-
-pub begins_from : (w : List ℕ) (at : ℕ) (s : List ℕ) {r : Bool} → r ≡ starts_with eqb (between at (length s) s) w → r ≡ begins w (drop at s)
-begins_from w at s e = e ∙ ap (λ l. starts_with eqb l w) (between_to_end s at (length s) (le_refl (length s))) ∙ begins_is w (drop at s)

@@ -8,7 +8,7 @@ ghost use Rattle.octets.specs.Outputs.{Gains};
 // ── bytes, looked for ──
 
 // Where the first byte b stands.
-fn position_of(s: &[u8], b: u8) -> Option<usize>
+pub fn position_of(s: &[u8], b: u8) -> Option<usize>
     ensures { result ≡ position (λ x. x == b) s.now }
 {
     s.iter().position(|x| *x == b)
@@ -36,14 +36,30 @@ pub struct Output<'a> {
 }
 
 impl<'a> Output<'a> {
+    // An output that fills these bytes from their start.
+    pub fn on(bytes: &'a mut [u8]) -> Output<'a>
+        ensures same { result.bytes.ghost_name ≡ bytes.entry.ghost_name }
+        ensures bytes { result.bytes.now ≡ bytes.old }
+        ensures start { result.at ≡ 0 }
+    {
+        Output { bytes, at: 0 }
+    }
+
+    // An output that stores nothing and counts.
+    pub fn counting() -> Output<'a>
+        ensures bytes { result.bytes.now ≡ [] }
+        ensures start { result.at ≡ 0 }
+    {
+        Output::on(&mut [])
+    }
+
     pub fn put_byte(&mut self, b: u8)
         ensures { Gains self.old (b ∷ []) self.new }
     {
-        let at = self.at;
-        if at < self.bytes.len() {
-            self.bytes[at] = b;
+        if self.at < self.bytes.len() {
+            self.bytes[self.at] = b;
         }
-        self.at = at.saturating_add(1);
+        self.at = self.at.saturating_add(1);
     }
 
     pub fn put_bytes(&mut self, s: &[u8])

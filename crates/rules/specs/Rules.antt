@@ -4,7 +4,7 @@ use Rattle.std.specs.Prelude.{ℕ, ◌%◌, Bool, not, ◌&&◌, ◌||◌, List,
 use Rattle.label.specs.Bytes.{empty}
 use Rattle.label.specs.Limits.{max_units, max_glyphs}
 use Rattle.label.specs.Run.{named}
-use Rattle.label.specs.Sound.{natural, choice, glyph_fits, is_font, may_open}
+use Rattle.label.specs.Sound.{natural, choice, glyph_fits, may_open}
 use Rattle.label.specs.declared.Cluster.{Cluster}
 use Rattle.label.specs.declared.Glyph.{Glyph}
 use Rattle.wire.specs.Numbers.{as_cluster, as_glyph}
@@ -19,9 +19,9 @@ whole_run u c g = eqb (u % 2) 0 && eqb (c % 8) 0 && eqb (g % 16) 0
 abbrev pub limited : ℕ → ℕ → Bool
 limited u g = leb u max_units && leb g max_glyphs && not (eqb u 0 && eqb g 0)
 
--- a glyph's four numbers may stand; `t`: a pair of the tail stands before it
-abbrev pub glyph_ok : Bool → GlyphNumbers → Bool
-glyph_ok t n = choice n.index && choice n.advance && glyph_fits (as_glyph n) && (not t || is_font (as_glyph n))
+-- a glyph's four numbers may stand
+abbrev pub glyph_ok : GlyphNumbers → Bool
+glyph_ok n = choice n.index && choice n.advance && glyph_fits (as_glyph n)
 
 -- a cluster with this first glyph may stand from unit `at` on, if nothing is behind the glyph; its counts are not below 0
 unfoldable pub opens_at : List ℕ → ℕ → ClusterNumbers → GlyphNumbers → Bool

@@ -32,6 +32,11 @@ pub fn is_limited(run: Run) -> bool
 
 // ── a glyph ──
 
+// The limits as the numbers of a run hold them.
+const INDEX: i32 = Limits::INDEX as i32;
+
+const THOUSANDTHS: i32 = Limits::THOUSANDTHS as i32;
+
 // Whether index and advance are not below 0, or -1, which leaves them to the font.
 fn has_choices(glyph: GlyphNumbers) -> bool
     ensures { result ≡ (choice glyph.index && choice glyph.advance) }
@@ -42,26 +47,25 @@ fn has_choices(glyph: GlyphNumbers) -> bool
 fn has_offsets(glyph: GlyphNumbers) -> bool
     ensures { result ≡ (leb (size glyph.u) max_thousandths && leb (size glyph.v) max_thousandths) }
 {
-    glyph.u.unsigned_abs() <= Limits::THOUSANDTHS as u32
-        && glyph.v.unsigned_abs() <= Limits::THOUSANDTHS as u32
+    let limit = THOUSANDTHS.unsigned_abs();
+    glyph.u.unsigned_abs() <= limit && glyph.v.unsigned_abs() <= limit
 }
 
 fn keeps_limits(glyph: GlyphNumbers) -> bool
     ensures { result ≡ glyph_fits (as_glyph glyph) }
 {
-    glyph.index <= Limits::INDEX as i32
-        && glyph.advance <= Limits::THOUSANDTHS as i32
-        && has_offsets(glyph)
+    glyph.index <= INDEX && glyph.advance <= THOUSANDTHS && has_offsets(glyph)
 }
 
-// Index and advance are not below -1, all four numbers keep the limits, and the glyph is wholly the font's where a pair of the tail stands before it.
-pub fn glyph_ok(tail: bool, glyph: GlyphNumbers) -> bool
-    ensures { result ≡ glyph_ok tail glyph }
+// Whether index and advance are not below -1, and all four numbers keep the limits.
+pub fn glyph_ok(glyph: GlyphNumbers) -> bool
+    ensures { result ≡ glyph_ok glyph }
 {
-    has_choices(glyph) && keeps_limits(glyph) && (!tail || glyph.is_font())
+    has_choices(glyph) && keeps_limits(glyph)
 }
 
 // ── a cluster with its first glyph ──
+// The two go side by side, as they stand in two buffers: a struct of both would be made at these calls alone.
 
 // Whether all glyphs behind the first have to be wholly the font's: the cluster is not 1:1 and its glyph names no index, so it is a pair of the tail.
 pub fn owes_tail(cluster: ClusterNumbers, glyph: GlyphNumbers) -> bool
@@ -92,6 +96,7 @@ fn is_tail_pair(cluster: ClusterNumbers, glyph: GlyphNumbers, units: &[u8]) -> b
 }
 
 // Whether the cluster may stand from unit `at` on, as far as its first glyph tells. In a run without units a cluster has none.
+// The run goes whole, with a place in it: what it asks first is whether the run has units, and only then which are left from there on.
 #[tactic(auto, using(crate::proofs::Units::from_a_unit), unfolding(crate::specs::Rules::opens_at))]
 pub fn opens_at(run: Run, at: usize, cluster: ClusterNumbers, glyph: GlyphNumbers) -> bool
     requires { at ≤ length run.units.now / 2 }

@@ -1,53 +1,59 @@
--- A step of the walk: what is left of the test is the next glyph's part, its cluster's where it opens one, and what is left behind it; at the end, nothing.
+-- A step of the walk: what is left of the test is the next entry's part and what is left behind it; at the end, that all is used up.
 -- Assumes nothing.
-use Rattle.std.proofs.Common.{◌≡◌, ℕ, zero, suc, ◌+◌, ◌-◌, ◌*◌, ◌<◌, ◌≤◌, Bool, true, false, not, ◌&&◌, ◌||◌, List, [], ◌∷◌, ℤ, length, drop, refl, ◌∙◌, arith, length-drop, ◌%◌, IsTrue}
+use Rattle.std.proofs.Common.{◌≡◌, ℕ, zero, suc, ◌+◌, ◌-◌, ◌≤◌, Bool, true, false, not, ◌&&◌, ◌||◌, List, [], ◌∷◌, ℤ, length, drop, map, refl, sym, ◌∙◌, arith, length-drop, ◌%◌, IsTrue, Some, None}
 use Rattle.label.specs.Bytes.{empty}
 use Rattle.label.specs.Fetched.{halves, words}
-use Rattle.label.specs.Run.{named}
 use Rattle.label.specs.Sound.{nat, natural, choice, whole_clusters, whole_glyphs, clusters_of, glyphs_of, all_font, may_open, fits}
 use Rattle.label.specs.declared.Cluster.{Cluster}
 use Rattle.label.specs.declared.Glyph.{Glyph}
-use Rattle.rules.specs.Rules.{whole_run, glyph_ok, opens_at, owes}
-use Rattle.wire.specs.Numbers.{as_cluster, as_glyph, cluster_numbers, glyph_numbers}
+use Rattle.rules.specs.Rules.{whole_run, opens_at, owes}
+use Rattle.wire.specs.Numbers.{as_cluster, as_glyph}
+use Rattle.wire.specs.Walks.{clusters_in, glyphs_in, entries_in}
 use Rattle.wire.proofs.Fetched.{halves_length, words_length}
-use Rattle.wire.proofs.Runs.{clusters_length, glyphs_length, clusters_at, glyphs_at, clusters_behind, glyphs_behind}
+use Rattle.wire.proofs.Runs.{clusters_length, glyphs_length}
+use Rattle.wire.proofs.Walks.{clusters_are, glyphs_are, clusters_in_length, glyphs_in_length}
 use Rattle.label.proofs.Basics.{cases}
-use borrow.Author.Tests.{eqb-true, eqb-false, leb-true, leb-false}
 use Rattle.label.proofs.Lists.{empty_is}
 use Rattle.std.proofs.lemmas.Bool.Decides.{nat_tests}
-use lib.Dec.{eqb, leb}
-use lib.ListN.{drop_of_length-le}
-use lib.Seq.{drop-drop, drop-length}
+use lib.Dec.{eqb}
+use lib.Seq.{drop-drop}
 use Rattle.wire.specs.declared.ClusterNumbers.{ClusterNumbers}
+use Rattle.wire.specs.declared.EntryNumbers.{EntryNumbers}
 use Rattle.wire.specs.declared.GlyphNumbers.{GlyphNumbers}
 use Rattle.sound.specs.declared.Walk.{Walk}
-use Rattle.sound.specs.Sounds.{Within, well_from, well_run}
+use Rattle.sound.specs.Sounds.{may_stand, behind, walked, well_run}
 
--- ── the numbers at a cluster and at a glyph ──
+-- ── the numbers of all clusters and of all glyphs ──
 
-whole_clusters_at : (s : List ℤ) (n : ℕ) → n < length (clusters_of s)
-    → whole_clusters (drop (2 * n) s) ≡ (natural (cluster_numbers s n).units && natural (cluster_numbers s n).glyphs && whole_clusters (drop (2 * (n + 1)) s))
-unfolding clusters_of whole_clusters
-whole_clusters_at [] n h = absurd (omega arith)
-whole_clusters_at (a ∷ []) n h = absurd (omega arith)
-whole_clusters_at (a ∷ b ∷ s) zero h = unfold cluster_numbers in refl
-whole_clusters_at (a ∷ b ∷ s) (suc n) h =
-    let e : 2 * suc n ≡ suc (suc (2 * n)) = omega arith in
-    let f : 2 * (suc n + 1) ≡ suc (suc (2 * (n + 1))) = omega arith in
-    rw (e, f, clusters_behind a b s n) (whole_clusters_at s n (omega arith))
+naturals : List ClusterNumbers → Bool
+naturals [] = true
+naturals (c ∷ cs) = natural c.units && natural c.glyphs && naturals cs
 
-whole_glyphs_at : (s : List ℤ) (k : ℕ) → k < length (glyphs_of s)
-    → whole_glyphs (drop (4 * k) s) ≡ (choice (glyph_numbers s k).index && choice (glyph_numbers s k).advance && whole_glyphs (drop (4 * (k + 1)) s))
-unfolding glyphs_of whole_glyphs
-whole_glyphs_at [] k h = absurd (omega arith)
-whole_glyphs_at (i ∷ []) k h = absurd (omega arith)
-whole_glyphs_at (i ∷ a ∷ []) k h = absurd (omega arith)
-whole_glyphs_at (i ∷ a ∷ u ∷ []) k h = absurd (omega arith)
-whole_glyphs_at (i ∷ a ∷ u ∷ v ∷ s) zero h = unfold glyph_numbers in refl
-whole_glyphs_at (i ∷ a ∷ u ∷ v ∷ s) (suc k) h =
-    let e : 4 * suc k ≡ suc (suc (suc (suc (4 * k)))) = omega arith in
-    let f : 4 * (suc k + 1) ≡ suc (suc (suc (suc (4 * (k + 1))))) = omega arith in
-    rw (e, f, glyphs_behind i a u v s k) (whole_glyphs_at s k (omega arith))
+choices : List GlyphNumbers → Bool
+choices [] = true
+choices (g ∷ gs) = choice g.index && choice g.advance && choices gs
+
+whole_clusters_is : (z : List ℤ) → length z % 2 ≡ 0 → whole_clusters z ≡ naturals (clusters_in z)
+unfolding whole_clusters clusters_in naturals
+whole_clusters_is [] h = refl
+whole_clusters_is (a ∷ []) h = absurd (omega arith)
+whole_clusters_is (a ∷ b ∷ z) h = rw (whole_clusters_is z (omega arith))
+
+whole_glyphs_is : (z : List ℤ) → length z % 4 ≡ 0 → whole_glyphs z ≡ choices (glyphs_in z)
+unfolding whole_glyphs glyphs_in choices
+whole_glyphs_is [] h = refl
+whole_glyphs_is (i ∷ []) h = absurd (omega arith)
+whole_glyphs_is (i ∷ a ∷ []) h = absurd (omega arith)
+whole_glyphs_is (i ∷ a ∷ u ∷ []) h = absurd (omega arith)
+whole_glyphs_is (i ∷ a ∷ u ∷ v ∷ z) h = rw (whole_glyphs_is z (omega arith))
+
+-- ── what is left of the test, by the clusters and the glyphs that are left ──
+
+-- tests joined in another order: z of the cluster's numbers, w of those behind; c of the glyph's, g of those behind
+opening : (z w c g t f a l m o r : Bool)
+    → ((z && w) && ((c && g) && ((not t || (f && a)) && (l && (m && (not o || a)) && r))))
+    ≡ ((c && l && (not t || f) && (z && m)) && (w && (g && ((not (t || o) || a) && r))))
+opening z w c g t f a l m o r = grind arith
 
 -- what a cluster asks of its first glyph, and of the glyphs behind it
 may_open_is : (b : Bool) (us : List ℕ) (c : Cluster) (g : Glyph) (gs : List Glyph)
@@ -56,113 +62,98 @@ unfolding all_font
 may_open_is true us c g gs = grind arith
 may_open_is false us c g gs = grind arith
 
--- tests joined in another order: z, w of the cluster, c, g of the glyph's numbers
-opening : (z w c g t f a l m o r : Bool)
-    → ((z && w) && ((c && g) && ((not t || (f && a)) && (l && (m && (not o || a)) && r))))
-    ≡ ((c && l && (not t || f)) && ((z && m) && (w && (g && ((not (t || o) || a) && r)))))
-opening z w c g t f a l m o r = grind arith
-
--- ── a step ──
-
-module _ (us : List ℕ) (cs gs : List ℤ) (w : Walk) (k : ℕ) (h : k < length (glyphs_of gs)) where
-  abbrev numbers : GlyphNumbers
-  numbers = glyph_numbers gs k
-
-  -- a further glyph of the open cluster
-  pub further : 0 < w.lack
-      → well_from us cs gs w k ≡ (glyph_ok w.tail numbers && (named (as_glyph numbers).index && well_from us cs gs (record w { lack = w.lack - 1 }) (k + 1)))
-  unfolding well_from all_font fits
-  further l = rw (glyphs_at gs k h, whole_glyphs_at gs k h) (by w.lack l)
-    where
-      by : (n : ℕ) → 0 < n
-          → (whole_clusters (drop (2 * w.clusters) cs) && ((choice numbers.index && choice numbers.advance && whole_glyphs (drop (4 * (k + 1)) gs))
-          && ((not w.tail || all_font (as_glyph numbers ∷ drop (k + 1) (glyphs_of gs)))
-          && fits (empty us) n (drop w.units us) (drop w.clusters (clusters_of cs)) (as_glyph numbers ∷ drop (k + 1) (glyphs_of gs)))))
-          ≡ (glyph_ok w.tail numbers && (named (as_glyph numbers).index && well_from us cs gs (record w { lack = n - 1 }) (k + 1)))
-      by zero l = absurd (omega arith)
-      by (suc n) l = let e : suc n - 1 ≡ n = omega arith in rw e (grind arith)
-
-  -- no cluster is left
-  pub none : w.lack ≡ 0 → length (clusters_of cs) ≤ w.clusters → well_from us cs gs w k ≡ false
-  unfolding well_from fits
-  none l e = rw (glyphs_at gs k h, drop_of_length-le (clusters_of cs) e, l, fits) (grind arith)
-
-  -- a cluster opens
-  module _ (l : w.lack ≡ 0) (e : w.clusters < length (clusters_of cs)) where
-    abbrev cluster : ClusterNumbers
-    cluster = cluster_numbers cs w.clusters
-
-    abbrev behind : Walk
-    behind =
-        record {
-          units = w.units + nat cluster.units;
-          clusters = w.clusters + 1;
-          lack = nat cluster.glyphs - 1;
-          tail = w.tail || owes (as_cluster cluster) (as_glyph numbers);
-        }
-
-    pub opens : well_from us cs gs w k ≡ (glyph_ok w.tail numbers && (opens_at us w.units cluster numbers && well_from us cs gs behind (k + 1)))
-    unfolding well_from all_font fits opens_at
-    opens =
-        rw (
-          glyphs_at gs k h,
-          whole_glyphs_at gs k h,
-          clusters_at cs w.clusters e,
-          whole_clusters_at cs w.clusters e,
-          l,
-          fits,
-          may_open_is,
-          drop-drop,
-        ) (search opening)
-
-  -- the glyph itself may not stand
-  pub not_ok : glyph_ok w.tail numbers ≡ false → well_from us cs gs w k ≡ false
-  not_ok b =
-      cases (eqb w.lack 0)
-      (λ z. let l : w.lack ≡ 0 = eqb-true w.lack 0 z in
-      cases (leb (length (clusters_of cs)) w.clusters)
-      (λ e. none l (leb-true (length (clusters_of cs)) w.clusters e))
-      (λ e. opens l (leb-false (length (clusters_of cs)) w.clusters e) ∙ rw b))
-      (λ z. let l = eqb-false w.lack 0 z in further (omega arith) ∙ rw b)
-
 -- a cluster that opens takes no more units than there are
 pub opens_within : (us : List ℕ) (at : ℕ) (c : ClusterNumbers) (n : GlyphNumbers) → at ≤ length us → opens_at us at c n ≡ true → at + nat c.units ≤ length us
 unfolding opens_at
 opens_within us at c n h e = cases (empty us) (λ t. let f = rw t at e in grind (arith, nat_tests))
     (λ t. let f = rw (t, length-drop) at e in grind (arith, nat_tests))
 
--- for `grind`, at a step of the walk
-pub ruleset steps = (not_ok, further, none, opens, opens_within, halves_length, clusters_length, glyphs_length)
+-- and has a glyph
+open_glyph : (b : Bool) (us : List ℕ) (c : Cluster) (g : Glyph) (gs : List Glyph) → may_open b us c g gs ≡ true → 1 ≤ c.glyphs
+open_glyph true us c g gs h = grind (arith, nat_tests)
+open_glyph false us c g gs h = grind (arith, nat_tests)
 
--- ── the start and the end ──
+opens_glyph : (us : List ℕ) (at : ℕ) (c : ClusterNumbers) (n : GlyphNumbers) → opens_at us at c n ≡ true → 1 ≤ nat c.glyphs
+unfolding opens_at
+opens_glyph us at c n e =
+    let m : may_open (empty us) (drop at us) (as_cluster c) (as_glyph n) [] ≡ true = grind arith in
+    open_glyph (empty us) (drop at us) (as_cluster c) (as_glyph n) [] m
 
-abbrev pub start : Walk
-start = record { units = 0; clusters = 0; lack = 0; tail = false }
-
-pub starts : (us : List ℕ) (cs gs : List ℤ) → well_run us cs gs ≡ well_from us cs gs start 0
-unfolding well_run well_from
-starts us cs gs = refl
+stood : (us : List ℕ) (w : Walk) (c : ClusterNumbers) (g : GlyphNumbers) → may_stand us w (record { cluster = Some c; glyph = g }) ≡ true
+    → opens_at us w.units c g ≡ true
+unfolding may_stand
+stood us w c g h = grind arith
 
 empty_drop : {A : Type 0} (l : List A) (i : ℕ) → i ≤ length l → empty (drop i l) ≡ eqb i (length l)
 empty_drop l i h = empty_is (drop i l) ∙ rw length-drop (grind (arith, nat_tests))
 
--- behind the last glyph all units and clusters are used up, and no glyph lacks
-ends : (us : List ℕ) (cs gs : List ℤ) (w : Walk) → Within us cs w → length cs ≡ 2 * length (clusters_of cs) → length gs ≡ 4 * length (glyphs_of gs)
-    → well_from us cs gs w (length (glyphs_of gs)) ≡ (eqb w.units (length us) && eqb w.clusters (length (clusters_of cs)) && eqb w.lack 0)
-unfolding well_from all_font fits whole_clusters whole_glyphs
-ends us cs gs w h e f =
-    rw (drop-length (glyphs_of gs), ← f, drop-length gs, empty_drop us w.units h.units, empty_drop (clusters_of cs) w.clusters h.clusters)
-    (cases (eqb w.clusters (length (clusters_of cs)))
-    (λ t. let z : 2 * w.clusters ≡ length cs = omega (arith, eqb-true w.clusters _ t, e) in rw (z, drop-length cs) (grind arith))
-    (λ t. grind arith))
+module _ (us : List ℕ) where
+  -- the test, with `lack` glyphs of the open cluster still to come
+  abbrev left : ℕ → Walk → List ClusterNumbers → List GlyphNumbers → Bool
+  left lack w cs gs =
+      naturals cs && (choices gs && ((not w.tail || all_font (map as_glyph gs))
+      && fits (empty us) lack (drop w.units us) (map as_cluster cs) (map as_glyph gs)))
 
-pub over : (us cs gs : List ℕ) (w : Walk) (k : ℕ) → k ≡ length (glyphs_of (words gs)) → IsTrue (whole_run (length us) (length cs) (length gs))
-    → Within (halves us) (words cs) w
-    → well_from (halves us) (words cs) (words gs) w k ≡ (eqb w.units (length (halves us)) && eqb w.clusters (length (clusters_of (words cs))) && eqb w.lack 0)
-over us cs gs w k e t h =
-    let c : length cs % 8 ≡ 0 = grind (arith, nat_tests) in
-    let g : length gs % 16 ≡ 0 = grind (arith, nat_tests) in
-    rw e (ends (halves us) (words cs) (words gs) w h (omega (arith, words_length cs, clusters_length cs)) (omega (arith, words_length gs, glyphs_length gs)))
+  further : (k : ℕ) (w : Walk) (cs : List ClusterNumbers) (g : GlyphNumbers) (gs : List GlyphNumbers)
+      → left (suc k) w cs (g ∷ gs) ≡ (may_stand us w (record { cluster = None; glyph = g }) && left k w cs gs)
+  unfolding naturals choices fits all_font may_stand
+  further k w cs g gs = grind arith
 
--- for `grind`, at the start and the end of the walk
-pub ruleset whole = (starts, over, glyphs_length, nat_tests)
+  opens : (w : Walk) (c : ClusterNumbers) (cs : List ClusterNumbers) (g : GlyphNumbers) (gs : List GlyphNumbers)
+      → left 0 w (c ∷ cs) (g ∷ gs)
+      ≡ (may_stand us w (record { cluster = Some c; glyph = g }) && left (nat c.glyphs - 1) (behind w (record { cluster = Some c; glyph = g })) cs gs)
+  unfolding naturals choices fits all_font may_stand opens_at
+  opens w c cs g gs = rw (may_open_is (empty us) (drop w.units us) (as_cluster c) (as_glyph g) (map as_glyph gs), drop-drop) (search opening)
+
+  left_is : (m n lack : ℕ) (w : Walk) (cs : List ClusterNumbers) (gs : List GlyphNumbers)
+      → w.units ≤ length us → w.clusters + length cs ≡ m → w.glyphs + length gs ≡ n + lack
+      → walked us m n w (entries_in lack cs gs) ≡ left lack w cs gs
+  unfolding walked entries_in fits all_font naturals choices
+  left_is m n lack w [] [] h e f = rw (empty_drop us w.units h) (grind (arith, nat_tests))
+  left_is m n lack w (c ∷ cs) [] h e f = grind (arith, nat_tests)
+  left_is m n (suc k) w cs (g ∷ gs) h e f = rw (left_is m n k w cs gs h e (omega arith)) (sym (further k w cs g gs))
+  left_is m n zero w [] (g ∷ gs) h e f = grind (arith, nat_tests)
+  left_is m n zero w (c ∷ cs) (g ∷ gs) h e f =
+      let x : EntryNumbers = record { cluster = Some c; glyph = g } in
+      rw (opens w c cs g gs)
+      (cases (may_stand us w x)
+      (λ t. let o = stood us w c g t in
+      let u : w.units + nat c.units ≤ length us = opens_within us w.units c g h o in
+      let p : 1 ≤ nat c.glyphs = opens_glyph us w.units c g o in
+      rw (left_is m n (nat c.glyphs - 1) (behind w x) cs gs u (omega arith) (omega arith)))
+      (λ t. rw t))
+
+-- ── the start ──
+
+abbrev pub start : Walk
+start = record { units = 0; clusters = 0; glyphs = 0; tail = false }
+
+pub starts : (us cs gs : List ℕ) → IsTrue (whole_run (length us) (length cs) (length gs))
+    → well_run (halves us) (words cs) (words gs)
+    ≡ walked (halves us) (length (clusters_of (words cs))) (length (glyphs_of (words gs))) start (entries_in 0 (clusters_in (words cs)) (glyphs_in (words gs)))
+unfolding well_run
+starts us cs gs t =
+    let c : length (words cs) % 2 ≡ 0 = grind (arith, nat_tests, words_length) in
+    let g : length (words gs) % 4 ≡ 0 = grind (arith, nat_tests, words_length) in
+    rw (
+      whole_clusters_is (words cs) c,
+      whole_glyphs_is (words gs) g,
+      left_is (halves us) (length (clusters_of (words cs))) (length (glyphs_of (words gs))) 0 start (clusters_in (words cs)) (glyphs_in (words gs))
+          (omega arith)
+          (omega (arith, clusters_in_length (words cs))) (omega (arith, glyphs_in_length (words gs))),
+      clusters_are,
+      glyphs_are,
+    )
+
+-- no more entries than glyphs
+pub few_entries : (lack : ℕ) (cs : List ClusterNumbers) (gs : List GlyphNumbers) → length (entries_in lack cs gs) ≤ length gs
+unfolding entries_in
+few_entries lack cs [] = omega arith
+few_entries (suc n) cs (g ∷ gs) = omega (arith, few_entries n cs gs)
+few_entries zero [] (g ∷ gs) = omega arith
+few_entries zero (c ∷ cs) (g ∷ gs) = omega (arith, few_entries (nat c.glyphs - 1) cs gs)
+
+-- for `grind`, at a step of the walk, and at its start and its end
+pub ruleset steps = (opens_within, halves_length)
+
+pub ruleset whole = (starts, few_entries, glyphs_in_length, halves_length, clusters_length, glyphs_length, nat_tests)

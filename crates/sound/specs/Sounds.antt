@@ -1,25 +1,53 @@
 -- The soundness test as the code takes it: one walk over clusters and glyphs, the tail's glyphs tested as they come.
 -- Assumes nothing.
-use Rattle.std.specs.Prelude.{ℕ, ◌+◌, ◌*◌, ◌≤◌, Bool, not, ◌&&◌, ◌||◌, List, [], ◌∷◌, ℤ, length, drop}
+use Rattle.std.specs.Prelude.{ℕ, ◌+◌, ◌*◌, ◌≤◌, Bool, not, ◌&&◌, ◌||◌, List, [], ◌∷◌, ℤ, length, eqb, Option, Some, None}
 use Rattle.label.specs.Bytes.{empty}
-use Rattle.label.specs.Sound.{whole_clusters, whole_glyphs, clusters_of, glyphs_of, all_font, fits}
+use Rattle.label.specs.Run.{named}
+use Rattle.label.specs.Sound.{nat, whole_clusters, whole_glyphs, clusters_of, glyphs_of, is_font, fits}
 use Rattle.label.specs.declared.Cluster.{Cluster}
+use Rattle.rules.specs.Rules.{glyph_ok, opens_at, owes}
+use Rattle.wire.specs.Numbers.{as_cluster, as_glyph}
+use Rattle.wire.specs.declared.ClusterNumbers.{ClusterNumbers}
+use Rattle.wire.specs.declared.EntryNumbers.{EntryNumbers}
+use Rattle.wire.specs.declared.GlyphNumbers.{GlyphNumbers}
 use Rattle.sound.specs.declared.Walk.{Walk}
 
 -- what the walk over clusters and glyphs tests
 unfoldable pub well_run : List ℕ → List ℤ → List ℤ → Bool
 well_run us cs gs = whole_clusters cs && (whole_glyphs gs && fits (empty us) 0 us (clusters_of cs) (glyphs_of gs))
 
--- what is left of the test where the walk stands before glyph k
-unfoldable pub well_from : List ℕ → List ℤ → List ℤ → Walk → ℕ → Bool
-well_from us cs gs w k =
-    whole_clusters (drop (2 * w.clusters) cs) && (whole_glyphs (drop (4 * k) gs) && ((not w.tail || all_font (drop k (glyphs_of gs)))
-    && fits (empty us) w.lack (drop w.units us) (drop w.clusters (clusters_of cs)) (drop k (glyphs_of gs))))
+-- a glyph may stand where the walk stands, and so may the cluster that it opens, if any
+abbrev pub stands : List ℕ → Walk → GlyphNumbers → Option ClusterNumbers → Bool
+stands us w g None = named (as_glyph g).index
+stands us w g (Some c) = opens_at us w.units c g
 
--- the walk has used up no more units and clusters than there are
-pub record Within (us : List ℕ) (cs : List ℤ) (w : Walk) : Type 0 where
+unfoldable pub may_stand : List ℕ → Walk → EntryNumbers → Bool
+may_stand us w x = glyph_ok x.glyph && (not w.tail || is_font (as_glyph x.glyph)) && stands us w x.glyph x.cluster
+
+-- the walk behind them
+abbrev pub opened : Walk → GlyphNumbers → Option ClusterNumbers → Walk
+opened w g None = w
+opened w g (Some c) =
+    record {
+      units = w.units + nat c.units;
+      clusters = w.clusters + 1;
+      glyphs = w.glyphs + nat c.glyphs;
+      tail = w.tail || owes (as_cluster c) (as_glyph g);
+    }
+
+abbrev pub behind : Walk → EntryNumbers → Walk
+behind w x = opened w x.glyph x.cluster
+
+-- what is left of the test where the walk stands before these entries, in a run of m clusters and n glyphs: each may stand where it comes, and behind the
+-- last all is used up
+unfoldable pub walked : List ℕ → ℕ → ℕ → Walk → List EntryNumbers → Bool
+walked us m n w [] = eqb w.units (length us) && eqb w.clusters m && eqb w.glyphs n
+walked us m n w (x ∷ l) = may_stand us w x && walked us m n (behind w x) l
+
+-- the walk has used up no more units than there are, and its clusters have no more glyphs each than 31 bits hold
+pub record Within (us : List ℕ) (w : Walk) : Type 0 where
   pub units : w.units ≤ length us
-  pub clusters : w.clusters ≤ length (clusters_of cs)
+  pub glyphs : w.glyphs ≤ w.clusters * 0x8000_0000
 
 -- the units of all these clusters
 unfoldable pub unit_sum : List Cluster → ℕ

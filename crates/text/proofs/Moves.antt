@@ -17,12 +17,14 @@ use Rattle.label.specs.Text.{within, is_low, units_of}
 use Rattle.label.specs.Steps.{decode}
 use Rattle.label.specs.declared.Refusal.{Refusal}
 use Rattle.label.proofs.Cursors.{onto}
-use Rattle.label.proofs.Basics.{no_ok, cases, within_is, within_hi}
+use Rattle.label.proofs.Basics.{no_ok, cases, within_is, within_lo, within_hi}
 use Rattle.label.proofs.Run.{ok_path}
 use Rattle.label.proofs.Text.{proper_first}
 use Rattle.label.proofs.Sound.{decode_proper}
 use Rattle.utf8.specs.declared.Char.{Char}
+use Rattle.text.specs.Units.{units_from, well_formed}
 use Rattle.text.specs.Walk.{characters_from}
+use Rattle.text.proofs.Units.{well_read, is_formed, units_are}
 use Rattle.utf8.proofs.Chars.{char_plain}
 use Rattle.text.proofs.Walk.{good_first, units_read, reads}
 
@@ -30,13 +32,13 @@ use Rattle.text.proofs.Walk.{good_first, units_read, reads}
 abbrev pub Left : List ℕ → ℕ → List (Result Char Refusal) → Type 0
 Left us k cs = units_read cs ≡ ok (drop k us)
 
--- at the start all are
-pub left_all : (s us : List ℕ) (i : ℕ) → decode 0 i (drop i s) ≡ ok us → Left us 0 (characters_from s i)
-left_all s us i h = sym (reads 0 i (drop i s)) ∙ h
+-- in a passage all are
+pub left_all : (s : List ℕ) (i : ℕ) → well_formed s i ≡ true → Left (units_from s i) 0 (characters_from s i)
+left_all s i h = sym (reads 0 i (drop i s)) ∙ well_read s i h
 
 -- as a number that is 0
-pub left_at_none : (s us : List ℕ) (i k : ℕ) → decode 0 i (drop i s) ≡ ok us → k ≡ 0 → Left us k (characters_from s i)
-left_at_none s us i k h e = rw e (left_all s us i h)
+pub left_at_none : (s : List ℕ) (i k : ℕ) → well_formed s i ≡ true → k ≡ 0 → Left (units_from s i) k (characters_from s i)
+left_at_none s i k h e = rw e (left_all s i h)
 
 -- where no character is left, no unit is
 pub left_none : (us : List ℕ) (k : ℕ) → Left us k [] → length us ≤ k
@@ -70,26 +72,50 @@ module _ (us : List ℕ) (k : ℕ) (c : Char) (cs : List (Result Char Refusal)) 
       let e : m ≡ k + 1 = omega (arith, rw t at j) in
       (le-leb m (length us) (omega (arith, left_fits l)), rw (e, ← get_or-drop k us 1 0, left_is.0, t, low)))
 
--- all m units are passed, at byte b of a text
-pub left_done : (s us : List ℕ) (b k m : ℕ) → Left us k (characters_from s b) → k ≤ length us → m ≡ k
-    → (leb m (length us) ≡ true) × (keeps_pair m us ≡ true) × (decode 0 b (drop b s) ≡ ok (drop m us))
-left_done s us b k m h l e =
-    let d = reads 0 b (drop b s) ∙ h in
-    let first = proper_first (drop k us) (decode_proper (drop b s) 0 b (drop k us) d) in
-    rw e (le-leb k (length us) l, rw (get_or-drop k us 0 0, add-zero k) at first, d)
+-- those left from a place on make a passage
+module _ (s us : List ℕ) (b k : ℕ) (h : Left us k (characters_from s b)) where
+  left_read : decode 0 b (drop b s) ≡ ok (drop k us)
+  left_read = reads 0 b (drop b s) ∙ h
+
+  pub left_formed : well_formed s b ≡ true
+  left_formed = is_formed s (drop k us) b left_read
+
+  -- all m units are passed
+  pub done_pair : (m : ℕ) → m ≡ k → keeps_pair m us ≡ true
+  done_pair m e =
+      rw (e, ← add-zero k, ← get_or-drop k us 0 0) (proper_first (drop k us) (decode_proper (drop b s) 0 b (drop k us) left_read))
+
+  pub done_units : (m : ℕ) → m ≡ k → units_from s b ≡ drop m us
+  done_units m e = rw e (units_are s (drop k us) b left_read)
 
 -- past one of U+0020 to U+007F
-pub left_plain : (s us : List ℕ) (i : ℕ) → decode 0 i (drop i s) ≡ ok us → i < length s → within 32 127 (get_or s i 0) ≡ true
-    → (leb 1 (length us) ≡ true) × (keeps_pair 1 us ≡ true) × (decode 0 (i + 1) (drop (i + 1) s) ≡ ok (drop 1 us))
-unfolding units_of
-left_plain s us i d l w =
-    let b = get_or s i 0 in
-    let c : Char = record { code = b; next = i + 1 } in
-    let e : characters_from s i ≡ Ok c ∷ characters_from s (i + 1) = good_first s i c l (char_plain s i w) in
-    let h : Left us 0 (Ok c ∷ characters_from s (i + 1)) = rw e at (left_all s us i d) in
-    let k : b ≤ 127 = within_hi 32 127 b w in
-    let n : 1 ≡ 0 + length (units_of b) = rw (le-leb b 0xffff (omega arith)) in
-    left_done s us (i + 1) 1 1 (left_next us 0 c (characters_from s (i + 1)) h 1 n) (omega (arith, left_fits us 0 c (characters_from s (i + 1)) h)) refl
+module _ (s : List ℕ) (i : ℕ) (f : well_formed s i ≡ true) (l : i < length s) (w : within 32 127 (get_or s i 0) ≡ true) where
+  plain_left : Left (units_from s i) 1 (characters_from s (i + 1)) × (1 ≤ length (units_from s i))
+  unfolding units_of
+  plain_left =
+      let b = get_or s i 0 in
+      let c : Char = record { code = b; next = i + 1 } in
+      let e : characters_from s i ≡ Ok c ∷ characters_from s (i + 1) = good_first s i c l (char_plain s i (within_lo 32 127 b w) (within_hi 32 127 b w)) in
+      let h : Left (units_from s i) 0 (Ok c ∷ characters_from s (i + 1)) = rw e at (left_all s i f) in
+      let k : b ≤ 127 = within_hi 32 127 b w in
+      let n : 1 ≡ 0 + length (units_of b) = rw (le-leb b 0xffff (omega arith)) in (
+        left_next (units_from s i) 0 c (characters_from s (i + 1)) h 1 n,
+        omega (arith, left_fits (units_from s i) 0 c (characters_from s (i + 1)) h),
+      )
 
--- what `move_past` is proved by
-pub ruleset moves = (left_at_none, left_none, left_next, left_fits)
+  pub plain_formed : well_formed s (i + 1) ≡ true
+  plain_formed = left_formed s (units_from s i) (i + 1) 1 plain_left.0
+
+  pub plain_enough : leb 1 (length (units_from s i)) ≡ true
+  plain_enough = le-leb 1 (length (units_from s i)) plain_left.1
+
+  pub plain_pair : keeps_pair 1 (units_from s i) ≡ true
+  plain_pair = done_pair s (units_from s i) (i + 1) 1 plain_left.0 1 refl
+
+  pub plain_units : units_from s (i + 1) ≡ drop 1 (units_from s i)
+  plain_units = done_units s (units_from s i) (i + 1) 1 plain_left.0 1 refl
+
+-- what `move_past` and `past_plain` are proved by
+pub ruleset moves = (left_at_none, left_none, left_next, left_fits, left_formed, done_pair, done_units)
+
+pub ruleset steps = (plain_formed, plain_enough, plain_pair, plain_units)

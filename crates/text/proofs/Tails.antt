@@ -1,19 +1,20 @@
 -- The law of a text's tail: it has a cluster for each character.
 -- Assumes nothing.
 use Prim.Native.Nat.{ℕ, zero, suc}
-use mathlib.Core.Path.{◌≡◌, sym, ◌∙◌, ap}
+use mathlib.Core.Path.{◌≡◌, ap}
+use mathlib.Core.Bool.{true}
 use mathlib.Core.List.{List, [], ◌∷◌}
 use lib.ListN.{length, drop}
 use Rattle.label.specs.Outcome.{ok}
 use Rattle.label.specs.Text.{starts_char, following, code_point, xml_char, units_of}
 use Rattle.label.specs.Run.{tail}
-use Rattle.label.specs.Steps.{decode}
 use Rattle.label.proofs.Basics.{no_ok, cases}
 use Rattle.label.proofs.Run.{ok_path}
 use Rattle.label.proofs.Tails.{tail_nil, tail_char}
+use Rattle.text.specs.Units.{units_from, well_formed}
 use Rattle.text.specs.Walk.{characters, characters_from}
-use Rattle.text.proofs.Walk.{units_read, reads}
-use Rattle.text.proofs.Moves.{taken}
+use Rattle.text.proofs.Walk.{units_read}
+use Rattle.text.proofs.Moves.{taken, left_all}
 
 clusters : (k at : ℕ) (s us : List ℕ) → units_read (characters k at s) ≡ ok us → length (characters k at s) ≡ length (tail us).clusters
 unfolding characters
@@ -28,5 +29,5 @@ clusters zero at (b ∷ s) us h =
     (λ x. no_ok 3 at us (rw (t, x) at h)))
     (λ t. no_ok 2 at us (rw t at h))
 
-pub tail_count : (s us : List ℕ) (i : ℕ) → decode 0 i (drop i s) ≡ ok us → length (characters_from s i) ≡ length (tail us).clusters
-tail_count s us i h = clusters 0 i (drop i s) us (sym (reads 0 i (drop i s)) ∙ h)
+pub tail_count : (s : List ℕ) (i : ℕ) → well_formed s i ≡ true → length (characters_from s i) ≡ length (tail (units_from s i)).clusters
+tail_count s i h = clusters 0 i (drop i s) (units_from s i) (left_all s i h)

@@ -6,7 +6,7 @@ use native.Mathlib.Omega.{arith}
 use mathlib.Core.Path.{◌≡◌, refl, sym, ◌∙◌, ap, subst}
 use mathlib.Core.Bool.{Bool, true, false, cond, false≢true}
 use mathlib.Core.List.{List, [], ◌∷◌, ◌++◌}
-use borrow.Author.Tests.{ne_eqb, eqb-true, le-leb, leb-true, leb-false}
+use borrow.Author.Tests.{ne_eqb, eqb-true, le-leb, lt-leb, leb-true, leb-false}
 use lib.Dec.{eqb, leb}
 use lib.ListN.{length, get_or, drop, length-drop}
 use Rattle.label.specs.Limits.{max_units}
@@ -22,7 +22,9 @@ use Rattle.utf8.proofs.Rows.{starts_one}
 use Rattle.std.specs.Prelude.{nat_eq}
 use Rattle.std.specs.List.{starts_with}
 use Rattle.std.proofs.lemmas.Grind.{common_steps}
-use Rattle.text.specs.Texts.{text_count, units_start, units_read, text_read, units_within}
+use Rattle.text.specs.Texts.{text_count, units_start, start_read}
+use Rattle.text.specs.Units.{units_from, well_formed}
+use Rattle.text.proofs.Units.{is_formed, units_are}
 use Rattle.label.specs.declared.Refusal.{Refusal}
 
 -- ── a character's number and its first byte ──
@@ -133,9 +135,8 @@ text_from t us h =
     cond_false : (a b : List ℕ) {t : Bool} → t ≡ false → cond t a b ≡ b
     cond_false a b e = rw e
 
--- ── the survey ──
+-- ── the code's tests of the first bytes ──
 
--- the code's tests of the first bytes
 pub starts_braced : (t : List ℕ) → starts_with nat_eq t (123 ∷ []) ≡ braced t
 starts_braced [] = refl
 starts_braced (b ∷ bs) = grind (arith, common_steps)
@@ -145,21 +146,22 @@ starts_marked [] = refl
 starts_marked (b ∷ []) = grind (arith, common_steps)
 starts_marked (b ∷ d ∷ bs) = grind (arith, common_steps)
 
-within_of : (us : List ℕ) (at : ℕ) → units_within (length us) at ≡ units_read at (need (leb (length us) max_units) 5 0 >> ok us)
-unfolding units_within
-within_of us at = cases (leb (length us) max_units) (λ t. rw t) (λ t. rw t)
+-- ── the survey ──
+
+-- a refusal as what a reading comes to
+abbrev refused : {A : Type 0} → Refusal → Outcome A
+refused r = no (cause_number r.cause) r.place
 
 -- 2 or 3
 pub survey_refused : (t : List ℕ) (r : Refusal) → text_count (decode 0 0 t) ≡ no (cause_number r.cause) r.place
-    → text_read t ≡ no (cause_number r.cause) r.place
-unfolding text_read
-survey_refused t r h = rw text_steps (go (decode 0 0 t) h)
+    → text_units t ≡ no (cause_number r.cause) r.place
+survey_refused t r h = text_steps t ∙ go (decode 0 0 t) h
   where
-    go : (o : Outcome (List ℕ)) → text_count o ≡ no (cause_number r.cause) r.place
-        → units_read (units_start t) (o >>= (λ all. four_five all)) ≡ no (cause_number r.cause) r.place
+    go : (o : Outcome (List ℕ)) → text_count o ≡ no (cause_number r.cause) r.place → (o >>= (λ all. four_five all)) ≡ refused r
     go (ok us) e = absurd (cc)
     go (no k q) e = cc
 
+-- the units of a text that has no such refusal
 record Found (t : List ℕ) (n : ℕ) : Type 0 where
   all : List ℕ
   decoded : decode 0 0 t ≡ ok all
@@ -172,34 +174,82 @@ found t n h = go (decode 0 0 t) refl h
     go (ok us) d e = record { all = us; decoded = d; count = (cc) }
     go (no k p) d e = absurd (cc)
 
-module _ (t : List ℕ) (n : ℕ) (e : text_count (decode 0 0 t) ≡ ok n) where
-  pub survey_plain : braced t ≡ false → text_read t ≡ units_within n 0
-  unfolding text_read units_start
-  survey_plain k =
-      let x = found t n e in
-      rw (text_steps t, x.decoded, k, braces t x.all x.decoded ∙ k) (sym (within_of x.all 0) ∙ ap (λ (m : ℕ). units_within m 0) x.count)
+-- its run starts at byte and unit number `at`
+record Starts (t all : List ℕ) (at : ℕ) : Type 0 where
+  start : units_start t ≡ at
+  fits : at ≤ length all
+  reads : decode 0 at (drop at t) ≡ ok (drop at all)
+  checks : text_units t ≡ (need (leb (length (drop at all)) max_units) 5 0 >> ok (drop at all))
 
-  pub survey_braced : braced t ≡ true → marked t ≡ false → text_read t ≡ no 4 0
-  unfolding text_read
-  survey_braced k m =
-      let x = found t n e in
-      rw (text_steps t, x.decoded, marks t x.all x.decoded ∙ m, braces t x.all x.decoded ∙ k)
+starts_at : (t all : List ℕ) (at : ℕ) → decode 0 0 t ≡ ok all → start_read t ≡ ok at → Starts t all at
+unfolding units_start start_read
+starts_at t all at d h =
+    let e = marks t all d in
+    cases (marked t)
+    (λ m. let i : 2 ≡ at = ok_is (rw m at h) in
+    subst (λ (k : ℕ). Starts t all k) i
+    (record {
+      start = rw m;
+      fits = two all (e ∙ m);
+      reads = from_marked t all m d;
+      checks = rw (text_steps t, d, e ∙ m, and_l (braced all) _ (e ∙ m));
+    }))
+    (λ m. cases (braced t)
+    (λ b. absurd (let h' = rw (m, b) at h in cc))
+    (λ b. let i : 0 ≡ at = ok_is (rw (m, b) at h) in
+    subst (λ (k : ℕ). Starts t all k) i (record { start = rw m; fits = omega arith; reads = d; checks = rw (text_steps t, d, e ∙ m, braces t all d ∙ b) })))
+  where
+    ok_is : {k : ℕ} → ok k ≡ ok at → k ≡ at
+    ok_is p = cc
 
-  pub survey_marked : marked t ≡ true → text_read t ≡ units_within (n - 2) 2
-  unfolding text_read units_start
-  survey_marked h =
-      let x = found t n e in
-      let m = marks t x.all x.decoded ∙ h in
-      let c : n - 2 ≡ length (drop 2 x.all) = ap (λ (k : ℕ). k - 2) (sym x.count) ∙ sym (length-drop 2 x.all) in
-      rw (c, text_steps t, x.decoded, h, m, and_l (braced x.all) _ m) (sym (within_of (drop 2 x.all) 2))
+    two : (us : List ℕ) → marked us ≡ true → 2 ≤ length us
+    two [] m = absurd (false≢true m)
+    two (a ∷ []) m = absurd (false≢true (and_r (eqb a 123) false m))
+    two (a ∷ b ∷ us) m = omega arith
 
-  pub marked_two : marked t ≡ true → 2 ≤ n
-  marked_two h = let x = found t n e in rw (← x.count) (two x.all (marks t x.all x.decoded ∙ h))
-    where
-      two : (us : List ℕ) → marked us ≡ true → 2 ≤ length us
-      two [] m = absurd (false≢true m)
-      two (a ∷ []) m = absurd (false≢true (and_r (eqb a 123) false m))
-      two (a ∷ b ∷ us) m = omega arith
+-- 4
+pub survey_braced : (t : List ℕ) (n : ℕ) (r : Refusal) → text_count (decode 0 0 t) ≡ ok n → start_read t ≡ no (cause_number r.cause) r.place
+    → text_units t ≡ no (cause_number r.cause) r.place
+unfolding start_read
+survey_braced t n r c h =
+    let x = found t n c in
+    let e = marks t x.all x.decoded in
+    cases (marked t)
+    (λ m. absurd (let h' = rw m at h in cc))
+    (λ m. cases (braced t)
+    (λ b. text_steps t ∙ rw (x.decoded, e ∙ m, braces t x.all x.decoded ∙ b) (no_is (rw (m, b) at h)))
+    (λ b. absurd (let h' = rw (m, b) at h in cc)))
+  where
+    no_is : ◌≡◌ {A = Outcome ℕ} (no 4 0) (refused r) → ◌≡◌ {A = Outcome (List ℕ)} (no 4 0) (refused r)
+    no_is p = cc
 
--- what `survey_text` is proved by
-pub ruleset surveys = (starts_braced, starts_marked, survey_refused, survey_plain, survey_braced, survey_marked, marked_two)
+-- its run, in n units of the text from `at` on
+module _ (t : List ℕ) (n at : ℕ) (c : text_count (decode 0 0 t) ≡ ok n) (s : start_read t ≡ ok at) where
+  run : (all : List ℕ) × (length all ≡ n) × Starts t all at
+  run = let x = found t n c in (x.all, x.count, starts_at t x.all at x.decoded s)
+
+  pub run_formed : well_formed t at ≡ true
+  run_formed = let (all, e, x) = run in is_formed t (drop at all) at x.reads
+
+  pub run_count : length (units_from t at) ≡ n - at
+  run_count = let (all, e, x) = run in ap length (units_are t (drop at all) at x.reads) ∙ length-drop at all ∙ rw e
+
+  pub run_fits : at ≤ n
+  run_fits = let (all, e, x) = run in omega (arith, x.fits)
+
+  pub run_start : units_start t ≡ at
+  run_start = let (all, e, x) = run in x.start
+
+  -- 5
+  pub run_many : max_units < n - at → text_units t ≡ no 5 0
+  run_many l = let (all, e, x) = run in x.checks ∙ rw (lt-leb (length (drop at all)) max_units (omega (arith, length-drop at all)))
+
+  pub run_read : n - at ≤ max_units → text_units t ≡ ok (units_from t at)
+  run_read l =
+      let (all, e, x) = run in
+      x.checks ∙ rw (le-leb (length (drop at all)) max_units (omega (arith, length-drop at all)), units_are t (drop at all) at x.reads)
+
+-- what `start_of` and `survey_text` are proved by
+pub ruleset starts = (starts_braced, starts_marked)
+
+pub ruleset surveys = (survey_refused, survey_braced, run_formed, run_count, run_start, run_many, run_read, run_fits)

@@ -15,11 +15,10 @@ use Rattle.label.specs.Text.{starts_char, following, code_point, xml_char, units
 use Rattle.label.specs.Steps.{decode}
 use Rattle.label.specs.Cause.{cause_number}
 use Rattle.label.specs.declared.Refusal.{Refusal}
-use Rattle.label.proofs.Basics.{cases, within_is}
+use Rattle.label.proofs.Basics.{cases}
 use Rattle.label.proofs.Steps.{decode_none, decode_inside, decode_char}
 use Rattle.label.proofs.Cursors.{onto}
 use Rattle.utf8.specs.Chars.{char_of, char_at}
-use Rattle.utf8.proofs.Chars.{char_plain}
 use Rattle.utf8.specs.declared.Char.{Char}
 use Rattle.utf8.specs.declared.CharFault.{CharFault}
 use Rattle.text.specs.Walk.{fault_refusal, then_on, characters, characters_from}
@@ -60,13 +59,8 @@ module _ (s : List ℕ) (i : ℕ) where
   pub fault_first : (f : CharFault) → i < length s → char_at s i ≡ Err f → characters_from s i ≡ Err (fault_refusal f i) ∷ []
   fault_first f l e = first_is l ∙ ap (found s i) e
 
-  -- a byte from space to 127 is a character
-  pub plain_first : i < length s → 32 ≤ get_or s i 0 → get_or s i 0 ≤ 127
-      → characters_from s i ≡ Ok (record { code = get_or s i 0; next = i + 1 }) ∷ characters_from s (i + 1)
-  plain_first l a b = first_is l ∙ ap (found s i) (char_plain s i (within_is 32 127 (get_or s i 0) a b))
-
 -- what `next` is proved by
-pub ruleset steps = (none_left, good_first, fault_first, plain_first)
+pub ruleset steps = (none_left, good_first, fault_first)
 
 -- there are no more than bytes
 pub no_more : (k at : ℕ) (s : List ℕ) → length (characters k at s) ≤ length s

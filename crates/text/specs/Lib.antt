@@ -1,3 +1,4 @@
 pub mod Moves
 pub mod Texts
+pub mod Units
 pub mod Walk

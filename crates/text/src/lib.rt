@@ -1,7 +1,7 @@
 // The text of a label: from UTF-8 to code units, and the moves over a text that the reader makes.
 #![tactic(auto)]
 
-ghost use Rattle.std.specs.Prelude.{◌≡◌, true, ◌&&◌, ◌+◌, ◌-◌, ◌*◌, ◌/◌, ◌%◌, ◌≤◌, ◌<◌, ltb, length, get_or, drop};
+ghost use Rattle.std.specs.Prelude.{◌≡◌, true, is_some, IfSome, IfOk, ◌&&◌, ◌+◌, ◌-◌, ◌*◌, ◌/◌, ◌%◌, ◌≤◌, ◌<◌, ltb, length, get_or, drop};
 ghost use Rattle.std.specs.Iterator.{item_count};
 ghost use Rattle.std.proofs.lemmas.List.Edits.{sets};
 ghost use Rattle.label.specs.Limits.{max_text_bytes, max_units};
@@ -12,11 +12,16 @@ ghost use Rattle.label.specs.Steps.{decode};
 ghost use Rattle.label.specs.Wire.{from_halves};
 ghost use Rattle.label.specs.Calls.{outcome_of, filled};
 ghost use Rattle.text.specs.Walk.{fault_refusal, left, Takes};
-ghost use Rattle.text.specs.Texts.{text_count, units_within, text_read};
-ghost use Rattle.text.specs.Moves.{units_from, Moves};
+ghost use Rattle.text.specs.Texts.{text_count, start_read};
+ghost use Rattle.text.specs.Units.{units_from, well_formed};
+ghost use Rattle.text.specs.Moves.{units, Reads, Moves};
 
 use label::{Cause, Refusal};
 use utf8::{Char, CharFault};
+
+mod passage;
+
+pub use passage::{Passage, TextUnits};
 
 // ── the characters of a text ──
 
@@ -31,7 +36,7 @@ fn refused(fault: CharFault, place: usize) -> Refusal
 }
 
 // The characters from byte `at` on, up to the first that is refused, which is the last.
-#[derive(Clone, Copy)]
+#[derive(Drop)]
 struct Characters<'a> {
     text: &'a [u8],
     at: usize,
@@ -44,20 +49,12 @@ impl<'a> Iterator for Characters<'a> {
 
     ghost remaining = { item_count left };
 
-    // Most characters are of one byte from space to 127: they are taken without a look at the rows, for speed.
+    #[inline(always)]
     #[tactic(auto, using(crate::proofs::Walk::steps))]
     fn next(&mut self) -> Option<Result<Char, Refusal>> {
         let place = self.at;
         if self.text.len() <= place {
             return None;
-        }
-        let byte = self.text[place];
-        if matches!(byte, 0x20..=0x7f) {
-            self.at = place + 1;
-            return Some(Ok(Char {
-                code: u32::from(byte),
-                next: place + 1,
-            }));
         }
         match utf8::char_at(self.text, place) {
             Ok(c) => {
@@ -70,6 +67,12 @@ impl<'a> Iterator for Characters<'a> {
             }
         }
     }
+}
+
+fn characters_from(text: &[u8], at: usize) -> Characters<'_>
+    ensures { result ≡ record { text = text.entry; at = at } }
+{
+    Characters { text, at }
 }
 
 // ── a text's units ──
@@ -90,50 +93,48 @@ fn count_units(text: &[u8]) -> Result<usize, Refusal>
     ensures { outcome_of result ≡ text_count (decode 0 0 text.now) }
 {
     let mut n = 0;
-    for c in (Characters { text, at: 0 }) {
+    for c in characters_from(text, 0) {
         n += unit_count(c?.code);
     }
     Ok(n)
 }
 
-// The units of a text's run: how many, and the byte where they start, which is behind `{}`.
-#[derive(Clone, Copy)]
-pub struct TextUnits {
-    pub count: usize,
-    pub start: usize,
-}
-
-// So many units from that byte on, or 5.
-#[tactic(auto, unfolding(crate::specs::Texts::units_within))]
-fn limited(count: usize, start: usize) -> Result<TextUnits, Refusal>
-    ensures { outcome_of result ≡ units_within count start }
+// The byte where the units of a text's run start, which is behind `{}`, or 4.
+#[tactic(auto, using(crate::proofs::Texts::starts), unfolding(crate::specs::Texts::start_read))]
+fn start_of(text: &[u8]) -> Result<usize, Refusal>
+    ensures { outcome_of result ≡ start_read text.now }
 {
-    if count <= label::Limits::UNITS {
-        Ok(TextUnits { count, start })
+    if text.starts_with(b"{}") {
+        Ok(2)
+    } else if text.starts_with(b"{") {
+        Err(Cause::LoneBrace.at(0))
     } else {
-        Err(Cause::TooManyUnits.at(0))
+        Ok(0)
     }
 }
 
 // The units of a text's run, or the first refusal of 2 to 5.
 #[tactic(auto, using(crate::proofs::Texts::surveys))]
-pub fn survey_text(text: &[u8]) -> Result<TextUnits, Refusal>
+pub fn survey_text(text: &[u8]) -> Result<TextUnits<'_>, Refusal>
     requires { length text.now ≤ max_text_bytes }
-    ensures { outcome_of result ≡ text_read text.now }
+    ensures read { Reads text.now result }
+    ensures same_text { IfOk result (λ t. t.passage.text ≡ text.entry) }
 {
-    let count = count_units(text)?;
-    if text.starts_with(b"{}") {
-        limited(count - 2, 2)
-    } else if text.starts_with(b"{") {
-        Err(Cause::LoneBrace.at(0))
-    } else {
-        limited(count, 0)
+    let all = count_units(text)?;
+    let at = start_of(text)?;
+    let count = all - at;
+    if label::Limits::UNITS < count {
+        return Err(Cause::TooManyUnits.at(0));
     }
+    Ok(TextUnits {
+        count,
+        passage: Passage { text, at },
+    })
 }
 
 // ── storing a text's units ──
 
-// The halves of a pair: the high ten bits of what the character is above U+FFFF, and the low ten.
+// The halves of a pair: the high ten bits of what the character is above U+FFFF, and the low ten. Document 01 names shifts and masks for them.
 fn halves(c: u32) -> (u16, u16)
     requires { (65536 ≤ c) × (c ≤ 1114111) }
     ensures { (result.0 ≡ 55296 + (c - 65536) / 1024) × (result.1 ≡ 56320 + (c - 65536) % 1024) }
@@ -143,6 +144,7 @@ fn halves(c: u32) -> (u16, u16)
 }
 
 // Stores the units of a character as units n and following; the number of the next.
+// The number stands beside the bytes, not an `octets::Output`, which tests for room and counts at each byte: a unit is stored as two bytes at once.
 #[tactic(auto, unfolding(label::specs::Text::units_of, label::specs::Wire::from_halves, octets::specs::Puts::puts))]
 fn put_char(out: &mut [u8], n: usize, c: u32) -> usize
     requires { (c ≤ 1114111) × (2 * (n + length (units_of c)) ≤ length out.old) }
@@ -159,22 +161,6 @@ fn put_char(out: &mut [u8], n: usize, c: u32) -> usize
     n + 2
 }
 
-// Stores the units of the text from byte `from` on, where it has no fault, at the start of `out`.
-#[tactic(auto, using(crate::proofs::Fills::fills))]
-pub fn fill_units(text: &[u8], from: usize, out: &mut [u8])
-    requires text_value { decode 0 from (drop from text.now) ≡ ok (units_from text.now from) }
-    requires from_in_bounds { 2 * length (units_from text.now from) ≤ length out.old }
-    ensures { out.new ≡ filled (from_halves (units_from text.now from)) out.old }
-{
-    let mut n = 0;
-    for c in (Characters { text, at: from }) {
-        match c {
-            Ok(c) => n = put_char(out, n, c.code),
-            Err(_) => unreachable!(),
-        }
-    }
-}
-
 // ── moves over a text ──
 
 // Why a text has no place behind so many units: fewer are left, or they end between the halves of a pair.
@@ -184,41 +170,66 @@ pub enum MoveFault {
     InsidePair,
 }
 
-// The byte behind `count` units, from the character at byte place `at` on.
-#[tactic(auto, using(crate::proofs::Moves::moves))]
-pub fn move_past(text: &[u8], at: usize, count: usize) -> Result<usize, MoveFault>
-    requires { decode 0 at (drop at text.now) ≡ ok (units_from text.now at) }
-    ensures { Moves text.now at count result }
-{
-    let mut rest = Characters { text, at };
-    let mut left = count;
-    while left != 0 {
-        let c = match rest.next() {
-            Some(Ok(c)) => c,
-            Some(Err(_)) => unreachable!(),
-            None => return Err(MoveFault::PastEnd),
-        };
-        left = left
-            .checked_sub(unit_count(c.code))
-            .ok_or(MoveFault::InsidePair)?;
+impl<'a> Passage<'a> {
+    // What stands behind the first `count` units.
+    #[tactic(auto, using(crate::proofs::Moves::moves))]
+    pub fn move_past(self, count: usize) -> Result<Passage<'a>, MoveFault>
+        ensures { Moves self.entry count result }
+    {
+        let mut rest = characters_from(self.text, self.at);
+        let mut left = count;
+        // A `for` reads one character more than the units ask for.
+        while left != 0 {
+            let c = match rest.next() {
+                Some(Ok(c)) => c,
+                Some(Err(_)) => unreachable!(),
+                None => return Err(MoveFault::PastEnd),
+            };
+            left = left
+                .checked_sub(unit_count(c.code))
+                .ok_or(MoveFault::InsidePair)?;
+        }
+        Ok(Passage {
+            text: self.text,
+            at: rest.at,
+        })
     }
-    Ok(rest.at)
-}
 
-// Whether a character of U+0020 to U+007F stands at byte place `at`: a move past one unit then ends behind that byte.
-pub fn is_plain(text: &[u8], at: usize) -> bool
-    requires { decode 0 at (drop at text.now) ≡ ok (units_from text.now at) }
-    ensures value { result ≡ (ltb at (length text.now) && within 32 127 (get_or text.now at 0)) }
-    ensures moves { result ≡ true → (at < length text.now) × Moves text.now at 1 (Ok (at + 1)) }
-{
-    matches!(text.get(at), Some(0x20..=0x7f))
-}
+    // What stands behind the first character, where that is one of U+0020 to U+007F.
+    #[tactic(auto, using(crate::proofs::Moves::steps))]
+    pub fn past_plain(self) -> Option<Passage<'a>>
+        ensures value { is_some result ≡ (ltb self.entry.at (length self.entry.text.now) && within 32 127 (get_or self.entry.text.now self.entry.at 0)) }
+        ensures moves { IfSome result (λ p. (p.at ≡ self.entry.at + 1) × Moves self.entry 1 (Ok p)) }
+    {
+        match self.text.get(self.at) {
+            Some(0x20..=0x7f) => Some(Passage {
+                text: self.text,
+                at: self.at + 1,
+            }),
+            _ => None,
+        }
+    }
 
-// How many characters the text has from byte `at` on: as many as clusters in the tail from there on, each with one glyph.
-pub fn count_tail(text: &[u8], at: usize) -> usize
-    requires text_value { decode 0 at (drop at text.now) ≡ ok (units_from text.now at) }
-    requires bounds { length (units_from text.now at) ≤ max_units }
-    ensures { result ≡ length (tail (units_from text.now at)).clusters }
-{
-    Characters { text, at }.count()
+    // Stores its units at the start of `out`.
+    #[tactic(auto, using(crate::proofs::Fills::fills))]
+    pub fn fill_units(self, out: &mut [u8])
+        requires { 2 * length (units self) ≤ length out.old }
+        ensures { out.new ≡ filled (from_halves (units self.entry)) out.old }
+    {
+        let mut n = 0;
+        for c in characters_from(self.text, self.at) {
+            match c {
+                Ok(c) => n = put_char(out, n, c.code),
+                Err(_) => unreachable!(),
+            }
+        }
+    }
+
+    // How many characters it has: as many as clusters in the tail that it is, each with one glyph.
+    pub fn count_tail(self) -> usize
+        requires { length (units self) ≤ max_units }
+        ensures { result ≡ length (tail (units self.entry)).clusters }
+    {
+        characters_from(self.text, self.at).count()
+    }
 }

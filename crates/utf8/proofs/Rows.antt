@@ -1,11 +1,11 @@
 -- Laws of the rows as the code takes them: they decide what the table decides, by `same`, an induction over rows whose first ranges rise.
 -- Assumes nothing.
-use Prim.Native.Nat.{ℕ, zero, suc, ◌+◌, ◌≤◌, ◌<◌}
+use Prim.Native.Nat.{ℕ, zero, suc, ◌≤◌, ◌<◌}
 use native.Mathlib.Omega.{arith}
 use mathlib.Core.Path.{◌≡◌, refl, sym, ◌∙◌, ap}
 use mathlib.Core.Bool.{Bool, true, false, not, ◌&&◌, false≢true, and-false}
 use mathlib.Core.List.{List, [], ◌∷◌}
-use lib.ListN.{length, get_or, take, drop, length-drop}
+use lib.ListN.{length, get_or, take, drop}
 use Rattle.std.specs.Prelude.{Option, Some, None}
 use Rattle.std.specs.List.{list_all}
 use Rattle.label.specs.Bytes.{empty}
@@ -72,30 +72,33 @@ unfolding trail
 trail_none zero l h s p = refl
 trail_none (suc n) l h s p = absurd (omega arith)
 
-trail_sixes : (n : ℕ) (s : List ℕ) → n ≤ length s → trail n 0x80 0xbf s ≡ list_all (within 0x80 0xbf) (take n s)
+trail_sixes : (s : List ℕ) → trail (length s) 0x80 0xbf s ≡ list_all (within 0x80 0xbf) s
 unfolding trail
-trail_sixes zero s p = refl
-trail_sixes (suc n) [] p = absurd (omega arith)
-trail_sixes (suc n) (b ∷ s) p = rw (trail_sixes n s (omega arith))
+trail_sixes [] = refl
+trail_sixes (b ∷ s) = rw (trail_sixes s)
 
--- the n bytes x are there: the first is in its range, and the others are from 80 to BF
-pub trail_there : (n l h : ℕ) (s x : List ℕ) → x ≡ take n s → n ≤ length s → 1 ≤ length x
-    → trail n l h s ≡ (within l h (get_or x 0 0) && list_all (within 0x80 0xbf) (drop 1 x))
+-- all of some bytes: the first is in its range, and the others are from 80 to BF
+pub trail_all : (l h : ℕ) (s : List ℕ) → 1 ≤ length s → trail (length s) l h s ≡ (within l h (get_or s 0 0) && list_all (within 0x80 0xbf) (drop 1 s))
 unfolding trail
-trail_there zero l h s x e p z = absurd (omega (arith, ap length e))
-trail_there (suc n) l h [] x e p z = absurd (omega arith)
-trail_there (suc n) l h (b ∷ s) x e p z = rw (e, trail_sixes n s (omega arith))
+trail_all l h [] z = absurd (omega arith)
+trail_all l h (b ∷ s) z = rw (trail_sixes s)
+
+-- of the first n, which are x
+pub trail_taken : (n l h : ℕ) (s x : List ℕ) → x ≡ take n s → n ≤ length s → trail n l h s ≡ trail (length x) l h x
+unfolding trail
+trail_taken n l h s x e p = go n l h s p ∙ ap (λ (y : List ℕ). trail (length y) l h y) (sym e)
+  where
+    go : (n l h : ℕ) (s : List ℕ) → n ≤ length s → trail n l h s ≡ trail (length (take n s)) l h (take n s)
+    go zero l h s p = refl
+    go (suc n) l h [] p = absurd (omega arith)
+    go (suc n) l h (b ∷ s) p = rw (go n 0x80 0xbf s (omega arith))
 
 -- the bytes that follow are there
-trail_inside : (n l h : ℕ) (s : List ℕ) → trail n l h s ≡ true → n ≤ length s
+pub trail_inside : (n l h : ℕ) (s : List ℕ) → trail n l h s ≡ true → n ≤ length s
 unfolding trail
 trail_inside zero l h s t = omega arith
 trail_inside (suc n) l h [] t = absurd (false≢true t)
 trail_inside (suc n) l h (b ∷ s) t = omega (arith, trail_inside n 128 191 s (and_r (within l h b) (trail n 128 191 s) t))
-
--- and so the place behind them is within the text
-pub trail_fits : (s : List ℕ) (i n l h : ℕ) → i < length s → trail n l h (drop (i + 1) s) ≡ true → i + 1 + n ≤ length s
-trail_fits s i n l h p t = omega (arith, rw length-drop at (trail_inside n l h (drop (i + 1) s) t))
 
 -- ── the table's rows ──
 

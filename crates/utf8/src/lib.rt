@@ -1,7 +1,7 @@
 // The character at a place of UTF-8: the rows of Unicode's Table 3-7, the bits of Table 3-6, XML 1.0's Char.
 #![tactic(auto)]
 
-ghost use Rattle.std.specs.Prelude.{◌≡◌, true, cond, ◌+◌, ◌*◌, ◌%◌, ◌≤◌, ◌<◌, length, get_or, drop};
+ghost use Rattle.std.specs.Prelude.{◌≡◌, true, cond, is_some, IfSome, ◌+◌, ◌*◌, ◌%◌, ◌≤◌, ◌<◌, length, get_or, take, drop};
 ghost use Rattle.std.specs.List.{list_all};
 ghost use Rattle.label.specs.Text.{within, scalar, xml_char};
 ghost use Rattle.utf8.specs.Rows.{lead, trail};
@@ -9,7 +9,8 @@ ghost use Rattle.utf8.specs.Chars.{standing, char_at};
 
 // ── Table 3-7 ──
 
-// What a row says of the bytes behind a first byte in its range: how many there are, and the range of the second, 0 and 0 where there is none.
+// What a row says of the bytes behind a first byte in its range: how many there are, and the range of the second.
+// In the row of one byte the range is 0 and 0, without an `Option`: `fits_row` looks at it only where there is a second byte.
 #[derive(Clone, Copy)]
 pub struct Trailing {
     pub more: usize,
@@ -59,23 +60,30 @@ fn are_trailing(bytes: &[u8]) -> bool
     bytes.iter().all(|b| matches!(*b, 0x80..=0xbf))
 }
 
-// The bytes begin with those of a row behind its first: the second byte from its lo to its hi, the others from 80 to BF.
-#[tactic(auto, using(crate::proofs::Rows::trail_short, crate::proofs::Rows::trail_none))]
-fn follows(behind: &[u8], row: Trailing) -> bool
-    ensures { result ≡ trail row.more row.lo row.hi behind.now }
+// The bytes are those of a row behind its first: the second byte is from its lo to its hi, the others from 80 to BF.
+#[tactic(auto, using(crate::proofs::Rows::trail_none))]
+fn fits_row(bytes: &[u8], row: Trailing) -> bool
+    ensures { result ≡ trail (length bytes.now) row.lo row.hi bytes.now }
 {
-    match behind.get(..row.more) {
-        None => false,
-        Some([]) => true,
-        Some([second, others @ ..]) => {
-            (row.lo..=row.hi).contains(second) && are_trailing(others)
-        }
+    match bytes {
+        [] => true,
+        [second, others @ ..] => (row.lo..=row.hi).contains(second) && are_trailing(others),
     }
+}
+
+// Those that a row has behind its first, where the bytes begin with them.
+#[tactic(auto, using(crate::proofs::Rows::trail_short, crate::proofs::Rows::trail_taken))]
+fn follows(behind: &[u8], row: Trailing) -> Option<&[u8]>
+    ensures value { is_some result ≡ trail row.more row.lo row.hi behind.now }
+    ensures bytes { IfSome result (λ x. x.now ≡ take row.more behind.now) }
+{
+    let bytes = behind.get(..row.more)?;
+    fits_row(bytes, row).then_some(bytes)
 }
 
 // ── characters ──
 
-// A character and the place behind it.
+// A character, as a number, and the place behind it. No `char`: XML's Char is told by numbers, and `char::from_u32` would test each number once more.
 #[derive(Clone, Copy)]
 pub struct Char {
     pub code: u32,
@@ -97,7 +105,7 @@ pub fn is_xml(c: u32) -> bool
     matches!(c, 0x9 | 0xa | 0xd | 0x20..=0xd7ff | 0xe000..=0xfffd | 0x10000..=0x10ffff)
 }
 
-// Six more bits, those of a byte after the first.
+// Six more bits, those of a byte after the first. Document 01 names shifts and masks for the bits.
 fn with_six(c: u32, b: u8) -> u32
     requires { c < 32768 }
     ensures { result ≡ c * 64 + b % 64 }
@@ -105,21 +113,17 @@ fn with_six(c: u32, b: u8) -> u32
     (c << 6) | (u32::from(b) & 0x3f)
 }
 
-// The number of the character at `at`, which has `more` bytes after its first, from the bytes' bits.
+// The number of the character of these bytes, from their bits.
 #[tactic(auto, unfolding(label::specs::Text::scalar))]
-fn scalar_at(s: &[u8], at: usize, more: usize) -> u32
-    requires { at + more < length s.now }
-    ensures { result ≡ scalar more (get_or s.now at 0) (drop (at + 1) s.now) }
+fn scalar_of(first: u8, others: &[u8]) -> u32
+    ensures { result ≡ scalar (length others.now) first others.now }
 {
-    let b = u32::from(s[at]);
-    match more {
-        0 => b,
-        1 => with_six(b & 0x1f, s[at + 1]),
-        2 => with_six(with_six(b & 0x0f, s[at + 1]), s[at + 2]),
-        _ => with_six(
-            with_six(with_six(b & 0x07, s[at + 1]), s[at + 2]),
-            s[at + 3],
-        ),
+    let b = u32::from(first);
+    match others {
+        [] => b,
+        [c] => with_six(b & 0x1f, *c),
+        [c, d] => with_six(with_six(b & 0x0f, *c), *d),
+        [c, d, e, ..] => with_six(with_six(with_six(b & 0x07, *c), *d), *e),
     }
 }
 
@@ -135,18 +139,23 @@ fn judged(code: u32, next: usize) -> Result<Char, CharFault>
 }
 
 // The character at `at`, where it is well-formed and may stand, and the place behind it.
+// The place stands beside the text, not a slice from it on, because the place behind, in the same text, is what callers go on with and what refusals name.
+#[inline(always)]
 #[tactic(auto, using(crate::proofs::Chars::found))]
 pub fn char_at(s: &[u8], at: usize) -> Result<Char, CharFault>
     requires { at < length s.now }
     ensures { result ≡ char_at s.now at }
 {
-    // The first row, for speed: most characters are of one byte.
-    if s[at] < 0x80 {
-        return judged(u32::from(s[at]), at + 1);
+    match s[at] {
+        // For speed: such a byte is a character without more reading, and most bytes are such.
+        b @ 0x20..=0x7f => Ok(Char {
+            code: u32::from(b),
+            next: at + 1,
+        }),
+        b => {
+            let row = row_of(b).ok_or(CharFault::IllFormed)?;
+            let others = follows(&s[at + 1..], row).ok_or(CharFault::IllFormed)?;
+            judged(scalar_of(b, others), at + 1 + others.len())
+        }
     }
-    let row = row_of(s[at]).ok_or(CharFault::IllFormed)?;
-    if !follows(&s[at + 1..], row) {
-        return Err(CharFault::IllFormed);
-    }
-    judged(scalar_at(s, at, row.more), at + 1 + row.more)
 }

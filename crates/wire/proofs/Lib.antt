@@ -1,4 +1,5 @@
 pub mod Signed
 pub mod Fetched
 pub mod Runs
+pub mod Walks
 pub mod Stored

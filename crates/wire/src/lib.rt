@@ -3,15 +3,22 @@
 #![tactic(auto)]
 
 ghost use Rattle.std.specs.Prelude.{◌≡◌, ◌*◌, ◌/◌, ◌%◌, ◌<◌, length, get_or, pos, [], ◌∷◌};
+ghost use Rattle.std.specs.Iterator.{YieldsFirst, item_count};
 ghost use Rattle.label.specs.Wire.{bits_of, four_bytes};
 ghost use Rattle.label.specs.Fetched.{halves, words};
+ghost use Rattle.label.specs.Places.{index_number, advance_number};
 ghost use Rattle.label.specs.Run.{named};
 ghost use Rattle.label.specs.Sound.{nat as nat_of, clusters_of, glyphs_of, is_font};
 ghost use Rattle.octets.specs.Puts.{puts};
 ghost use Rattle.wire.specs.Numbers.{as_glyph, glyph_numbers, cluster_numbers};
+ghost use Rattle.wire.specs.Stores.{cluster_stored, glyph_stored, glyph_places};
+ghost use Rattle.wire.specs.Walks.{clusters_in, glyphs_in, entries_in, clusters_left, glyphs_left, entries_left};
+
+use label::{Advance, Glyph, Index};
 
 // ── how many ──
 
+// A division with a name: its contract says what it counts.
 pub fn unit_count(s: &[u8]) -> usize
     ensures value { result ≡ length (halves s.now) }
     ensures bounds { result ≡ length s.now / 2 }
@@ -28,7 +35,7 @@ pub fn number_count(s: &[u8]) -> usize
 
 // ── fetched ──
 
-// A unit, or 0 past the end.
+// A unit, or 0 past the end: that is no half and no `{`, so who looks at the unit behind another needs no case for the end.
 pub fn unit_at(s: &[u8], j: usize) -> u16
     ensures { result ≡ get_or (halves s.now) j 0 }
 {
@@ -40,7 +47,7 @@ pub fn unit_at(s: &[u8], j: usize) -> u16
 }
 
 // Number k: two's complement, low byte first.
-pub fn number(s: &[u8], k: usize) -> i32
+fn number(s: &[u8], k: usize) -> i32
     requires { k < length (words s.now) }
     ensures { result ≡ get_or (words s.now) k (pos 0) }
 {
@@ -58,6 +65,17 @@ pub struct ClusterNumbers {
 }
 
 impl ClusterNumbers {
+    // Those in these bytes.
+    #[tactic(auto, using(crate::proofs::Fetched::words_length), unfolding(crate::specs::Numbers::cluster_numbers))]
+    fn of(bytes: &[u8; 8]) -> ClusterNumbers
+        ensures { result ≡ cluster_numbers (words bytes.now) 0 }
+    {
+        ClusterNumbers {
+            units: number(bytes, 0),
+            glyphs: number(bytes, 1),
+        }
+    }
+
     // Those of cluster n.
     #[tactic(auto, using(crate::proofs::Fetched::words_length), unfolding(crate::specs::Numbers::cluster_numbers))]
     pub fn at(clusters: &[u8], n: usize) -> ClusterNumbers
@@ -75,14 +93,14 @@ impl ClusterNumbers {
         ensures value { result ≡ nat_of self.units }
         ensures bounds { result < 2147483648 }
     {
-        self.units.max(0) as usize
+        usize::try_from(self.units).unwrap_or(0)
     }
 
     pub fn glyph_count(self) -> usize
         ensures value { result ≡ nat_of self.glyphs }
         ensures bounds { result < 2147483648 }
     {
-        self.glyphs.max(0) as usize
+        usize::try_from(self.glyphs).unwrap_or(0)
     }
 }
 
@@ -96,6 +114,19 @@ pub struct GlyphNumbers {
 }
 
 impl GlyphNumbers {
+    // Those in these bytes.
+    #[tactic(auto, using(crate::proofs::Fetched::words_length), unfolding(crate::specs::Numbers::glyph_numbers))]
+    fn of(bytes: &[u8; 16]) -> GlyphNumbers
+        ensures { result ≡ glyph_numbers (words bytes.now) 0 }
+    {
+        GlyphNumbers {
+            index: number(bytes, 0),
+            advance: number(bytes, 1),
+            u: number(bytes, 2),
+            v: number(bytes, 3),
+        }
+    }
+
     // Those of glyph k.
     #[tactic(auto, using(crate::proofs::Fetched::words_length), unfolding(crate::specs::Numbers::glyph_numbers))]
     pub fn at(glyphs: &[u8], k: usize) -> GlyphNumbers
@@ -158,6 +189,117 @@ impl<'a> Run<'a> {
     {
         self.glyphs.len() / 16
     }
+
+    pub fn clusters(self) -> Clusters<'a>
+        ensures { clusters_left result ≡ clusters_in (words self.entry.clusters.now) }
+    {
+        Clusters {
+            rest: self.clusters,
+        }
+    }
+
+    pub fn glyphs(self) -> Glyphs<'a>
+        ensures { glyphs_left result ≡ glyphs_in (words self.entry.glyphs.now) }
+    {
+        Glyphs { rest: self.glyphs }
+    }
+
+    // The glyphs with the clusters that they open.
+    pub fn entries(self) -> Entries<'a>
+        ensures { entries_left result ≡ entries_in 0 (clusters_in (words self.entry.clusters.now)) (glyphs_in (words self.entry.glyphs.now)) }
+    {
+        Entries {
+            clusters: self.clusters(),
+            glyphs: self.glyphs(),
+            lack: 0,
+        }
+    }
+}
+
+// ── walks over a run ──
+
+// The clusters in these bytes, one by one. Bytes behind them that are no whole cluster are none.
+#[derive(Clone, Copy)]
+pub struct Clusters<'a> {
+    rest: &'a [u8],
+}
+
+impl<'a> Iterator for Clusters<'a> {
+    type Item = ClusterNumbers;
+
+    ghost next_gives = { YieldsFirst clusters_left };
+
+    ghost remaining = { item_count clusters_left };
+
+    #[tactic(auto, using(crate::proofs::Walks::steps))]
+    fn next(&mut self) -> Option<ClusterNumbers> {
+        let (cluster, rest) = self.rest.split_first_chunk::<8>()?;
+        self.rest = rest;
+        Some(ClusterNumbers::of(cluster))
+    }
+}
+
+// The glyphs, likewise.
+#[derive(Clone, Copy)]
+pub struct Glyphs<'a> {
+    rest: &'a [u8],
+}
+
+impl<'a> Iterator for Glyphs<'a> {
+    type Item = GlyphNumbers;
+
+    ghost next_gives = { YieldsFirst glyphs_left };
+
+    ghost remaining = { item_count glyphs_left };
+
+    #[tactic(auto, using(crate::proofs::Walks::steps))]
+    fn next(&mut self) -> Option<GlyphNumbers> {
+        let (glyph, rest) = self.rest.split_first_chunk::<16>()?;
+        self.rest = rest;
+        Some(GlyphNumbers::of(glyph))
+    }
+}
+
+// A glyph and the cluster that it opens, if any: what an entry of the indices says.
+#[derive(Clone, Copy)]
+pub struct EntryNumbers {
+    pub cluster: Option<ClusterNumbers>,
+    pub glyph: GlyphNumbers,
+}
+
+// The glyphs with the clusters that they open; a cluster's further glyphs open none, and where there is no cluster to open, the walk ends.
+#[derive(Clone, Copy)]
+pub struct Entries<'a> {
+    clusters: Clusters<'a>,
+    glyphs: Glyphs<'a>,
+    // how many glyphs the open cluster lacks
+    lack: usize,
+}
+
+impl<'a> Iterator for Entries<'a> {
+    type Item = EntryNumbers;
+
+    ghost next_gives = { YieldsFirst entries_left };
+
+    ghost remaining = { item_count entries_left };
+
+    #[tactic(auto, using(crate::proofs::Walks::no_entry), unfolding(crate::specs::Walks::entries_in))]
+    fn next(&mut self) -> Option<EntryNumbers> {
+        let glyph = self.glyphs.next()?;
+        if let Some(lack) = self.lack.checked_sub(1) {
+            self.lack = lack;
+            return Some(EntryNumbers {
+                cluster: None,
+                glyph,
+            });
+        }
+        let cluster = self.clusters.next()?;
+        self.lack = cluster.glyph_count().saturating_sub(1);
+        Some(EntryNumbers {
+            cluster: Some(cluster),
+            glyph,
+        })
+    }
 }
 
 // ── stored ──
@@ -185,4 +327,65 @@ pub fn put_number(out: &mut [u8], k: usize, v: i32)
 {
     let i = 4 * k;
     out[i..i + 4].copy_from_slice(&v.to_le_bytes());
+}
+
+impl ClusterNumbers {
+    // As cluster n's 8 bytes.
+    #[tactic(auto, using(crate::proofs::Stored::cluster_puts, crate::proofs::Signed::back))]
+    pub fn put_at(self, out: &mut [u8], n: usize)
+        requires { n < length out.old / 8 }
+        ensures { out.new ≡ puts out.old (8 * n) (cluster_stored self) }
+    {
+        put_number(out, 2 * n, self.units);
+        put_number(out, 2 * n + 1, self.glyphs);
+    }
+}
+
+// An index's number, -1 for the font.
+fn index_number(i: Index) -> i32
+    ensures { result ≡ index_number i }
+{
+    match i {
+        Index::Named(n) => i32::from(n),
+        Index::Font => -1,
+    }
+}
+
+// An advance's, by its bits.
+fn advance_number(a: Advance) -> i32
+    ensures { bits_of result ≡ bits_of (advance_number a) }
+{
+    match a {
+        Advance::Given(n) => n.cast_signed(),
+        Advance::Own => -1,
+    }
+}
+
+impl From<Glyph> for GlyphNumbers {
+    ghost from_gives = { λ g n. glyph_stored n ≡ glyph_places g };
+
+    #[tactic(auto, using(crate::proofs::Signed::back), unfolding(crate::specs::Stores::glyph_stored, crate::specs::Stores::glyph_places))]
+    fn from(g: Glyph) -> GlyphNumbers {
+        GlyphNumbers {
+            index: index_number(g.index),
+            advance: advance_number(g.advance),
+            u: g.u,
+            v: g.v,
+        }
+    }
+}
+
+impl GlyphNumbers {
+    // As glyph k's 16 bytes.
+    #[tactic(auto, using(crate::proofs::Stored::glyph_puts, crate::proofs::Signed::back))]
+    pub fn put_at(self, out: &mut [u8], k: usize)
+        requires { k < length out.old / 16 }
+        ensures { out.new ≡ puts out.old (16 * k) (glyph_stored self) }
+    {
+        let at = 4 * k;
+        put_number(out, at, self.index);
+        put_number(out, at + 1, self.advance);
+        put_number(out, at + 2, self.u);
+        put_number(out, at + 3, self.v);
+    }
 }

@@ -10,11 +10,17 @@ ghost use Rattle.octets.specs.Outputs.{Gains};
 ghost use Rattle.wire.specs.Numbers.{as_glyph, as_places};
 ghost use Rattle.writer.specs.Entries.{led, owing};
 
-use label::{Cause, Lengths, Refusal};
+use label::{Cause, Cluster, Lengths, Refusal};
 use octets::Output;
 use wire::{ClusterNumbers, GlyphNumbers, Run};
 
 // ── the indices ──
+
+// What the entry of a further glyph of a cluster is written as: one that opens 1:1.
+const FURTHER: Cluster = Cluster {
+    units: 1,
+    glyphs: 1,
+};
 
 fn put_semis(out: &mut Output, n: usize)
     ensures { Gains out.old (replicate n 59) out.new }
@@ -26,17 +32,17 @@ fn put_semis(out: &mut Output, n: usize)
 
 // The entry of a glyph, behind the separators owed before it; nothing for a glyph wholly the font's, whose entry has no bytes. What is owed before the next
 // entry: one separator, and those before an entry that was not stored.
-fn put_next(out: &mut Output, owed: usize, a: u32, b: u32, glyph: GlyphNumbers) -> usize
+fn put_next(out: &mut Output, owed: usize, cluster: Cluster, glyph: GlyphNumbers) -> usize
     requires { owed < 18446744073709551615 }
-    ensures bytes { Gains out.old (led owed (entry_by value_bytes a b (as_glyph glyph))) out.new }
-    ensures owed { result ≡ owing owed (entry_by value_bytes a b (as_glyph glyph)) }
+    ensures bytes { Gains out.old (led owed (entry_by value_bytes cluster.units cluster.glyphs (as_glyph glyph))) out.new }
+    ensures owed { result ≡ owing owed (entry_by value_bytes cluster.units cluster.glyphs (as_glyph glyph)) }
     ensures bounds { result ≤ owed + 1 }
 {
     if glyph.is_font() {
         return owed + 1;
     }
     put_semis(out, owed);
-    entry_bytes::put_entry(out, a, b, glyph);
+    entry_bytes::put_entry(out, cluster, glyph);
     1
 }
 
@@ -51,7 +57,7 @@ fn put_indices(out: &mut Output, run: Run)
     for k in 0..run.glyph_count() {
         let glyph = GlyphNumbers::at(run.glyphs, k);
         if 0 < lack {
-            owed = put_next(out, owed, 1, 1, glyph);
+            owed = put_next(out, owed, FURTHER, glyph);
             lack -= 1;
             continue;
         }
@@ -60,7 +66,11 @@ fn put_indices(out: &mut Output, run: Run)
         }
         let cluster = ClusterNumbers::at(run.clusters, opened);
         let glyphs = cluster.glyph_count();
-        owed = put_next(out, owed, cluster.unit_count() as u32, glyphs as u32, glyph);
+        let opened_here = Cluster {
+            units: cluster.unit_count() as u32,
+            glyphs: glyphs as u32,
+        };
+        owed = put_next(out, owed, opened_here, glyph);
         opened += 1;
         lack = glyphs.saturating_sub(1);
     }
@@ -71,12 +81,9 @@ fn indices_length(run: Run) -> usize
     requires { sound (as_places run) ≡ true }
     ensures { result ≡ length (indices_of (clusters_of (words run.entry.clusters.now)) (glyphs_of (words run.entry.glyphs.now))) }
 {
-    let mut none = Output {
-        bytes: &mut [],
-        at: 0,
-    };
-    put_indices(&mut none, run);
-    none.at
+    let mut counted = Output::counting();
+    put_indices(&mut counted, run);
+    counted.at
 }
 
 // ── the call ──
@@ -103,13 +110,8 @@ pub fn write_as(
     if indices.len() < indices_bytes {
         return Err(Cause::IndicesRoom.at(indices_bytes));
     }
-    let mut out = Output { bytes: text, at: 0 };
-    text_bytes::put_text(escape, &mut out, run.units);
-    let mut out = Output {
-        bytes: indices,
-        at: 0,
-    };
-    put_indices(&mut out, run);
+    text_bytes::put_text(escape, &mut Output::on(text), run.units);
+    put_indices(&mut Output::on(indices), run);
     Ok(Lengths {
         text: text_bytes,
         indices: indices_bytes,

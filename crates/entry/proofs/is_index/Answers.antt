@@ -1,8 +1,10 @@
--- `entry::is_index`: `index_told` of EntryLaws says that, where all three tests hold, the entry is an index alone. Assumes nothing.
-use Rattle.std.proofs.Common.{sym, ◌∙◌}
-use Rattle.entry.proofs.EntryLaws.{index_told}
+-- `entry::is_index`: `index_alone` of EntryLaws says that, where all three tests hold, the entry is an index alone. Assumes nothing.
+use Rattle.std.proofs.Common.{sym, ◌∙◌, rules}
+use Rattle.std.proofs.lemmas.List.{take_rest}
+use Rattle.entry.proofs.EntryLaws.{index_alone}
 use Rattle.entry.proofs.is_index.Goals as goal
 
-pub returns-then-d-le-INDEX-clause-alone : goal.returns-then-d-le-INDEX-clause-alone
-returns-then-d-le-INDEX-clause-alone c = λ e.
-    index_told c.args.s.now c.args.at c.args.d c.requires.0 c.requires.1 c.if-d-le-INDEX.true.0 c.if-d-le-INDEX.true.1 (sym c.ends_at.ensures ∙ e)
+pub returns-then-e-le-INDEX-clause-alone : goal.returns-then-e-le-INDEX-clause-alone
+returns-then-e-le-INDEX-clause-alone c = λ e.
+    index_alone c.args.e.bytes.now c.args.e.first (search rules) (search rules) c.if-e-le-INDEX.true.0 c.if-e-le-INDEX.true.1
+    (rw take_rest at (sym c.ends_entry.ensures ∙ e))
