@@ -330,7 +330,7 @@ fn index_number(i: Index) -> i32
     }
 }
 
-// An advance's, by its bits.
+// An advance's, likewise; one of more than 31 bits keeps its bits.
 fn advance_number(a: Advance) -> i32
     ensures { bits_of result ≡ bits_of (advance_number a) }
 {
@@ -340,6 +340,7 @@ fn advance_number(a: Advance) -> i32
     }
 }
 
+// The numbers of a glyph record, to be stored.
 impl From<Glyph> for GlyphNumbers {
     ghost from_gives = { λ g n. glyph_stored n ≡ glyph_places g };
 
