@@ -42,12 +42,10 @@ impl Limits {
 
     // The cursor before the first entry and the first code unit.
     pub fn fresh_cursor() -> Cursor
-        ensures { result ≡ record { place = 0; entry = 0; byte = 0; unit = 0; lack = 0; opener = 0; clusters = 0 } }
+        ensures { result ≡ record { entry = 0; unit = 0; lack = 0; opener = 0; clusters = 0 } }
     {
         Cursor {
-            place: 0,
             entry: 0,
-            byte: 0,
             unit: 0,
             lack: 0,
             opener: 0,
@@ -96,14 +94,12 @@ pub struct LimitValues {
     pub line: usize,
 }
 
-// Where the walk over the entries stands: the byte of the indices where the next entry starts and that entry's number; the byte of the text
-// where the next code unit starts and the units used; the glyphs that the open cluster lacks and the entry that opened it; the clusters so far.
+// Where the walk over the entries stands: the number of the next entry; the units used; the glyphs that the open cluster lacks and the entry that opened
+// it; the clusters so far.
 // What is lacked is a count, so 0 says by itself that no cluster is open; the entry that opened one is looked at only where it lacks glyphs.
 #[derive(Clone, Copy)]
 pub struct Cursor {
-    pub place: usize,
     pub entry: usize,
-    pub byte: usize,
     pub unit: usize,
     pub lack: usize,
     pub opener: usize,

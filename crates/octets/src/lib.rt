@@ -1,29 +1,16 @@
 // Bytes in memory: one looked for, and bytes stored as far as there is room.
 #![tactic(auto)]
 
-ghost use Rattle.std.specs.Prelude.{◌≡◌, [], ◌∷◌, ◌+◌, ◌≤◌, eqb, ◌==◌, length, drop, position};
-ghost use Rattle.label.specs.Bytes.{cut};
+ghost use Rattle.std.specs.Prelude.{◌≡◌, [], ◌∷◌, ◌==◌, position};
 ghost use Rattle.octets.specs.Outputs.{Gains};
 
 // ── bytes, looked for ──
 
-// Where the first byte b stands.
+// Where the first byte b stands, if it does.
 pub fn position_of(s: &[u8], b: u8) -> Option<usize>
     ensures { result ≡ position (λ x. x == b) s.now }
 {
     s.iter().position(|x| *x == b)
-}
-
-// Where the first byte b from `from` on stands, or the end.
-pub fn find_byte(s: &[u8], from: usize, b: u8) -> usize
-    requires { from ≤ length s.now }
-    ensures value { result ≡ from + length (cut (λ x. eqb x b) (drop from s.now)).before }
-    ensures bounds { (from ≤ result) × (result ≤ length s.now) }
-{
-    match position_of(&s[from..], b) {
-        Some(i) => from + i,
-        None => s.len(),
-    }
 }
 
 // ── bytes, stored one behind the other as far as there is room ──
@@ -56,10 +43,12 @@ impl<'a> Output<'a> {
     pub fn put_byte(&mut self, b: u8)
         ensures { Gains self.old (b ∷ []) self.new }
     {
-        if self.at < self.bytes.len() {
-            self.bytes[self.at] = b;
+        // A copy of the place: the field would be fetched again behind the store, one instruction in a hundred of a writing.
+        let at = self.at;
+        if at < self.bytes.len() {
+            self.bytes[at] = b;
         }
-        self.at = self.at.saturating_add(1);
+        self.at = at.saturating_add(1);
     }
 
     pub fn put_bytes(&mut self, s: &[u8])

@@ -85,7 +85,7 @@ fn count_labels(records: Records) -> Result<usize, Refusal>
 fn answer_to(label: Label) -> [i32; 2]
     ensures { result ≡ answer (label_of label.entry) }
 {
-    match survey::survey(label.text, label.indices) {
+    match survey::survey(label) {
         Ok(_) => [0, 0],
         Err(x) => [x.cause.number() as i32, x.place as i32],
     }

@@ -1,26 +1,24 @@
 -- The tail behind the entries, counted a cluster for each character, and what each end of the walk comes to in the counts of the run.
 -- Assumes nothing.
-use Rattle.label.proofs.Steps.{run_steps}
-use Prim.Native.Nat.{ℕ, ◌+◌, ◌<◌}
+use Rattle.label.proofs.Steps.{run_steps, walk_end}
+use Prim.Native.Nat.{ℕ, ◌+◌}
 use native.Mathlib.Nat.{zero-add}
 use mathlib.Core.Path.{◌≡◌, refl, sym, ◌∙◌, ap}
 use mathlib.Core.Bool.{Bool, true, false, ◌&&◌}
-use mathlib.Core.List.{List}
+use mathlib.Core.List.{List, []}
+use borrow.Author.Tests.{eq-eqb, ne_eqb}
 use lib.Dec.{eqb, leb}
-use lib.ListN.{length, drop, length-append}
+use lib.ListN.{length, length-append}
 use Rattle.label.specs.Outcome.{Outcome, ok, no, ◌>>=◌, ◌>>◌, need}
 use Rattle.label.specs.Bytes.{empty}
 use Rattle.label.specs.Entry.{entries}
-use Rattle.label.specs.Run.{Run, Parts, tail, start_state}
+use Rattle.label.specs.Run.{Run, Parts, tail, State, start_state}
 use Rattle.label.specs.Steps.{walk, run_from}
 use Rattle.label.specs.Calls.{counted}
-use Rattle.label.specs.declared.Cursor.{Cursor}
 use Rattle.label.proofs.Lists.{empty_is}
 use Rattle.label.proofs.Tails.{tail_even}
-use Rattle.label.proofs.Cursors.{joined}
-use Rattle.text.specs.Moves.{units_from}
+use Rattle.label.proofs.Cursors.{after}
 use Rattle.survey.specs.Steps.{counts_within, counted_from}
-use Rattle.survey.proofs.Walking.{Stands, Ready, At, units_here, ends_shut}
 
 -- ── counts ──
 
@@ -30,21 +28,36 @@ unfolding counted_from
 tail_counted us n u c g e = rw (e, tail_even us)
 
 -- the counts with the parts of the entries before
-counted_after : (n : ℕ) (pre q : Parts) → counted_from n (length pre.clusters) (length pre.glyphs) (ok q) ≡ counted_from n 0 0 (ok (joined pre q))
+pub counted_after : (n : ℕ) (pre : Parts) (o : Outcome Parts) → counted_from n (length pre.clusters) (length pre.glyphs) o ≡ counted_from n 0 0 (after pre o)
 unfolding counted_from
-counted_after n pre q =
+counted_after n pre (ok q) =
     rw (
       length-append pre.clusters q.clusters,
       length-append pre.glyphs q.glyphs,
       zero-add (length pre.clusters + length q.clusters),
       zero-add (length pre.glyphs + length q.glyphs),
     )
+counted_after n pre (no i p) = refl
+
+-- ── the end of the entries ──
+
+module _ (u c g : ℕ) (bare : Bool) (st : State) where
+  -- 14
+  pub closed_open : (st.lack ≡ 0 → ⊥) → no 14 st.opener ≡ counted_from u c g (walk bare st [])
+  unfolding counted_from
+  closed_open h = rw (walk_end bare st, ne_eqb st.lack 0 h)
+
+  pub closed_shut : st.lack ≡ 0 → counted_from u c g (ok (tail st.rest)) ≡ counted_from u c g (walk bare st [])
+  closed_shut h = rw (walk_end bare st, eq-eqb st.lack 0 h)
+
+-- ── the run ──
 
 module _ (us s : List ℕ) where
   abbrev run_with : Parts → Run
   run_with p = record { units = us; clusters = p.clusters; glyphs = p.glyphs }
 
-  run_counted : (empty us && empty s) ≡ false → counted (run_from us s) ≡ counted_from (length us) 0 0 (walk (empty us) (start_state us) (entries s))
+  pub run_counted : (empty us && empty s) ≡ false
+      → counted (run_from us s) ≡ counted_from (length us) 0 0 (walk (empty us) (start_state us) (entries s))
   unfolding counted_from
   run_counted h = rw (run_steps us s, h) (go (walk (empty us) (start_state us) (entries s)))
     where
@@ -68,16 +81,3 @@ module _ (us s : List ℕ) where
   -- a walk that is refused
   pub run_stop : (n p : ℕ) → (empty us && empty s) ≡ false → walk (empty us) (start_state us) (entries s) ≡ no n p → no n p ≡ counted (run_from us s)
   run_stop n p h w = sym (run_counted h ∙ ap (counted_from (length us) 0 0) w ∙ unfold counted_from in refl)
-
-  -- a walk that is done, and the tail behind it
-  pub run_tail : (n : ℕ) → n ≡ length us → (pre : Parts) (lack : ℕ) (c : Cursor) (text : List ℕ) → Stands us s pre lack c → Ready us s c → At text us c
-      → length s < c.place → c.lack ≡ 0 → (empty us && empty s) ≡ false
-      → counted_from n c.clusters c.entry (ok (tail (units_from text c.byte))) ≡ counted (run_from us s)
-  run_tail n en pre lack c text st rd at hi z h =
-      let q : Parts = tail (drop c.unit us) in
-      ap (λ (m : ℕ). counted_from m c.clusters c.entry (ok (tail (units_from text c.byte)))) en
-      ∙ ap (λ (r : List ℕ). counted_from (length us) c.clusters c.entry (ok (tail r))) (units_here text us c at)
-      ∙ ap (λ (m : ℕ). counted_from (length us) m c.entry (ok q)) (sym st.clusters_are)
-      ∙ ap (λ (m : ℕ). counted_from (length us) (length pre.clusters) m (ok q)) (sym st.glyphs_are)
-      ∙ counted_after (length us) pre q
-      ∙ sym (run_counted h ∙ ap (counted_from (length us) 0 0) (ends_shut us s pre lack c st rd hi z))

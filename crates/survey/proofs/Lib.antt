@@ -1,6 +1,4 @@
-pub mod Entries
-pub mod Placing
 pub mod Walking
-pub mod Surveying
+pub mod Placing
 pub mod Endings
-pub mod Judging
+pub mod Surveying

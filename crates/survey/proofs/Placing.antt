@@ -1,118 +1,96 @@
--- One entry's checks 10 to 13 at a cursor, a law for each return of the code; and that cutting its map's counts changes none of them (`placed_cut`).
+-- One entry's checks 10 to 13 where a walk stands, a law for each return of the code; and that cutting its map's counts changes none of them (`placed_cut`).
 -- Assumes nothing.
 use Rattle.label.proofs.Steps.{placed_steps}
 use Prim.Native.Nat.{ℕ, ◌+◌, ◌≤◌, ◌<◌, min}
 use native.Mathlib.Omega.{arith}
-use mathlib.Core.Path.{◌≡◌, refl, sym, ap, subst}
+use mathlib.Core.Path.{◌≡◌, refl, ◌∙◌, ap, subst}
 use mathlib.Core.Bool.{Bool, true, false, not, ◌&&◌, ◌||◌}
-use mathlib.Core.List.{List}
 use borrow.Author.Tests.{le-leb, lt-leb, leb-true, leb-false}
 use lib.Dec.{eqb, leb}
-use lib.ListN.{length, drop}
+use lib.ListN.{length}
 use Rattle.label.specs.Outcome.{Outcome, ok, no, ◌>>◌, need}
 use Rattle.label.specs.Entry.{Entry}
 use Rattle.label.specs.Run.{named, keeps_pair, State}
-use Rattle.label.specs.Steps.{decode, placed}
+use Rattle.label.specs.Steps.{placed}
 use Rattle.label.specs.Calls.{refusal}
 use Rattle.label.specs.declared.Cause.TheVariants as C
-use Rattle.label.specs.declared.Cursor.{Cursor}
 use Rattle.label.specs.declared.Refusal.{Refusal}
 use Rattle.label.proofs.Basics.{cases, clash}
-use Rattle.text.specs.Moves.{units_from, Moves}
+use Rattle.text.specs.Moves.{units, Moves}
+use Rattle.text.specs.declared.passage.Passage.{Passage}
 use Rattle.text.specs.declared.MoveFault.{MoveFault}
 use Rattle.text.specs.declared.MoveFault.TheVariants.{PastEnd, InsidePair}
 use Rattle.std.specs.Prelude.{Result, Ok, Err}
 use Rattle.number.specs.Digits.{cap}
-use Rattle.number.specs.declared.Digits.{Digits}
-use Rattle.entry.specs.Items.{cut_item, entry_read, index_item}
+use Rattle.entry.specs.Items.{cut_item}
 use Rattle.entry.specs.declared.Item.{Item}
-use Rattle.survey.specs.Steps.{item_entry, advanced, said_no, Opens, Turns, state_at}
+use Rattle.survey.specs.declared.walk.Walk.{Walk}
+use Rattle.survey.specs.Steps.{bare, state_at, item_entry, advanced, said_no, Opens, Turns}
 
 -- ── 12 and 13, by a move over the text ──
 
-module _ (text : List ℕ) (c : Cursor) (a b i : ℕ) where
-  pub opens_to : (m : Result ℕ MoveFault) (j : ℕ) (d : Cursor) → Moves text c.byte a m → m ≡ Ok j → d ≡ advanced c j a b i → Opens text c a b i (Ok d)
-  unfolding Opens advanced
-  opens_to m j d h e q =
-      let r = subst (Moves text c.byte a) e h in
-      let y : d.byte ≡ j = ap (λ (x : Cursor). x.byte) q in
-      (r.0, r.1, subst (λ (k : ℕ). d ≡ advanced c k a b i) (sym y) q, rw y r.2)
+-- a walk with this passage ahead, behind an entry that takes a units and has b glyphs in its map
+abbrev pub Stepped : Walk → ℕ → ℕ → Passage → Walk → Type 0
+Stepped w a b p v = (v.at ≡ advanced w.at a b) × (v.ahead ≡ p) × (v.count ≡ w.count)
 
-  pub opens_past : (m : Result ℕ MoveFault) (r : Refusal) → Moves text c.byte a m → m ≡ Err PastEnd → r ≡ refusal C.PastTextEnd c.entry
-      → Opens text c a b i (Err r)
+module _ (w : Walk) (a b : ℕ) where
+  pub opens_to : (m : Result Passage MoveFault) (p : Passage) (v : Walk) → Moves w.ahead a m → m ≡ Ok p → Stepped w a b p v → Opens w a b (Ok v)
+  unfolding Opens
+  opens_to m p v h e q = let r = subst (Moves w.ahead a) e h in (r.0, r.1, (q.0, ap units q.1 ∙ r.2, q.2))
+
+  pub opens_past : (m : Result Passage MoveFault) (r : Refusal) → Moves w.ahead a m → m ≡ Err PastEnd → r ≡ refusal C.PastTextEnd w.at.entry
+      → Opens w a b (Err r)
   unfolding Opens
   opens_past m r h e q =
-      let x : leb a (length (units_from text c.byte)) ≡ false = subst (Moves text c.byte a) e h in
+      let x : leb a (length (units w.ahead)) ≡ false = subst (Moves w.ahead a) e h in
       rw (q, x)
 
-  pub opens_half : (m : Result ℕ MoveFault) (r : Refusal) → Moves text c.byte a m → m ≡ Err InsidePair → r ≡ refusal C.SplitPair (c.unit + a)
-      → Opens text c a b i (Err r)
+  pub opens_half : (m : Result Passage MoveFault) (r : Refusal) → Moves w.ahead a m → m ≡ Err InsidePair → r ≡ refusal C.SplitPair (w.at.unit + a)
+      → Opens w a b (Err r)
   unfolding Opens
   opens_half m r h e q =
-      let x = subst (Moves text c.byte a) e h in
+      let x = subst (Moves w.ahead a) e h in
       rw (q, x.0, x.1)
 
 -- ── 10 and 11 ──
 
-module _ (bare : Bool) (text : List ℕ) (c : Cursor) (x : Item) where
+module _ (w : Walk) (x : Item) where
   abbrev enough : Bool
   enough = leb 1 x.units && leb 1 x.glyphs
 
   abbrev free : Bool
-  free = eqb c.lack 0 && not bare
+  free = eqb w.at.lack 0 && not (bare w)
 
   abbrev plain : Bool
   plain = not x.mapped && named x.glyph.index
 
-  pub turn_ten : (r : Refusal) → r ≡ refusal C.ZeroCount c.entry → enough ≡ false → Turns bare text c x (Err r)
+  pub turn_ten : (r : Refusal) → r ≡ refusal C.ZeroCount w.at.entry → enough ≡ false → Turns w x (Err r)
   unfolding Turns
-  turn_ten r q h = rw (q, placed_steps bare (state_at text c) (item_entry x), h)
+  turn_ten r q h = rw (q, placed_steps (bare w) (state_at w) (item_entry x), h)
 
-  pub turn_eleven : (r : Refusal) → r ≡ refusal C.MisplacedEntry c.entry → enough ≡ true → (free || plain) ≡ false → Turns bare text c x (Err r)
+  pub turn_eleven : (r : Refusal) → r ≡ refusal C.MisplacedEntry w.at.entry → enough ≡ true → (free || plain) ≡ false → Turns w x (Err r)
   unfolding Turns
-  turn_eleven r q h f = rw (q, placed_steps bare (state_at text c) (item_entry x), h, f)
+  turn_eleven r q h f = rw (q, placed_steps (bare w) (state_at w) (item_entry x), h, f)
 
   -- an entry that opens a cluster
-  pub turn_opens : (r : Result Cursor Refusal) → Opens text c x.units x.glyphs (c.place + x.used + 1) r → enough ≡ true → free ≡ true → Turns bare text c x r
+  pub turn_opens : (r : Result Walk Refusal) → Opens w x.units x.glyphs r → enough ≡ true → free ≡ true → Turns w x r
   unfolding Turns Opens
-  turn_opens (Ok d) o h f = rw (placed_steps bare (state_at text c) (item_entry x), h, f) (rw (o.0, o.1), o.2, o.3)
-  turn_opens (Err r) o h f = rw (placed_steps bare (state_at text c) (item_entry x), h, f)
-      (go (leb x.units (length (units_from text c.byte))) (keeps_pair x.units (units_from text c.byte)) o)
+  turn_opens (Ok v) o h f = rw (placed_steps (bare w) (state_at w) (item_entry x), h, f) (rw (o.0, o.1), o.2)
+  turn_opens (Err r) o h f = rw (placed_steps (bare w) (state_at w) (item_entry x), h, f)
+      (go (leb x.units (length (units w.ahead))) (keeps_pair x.units (units w.ahead)) o)
     where
-      go : (p q : Bool) → (need p 12 c.entry >> need q 13 (c.unit + x.units)) ≡ said_no r
-          → (need p 12 c.entry >> (need q 13 (c.unit + x.units) >> ok (item_entry x))) ≡ said_no r
+      go : (p q : Bool) → (need p 12 w.at.entry >> need q 13 (w.at.unit + x.units)) ≡ said_no r
+          → (need p 12 w.at.entry >> (need q 13 (w.at.unit + x.units) >> ok (item_entry x))) ≡ said_no r
       go true true o = let z : true ≡ false = cc in clash true refl z
       go true false o = cc
       go false q o = cc
 
   -- a further glyph, or an entry of a text without units
-  pub turn_further : (d : Cursor) → d ≡ advanced c c.byte 0 x.glyphs (c.place + x.used + 1)
-      → decode 0 c.byte (drop c.byte text) ≡ ok (units_from text c.byte)
-      → enough ≡ true → free ≡ false → plain ≡ true → Turns bare text c x (Ok d)
-  unfolding Turns advanced
-  turn_further d q k h f p =
-      let y : d.byte ≡ c.byte = ap (λ (z : Cursor). z.byte) q in
-      rw (placed_steps bare (state_at text c) (item_entry x), h, f, p)
-      (refl, subst (λ (k : ℕ). d ≡ advanced c k 0 x.glyphs (c.place + x.used + 1)) (sym y) q, rw y k)
-
--- an index alone at a character of one byte
-pub turn_plain : (bare : Bool) (text : List ℕ) (c : Cursor) (n : Digits) (d : Cursor) → (eqb c.lack 0 && not bare) ≡ true
-    → Moves text c.byte 1 (Ok (c.byte + 1))
-    → d ≡ advanced c (c.byte + 1) 1 1 (c.place + n.count + 1) → Turns bare text c (index_item n) (Ok d)
-turn_plain bare text c n d f m e =
-    turn_opens bare text c (index_item n) (Ok d) (opens_to text c 1 1 (c.place + n.count + 1) (Ok (c.byte + 1)) (c.byte + 1) d m refl e) refl f
+  pub turn_further : (v : Walk) → Stepped w 0 x.glyphs w.ahead v → enough ≡ true → free ≡ false → plain ≡ true → Turns w x (Ok v)
+  unfolding Turns
+  turn_further v q h f p = rw (placed_steps (bare w) (state_at w) (item_entry x), h, f, p) (refl, (q.0, ap units q.1, q.2))
 
 -- ── the cut ──
-
--- what reading an entry says of it
-pub read_is : (n r : ℕ) (o : Outcome Entry) (x : Item) → entry_read n r o ≡ ok x → (e : Entry) × (o ≡ ok e) × (cut_item n r e ≡ x)
-read_is n r (ok e) x h = (e, refl, cc)
-read_is n r (no i p) x h = let z : true ≡ false = cc in clash true refl z
-
--- and what refusing it says
-pub refused_is : (n m : ℕ) (o : Outcome Entry) (i p : ℕ) → entry_read n m o ≡ no i p → o ≡ no i p
-refused_is n m (ok e) i p h = let z : true ≡ false = cc in clash true refl z
-refused_is n m (no j q) i p h = cc
 
 one_cut : (a : ℕ) → leb 1 (min a cap) ≡ leb 1 a
 one_cut a =

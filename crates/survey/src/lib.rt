@@ -1,76 +1,51 @@
 // The first pass over a label's text and indices: it judges 1 to 15 of document 01's checks and counts; nothing is stored.
 #![tactic(auto)]
 
-ghost use Rattle.std.specs.Prelude.{◌+◌, ◌≤◌, ◌≡◌, not, ◌&&◌, eqb, leb, length, drop};
-ghost use Rattle.label.specs.Limits.{max_indices_bytes, max_units};
+ghost use Rattle.std.specs.Prelude.{◌+◌, ◌≤◌, ◌≡◌, [], not, ◌&&◌, eqb, leb, length, drop, IfOk};
+ghost use Rattle.label.specs.Limits.{max_text_bytes, max_indices_bytes, max_units};
 ghost use Rattle.label.specs.Outcome.{ok};
 ghost use Rattle.label.specs.Run.{named, tail};
 ghost use Rattle.label.specs.Checks.{read as read_label};
-ghost use Rattle.label.specs.Steps.{decode, run_from};
+ghost use Rattle.label.specs.Steps.{walk, run_from};
 ghost use Rattle.label.specs.Calls.{reading_outcome, reading_rounded, counted};
 ghost use Rattle.label.specs.Requests.RoundedCount.{rounded as rounded_in, beside};
-ghost use Rattle.text.specs.Moves.{units_from};
-ghost use Rattle.survey.specs.Steps.{first_place, first_cursor, advanced, Opens, Turns, Steps, counts_within, counted_from, Starts, reading_of};
+ghost use Rattle.text.specs.Moves.{units, Moves};
+ghost use Rattle.survey.specs.Steps.{bare, state_at, advanced, Behind, Opens, Turns, counts_within, counted_from, Starts, reading_of};
 
-use label::{Cause, Counts, Cursor, Index, Limits, Reading, Refusal};
-use text::MoveFault;
+mod walk;
+
+use entry::Entries;
+use label::{Cause, Counts, Cursor, Index, Label, Limits, Reading, Refusal};
+use text::{MoveFault, Passage, TextUnits};
+use walk::Walk;
 
 // ── one entry ──
 
-// The cursor behind an entry that opens a cluster or goes on with one: it takes `units` units and has `glyphs` in its map; the next unit is at `byte`, the
-// next entry at `place`.
+// The cursor behind an entry that opens a cluster or goes on with one: it takes `units` units and has `glyphs` in its map.
 #[tactic(auto, unfolding(crate::specs::Steps::advanced))]
-pub fn advance(c: Cursor, byte: usize, units: usize, glyphs: usize, place: usize) -> Cursor
-    requires { (c.entry ≤ max_indices_bytes) × (c.unit + units ≤ max_units) × (c.clusters ≤ c.entry) }
-    ensures { result ≡ advanced c byte units glyphs place }
+pub fn advance(at: Cursor, units: usize, glyphs: usize) -> Cursor
+    requires { (at.entry ≤ max_indices_bytes) × (at.unit + units ≤ max_units) × (at.clusters ≤ at.entry) }
+    ensures value { result ≡ advanced at units glyphs }
+    ensures bounds { (result.entry ≡ at.entry + 1) × (result.unit ≡ at.unit + units) × (result.clusters ≤ result.entry) }
 {
-    let entry = c.entry;
     let next = Cursor {
-        place,
-        entry: entry + 1,
-        byte,
-        unit: c.unit + units,
-        ..c
+        entry: at.entry + 1,
+        unit: at.unit + units,
+        ..at
     };
-    if c.lack == 0 {
+    if at.lack == 0 {
         Cursor {
             lack: glyphs.saturating_sub(1),
-            opener: entry,
-            clusters: c.clusters + 1,
+            opener: at.entry,
+            clusters: at.clusters + 1,
             ..next
         }
     } else {
         Cursor {
-            lack: c.lack - 1,
+            lack: at.lack - 1,
             ..next
         }
     }
-}
-
-// An entry that opens a cluster of `units` units: 12 and 13.
-fn open_cluster(
-    text: &[u8],
-    c: Cursor,
-    units: usize,
-    glyphs: usize,
-    place: usize,
-) -> Result<Cursor, Refusal>
-    requires text_value { decode 0 c.byte (drop c.byte text.now) ≡ ok (units_from text.now c.byte) }
-    requires bounds { (c.unit + length (units_from text.now c.byte) ≤ max_units) × (c.entry ≤ max_indices_bytes) × (c.clusters ≤ c.entry) }
-    ensures { Opens text.now c units glyphs place result }
-{
-    match text::move_past(text, c.byte, units) {
-        Ok(byte) => Ok(advance(c, byte, units, glyphs, place)),
-        Err(MoveFault::PastEnd) => Err(Cause::PastTextEnd.at(c.entry)),
-        Err(MoveFault::InsidePair) => Err(Cause::SplitPair.at(c.unit + units)),
-    }
-}
-
-// Whether an entry opens a cluster here: none is open, and the text has units, which is not `bare`.
-fn opens_here(bare: bool, c: Cursor) -> bool
-    ensures { result ≡ (eqb c.lack 0 && not bare) }
-{
-    c.lack == 0 && !bare
 }
 
 // Whether both counts of an entry's map are at least 1.
@@ -87,57 +62,103 @@ fn is_plain_index(x: entry::Item) -> bool
     !x.mapped && matches!(x.glyph.index, Index::Named(_))
 }
 
-// An entry's checks 10 to 13, where the walk stands.
-fn take_entry(text: &[u8], bare: bool, c: Cursor, x: entry::Item) -> Result<Cursor, Refusal>
-    requires text_value { decode 0 c.byte (drop c.byte text.now) ≡ ok (units_from text.now c.byte) }
-    requires bounds { (c.unit + length (units_from text.now c.byte) ≤ max_units) × (c.entry ≤ max_indices_bytes) × (c.clusters ≤ c.entry)
-        × (c.place + x.used ≤ max_indices_bytes) }
-    ensures { Turns bare text.now c x result }
+// What stands behind `units` units of a passage. Most clusters have one, of U+0020 to U+007F, which is looked for first for speed.
+fn pass_units(ahead: Passage<'_>, units: usize) -> Result<Passage<'_>, MoveFault>
+    ensures { Moves ahead.entry units result }
 {
-    let place = c.place + x.used + 1;
-    if !has_counts(x) {
-        Err(Cause::ZeroCount.at(c.entry))
-    } else if opens_here(bare, c) {
-        open_cluster(text, c, x.units, x.glyphs, place)
-    } else if is_plain_index(x) {
-        Ok(advance(c, c.byte, 0, x.glyphs, place))
-    } else {
-        Err(Cause::MisplacedEntry.at(c.entry))
-    }
-}
-
-// The cursor behind an entry, and how many of its fields were rounded.
-#[derive(Clone, Copy)]
-struct Step {
-    next: Cursor,
-    rounded: usize,
-}
-
-// The entry where the walk stands: 7 to 13. An index alone at a character of U+0020 to U+007F, where a cluster may open, is taken without more reading.
-fn survey_entry(text: &[u8], indices: &[u8], bare: bool, c: Cursor) -> Result<Step, Refusal>
-    requires text_value { decode 0 c.byte (drop c.byte text.now) ≡ ok (units_from text.now c.byte) }
-    requires bounds { (c.unit + length (units_from text.now c.byte) ≤ max_units) × (c.entry ≤ c.place) × (c.clusters ≤ c.entry)
-        × (c.place ≤ length indices.now) × (length indices.now ≤ max_indices_bytes) }
-    ensures { Steps bare text.now indices.now c result }
-{
-    let place = c.place;
-    let byte = c.byte;
-    let digits = number::digits_at(indices, place, 0);
-    if opens_here(bare, c)
-        && text::is_plain(text, byte)
-        && entry::is_index(indices, place, digits)
+    if units == 1
+        && let Some(behind) = ahead.past_plain()
     {
-        return Ok(Step {
-            next: advance(c, byte + 1, 1, 1, place + digits.count + 1),
-            rounded: 0,
-        });
+        return Ok(behind);
     }
-    let x = entry::read_entry(&indices[place..], digits, c.entry)?;
-    let next = take_entry(text, bare, c, x)?;
-    Ok(Step {
-        next,
-        rounded: x.rounded,
-    })
+    ahead.move_past(units)
+}
+
+impl<'a> Walk<'a> {
+    // Before the first entry.
+    fn new(run: TextUnits<'a>) -> Walk<'a>
+        ensures at { result.at ≡ record { entry = 0; unit = 0; lack = 0; opener = 0; clusters = 0 } }
+        ensures ahead { (result.ahead ≡ run.entry.passage) × (result.count ≡ run.entry.count) }
+    {
+        Walk {
+            count: run.count,
+            at: Limits::fresh_cursor(),
+            ahead: run.passage,
+        }
+    }
+
+    // Behind an entry that takes `taken` units, with these ahead, and has `glyphs` glyphs in its map.
+    fn step(self, taken: usize, glyphs: usize, ahead: Passage<'a>) -> Walk<'a>
+        requires entry { self.at.entry ≤ max_indices_bytes }
+        requires taken { length (units self.ahead) ≡ taken + length (units ahead) }
+        ensures { (result.at ≡ advanced self.entry.at taken glyphs) × (result.ahead ≡ ahead.entry) × (result.count ≡ self.entry.count) }
+    {
+        Walk {
+            count: self.count,
+            at: advance(self.at, taken, glyphs),
+            ahead,
+        }
+    }
+
+    // Whether an entry opens a cluster here: none is open, and the text has units.
+    fn opens_here(self) -> bool
+        ensures { result ≡ (eqb self.entry.at.lack 0 && not (bare self.entry)) }
+    {
+        self.at.lack == 0 && self.count != 0
+    }
+
+    // An entry that opens a cluster of `units` units: 12 and 13.
+    fn open_cluster(self, units: usize, glyphs: usize) -> Result<Walk<'a>, Refusal>
+        requires { self.at.entry ≤ max_indices_bytes }
+        ensures { Opens self.entry units glyphs result }
+    {
+        match pass_units(self.ahead, units) {
+            Ok(ahead) => Ok(self.step(units, glyphs, ahead)),
+            Err(MoveFault::PastEnd) => Err(Cause::PastTextEnd.at(self.at.entry)),
+            Err(MoveFault::InsidePair) => Err(Cause::SplitPair.at(self.at.unit + units)),
+        }
+    }
+
+    // An entry's checks 10 to 13.
+    fn take_entry(self, x: entry::Item) -> Result<Walk<'a>, Refusal>
+        requires { self.at.entry ≤ max_indices_bytes }
+        ensures { Turns self.entry x result }
+    {
+        if !has_counts(x) {
+            Err(Cause::ZeroCount.at(self.at.entry))
+        } else if self.opens_here() {
+            self.open_cluster(x.units, x.glyphs)
+        } else if is_plain_index(x) {
+            Ok(self.step(0, x.glyphs, self.ahead))
+        } else {
+            Err(Cause::MisplacedEntry.at(self.at.entry))
+        }
+    }
+
+    // The tail behind the entries: 15. It gives no fields, so the count of rounded ones is that of the entries.
+    fn count_tail(self, rounded: usize) -> Result<Reading, Refusal>
+        ensures result_value { let w = self.entry in reading_outcome result ≡ counted_from w.count w.at.clusters w.at.entry (ok (tail (units w.ahead))) }
+        ensures rounded { reading_rounded result ≡ beside rounded (reading_outcome result) }
+    {
+        let rest = self.ahead.count_tail();
+        let counts = Counts {
+            units: self.count,
+            clusters: self.at.clusters + rest,
+            glyphs: self.at.entry + rest,
+        };
+        limit(counts, rounded)
+    }
+
+    // The end of the entries: 14, and the tail.
+    fn close(self, rounded: usize) -> Result<Reading, Refusal>
+        ensures result_value { let w = self.entry in reading_outcome result ≡ counted_from w.count w.at.clusters w.at.entry (walk (bare w) (state_at w) []) }
+        ensures rounded { reading_rounded result ≡ beside rounded (reading_outcome result) }
+    {
+        if self.at.lack != 0 {
+            return Err(Cause::MissingGlyphs.at(self.at.opener));
+        }
+        self.count_tail(rounded)
+    }
 }
 
 // ── the first pass ──
@@ -153,41 +174,6 @@ fn limit(counts: Counts, rounded: usize) -> Result<Reading, Refusal>
     Ok(Reading { counts, rounded })
 }
 
-// The tail behind the entries, of a text of `count` units: 15. It gives no fields, so the count of rounded ones is that of the entries.
-fn survey_tail(text: &[u8], count: usize, c: Cursor, rounded: usize) -> Result<Reading, Refusal>
-    requires text_value { decode 0 c.byte (drop c.byte text.now) ≡ ok (units_from text.now c.byte) }
-    requires bounds { (c.unit + length (units_from text.now c.byte) ≡ count) × (count ≤ max_units)
-        × (c.entry ≤ max_indices_bytes + 1) × (c.clusters ≤ c.entry) }
-    ensures result_value { reading_outcome result ≡ counted_from count c.clusters c.entry (ok (tail (units_from text.now c.byte))) }
-    ensures rounded { reading_rounded result ≡ beside rounded (reading_outcome result) }
-{
-    let rest = text::count_tail(text, c.byte);
-    let counts = Counts {
-        units: count,
-        clusters: c.clusters + rest,
-        glyphs: c.entry + rest,
-    };
-    limit(counts, rounded)
-}
-
-// The cursor before the first entry, for units that start at a byte of the text. Without entries its place is past the end.
-pub fn first_cursor(indices: &[u8], byte: usize) -> Cursor
-    ensures { result ≡ first_cursor indices.now byte }
-{
-    Cursor {
-        place: first_place(indices),
-        byte,
-        ..Limits::fresh_cursor()
-    }
-}
-
-// Where the first entry starts; past the end where there is none.
-pub fn first_place(indices: &[u8]) -> usize
-    ensures { result ≡ first_place indices.now }
-{
-    usize::from(indices.is_empty())
-}
-
 // Whether a label has neither units nor indices.
 fn has_nothing(count: usize, indices: &[u8]) -> bool
     ensures { result ≡ (eqb count 0 && eqb (length indices.now) 0) }
@@ -195,50 +181,50 @@ fn has_nothing(count: usize, indices: &[u8]) -> bool
     count == 0 && indices.is_empty()
 }
 
-// The run of `count` units that start at a byte of the text: 6 to 15 and the counts.
-fn survey_run(text: &[u8], indices: &[u8], count: usize, start: usize) -> Result<Reading, Refusal>
-    requires text_value { decode 0 start (drop start text.now) ≡ ok (units_from text.now start) }
-    requires bounds { (count ≡ length (units_from text.now start)) × (count ≤ max_units) × (length indices.now ≤ max_indices_bytes) }
-    ensures result_value { reading_outcome result ≡ counted (run_from (units_from text.now start) indices.now) }
+// The run of these units: 6 to 15 and the counts.
+fn survey_run(run: TextUnits<'_>, indices: &[u8]) -> Result<Reading, Refusal>
+    requires { length indices.now ≤ max_indices_bytes }
+    ensures result_value { reading_outcome result ≡ counted (run_from (units run.entry.passage) indices.now) }
     ensures rounded { reading_rounded result ≡ beside (rounded_in indices.now) (reading_outcome result) }
 {
-    if has_nothing(count, indices) {
+    if has_nothing(run.count, indices) {
         return Err(Cause::NothingGiven.at(0));
     }
-    let bare = count == 0;
-    let mut c = first_cursor(indices, start);
+    let mut walk = Walk::new(run);
     let mut rounded = 0;
-    while c.place <= indices.len() {
-        let step = survey_entry(text, indices, bare, c)?;
-        c = step.next;
-        rounded += step.rounded;
+    for item in Entries::new(indices) {
+        let x = item?;
+        walk = walk.take_entry(x)?;
+        rounded += x.rounded;
     }
-    if c.lack != 0 {
-        return Err(Cause::MissingGlyphs.at(c.opener));
-    }
-    survey_tail(text, count, c, rounded)
+    walk.close(rounded)
 }
 
-// What 1 to 15 say of a label that none of them refuses, and the byte of its text where the units of its run start.
+// What 1 to 15 say of a label that none of them refuses, and the units of its run.
 #[derive(Clone, Copy)]
-pub struct Surveyed {
+pub struct Surveyed<'a> {
     pub reading: Reading,
-    pub start: usize,
+    pub units: TextUnits<'a>,
+}
+
+// Whether a label is longer than its limits: 1.
+fn is_oversized(label: Label<'_>) -> bool
+    ensures { result ≡ not (leb (length label.entry.text.now) max_text_bytes && leb (length label.entry.indices.now) max_indices_bytes) }
+{
+    Limits::TEXT_BYTES < label.text.len() || Limits::INDICES_BYTES < label.indices.len()
 }
 
 // All of 1 to 15 in order, and the counts, of rounded fields too; nothing is stored.
-pub fn survey(text: &[u8], indices: &[u8]) -> Result<Surveyed, Refusal>
-    ensures reading_value { reading_outcome (reading_of result) ≡ counted (read_label text.now indices.now) }
-    ensures rounded { reading_rounded (reading_of result) ≡ beside (rounded_in indices.now) (read_label text.now indices.now) }
-    ensures start { Starts text.now result }
+pub fn survey(label: Label<'_>) -> Result<Surveyed<'_>, Refusal>
+    ensures reading_value { let l = label.entry in reading_outcome (reading_of result) ≡ counted (read_label l.text.now l.indices.now) }
+    ensures rounded { let l = label.entry in reading_rounded (reading_of result) ≡ beside (rounded_in l.indices.now) (read_label l.text.now l.indices.now) }
+    ensures units { Starts label.entry.text.now result }
+    ensures same_text { IfOk result (λ x. x.units.passage.text ≡ label.entry.text) }
 {
-    if Limits::TEXT_BYTES < text.len() || Limits::INDICES_BYTES < indices.len() {
+    if is_oversized(label) {
         return Err(Cause::TooManyBytes.at(0));
     }
-    let units = text::survey_text(text)?;
-    let reading = survey_run(text, indices, units.count, units.start)?;
-    Ok(Surveyed {
-        reading,
-        start: units.start,
-    })
+    let units = text::survey_text(label.text)?;
+    let reading = survey_run(units, label.indices)?;
+    Ok(Surveyed { reading, units })
 }

@@ -5,4 +5,5 @@ use Rattle.lines.proofs.relabel.Goals as goal
 
 pub returns-then-label-gt-LINE_BYTES : goal.returns-then-label-gt-LINE_BYTES
 returns-then-label-gt-LINE_BYTES c =
-    rw (c.at.ensures, ← long_line c.args.label.text.now c.args.label.indices.now c.if-label-gt-LINE_BYTES.true) (record { result = refl; text = refl; indices = refl })
+    rw (c.at.ensures, ← long_line c.args.label.text.now c.args.label.indices.now c.if-label-gt-LINE_BYTES.true)
+    (record { result = refl; text = refl; indices = refl })

@@ -16,7 +16,9 @@ returns-in_err-labels c =
     rw (p.1, p.2) (cut _ _ _ c.in_ok-records.ensures.0 c.in_ok-records.ensures.1 _ c.in_err-labels.ensures)
 
 pub returns-then-answers-labels : goal.returns-then-answers-labels
-returns-then-answers-labels c = short _ _ _ c.in_ok-records.ensures.0 c.in_ok-records.ensures.1 c.in_ok-labels.ensures _ c.at.ensures (omega (arith, c.if-answers-labels.true))
+returns-then-answers-labels c = short _ _ _ c.in_ok-records.ensures.0 c.in_ok-records.ensures.1 c.in_ok-labels.ensures _ c.at.ensures
+    (omega (arith, c.if-answers-labels.true))
 
 pub returns : goal.returns
-returns c = stored _ _ _ c.in_ok-records.ensures.0 c.in_ok-records.ensures.1 c.in_ok-labels.ensures (omega (arith, c.if-answers-labels.false)) c.put_answers.ensures
+returns c = stored _ _ _ c.in_ok-records.ensures.0 c.in_ok-records.ensures.1 c.in_ok-labels.ensures (omega (arith, c.if-answers-labels.false))
+    c.put_answers.ensures

@@ -1,61 +1,46 @@
--- `survey::survey`: 1 by either length, then what the text is read as: each return is one law of Surveying, over what Judging says of `read`. Assumes nothing.
-use Rattle.std.proofs.Common.{◌≡◌, sym, ◌∙◌, ap, rules, Ok, Err}
-use Rattle.label.specs.Calls.{reading_outcome}
-use Rattle.label.specs.Calls.{refusal}
+-- `survey::survey`: 1, a refusal of the text, one of the run and the answer, by a law of Surveying each, over what the calls ensure. Assumes nothing.
+use Rattle.std.proofs.Common.{◌≡◌, true, false, sym, ◌∙◌, ap, subst, rules, Ok, Err}
+use Rattle.label.specs.Calls.{reading_outcome, refusal}
 use Rattle.label.specs.declared.Cause.TheVariants as C
-use Rattle.survey.proofs.Surveying.{refuses, judges}
-use Rattle.survey.proofs.Judging.{text_long, indices_long, text_units_holds, read_units, text_refused}
-use Rattle.survey.proofs.survey.Goals.{then-text-gt-TEXT_BYTES-via-then-text-gt-TEXT_BYTES}
-use Rattle.survey.proofs.survey.Goals.{then-text-gt-TEXT_BYTES-via-else-text-gt-TEXT_BYTES+then-indices-gt-INDICES_BYTES}
+use Rattle.text.specs.Moves.{Reads}
+use Rattle.survey.proofs.Surveying.{in_size, refuses, judges, read_long, read_run, read_refused}
 use Rattle.survey.proofs.survey.Goals as goal
 
-pub returns-then-text-gt-TEXT_BYTES : goal.returns-then-text-gt-TEXT_BYTES
-returns-then-text-gt-TEXT_BYTES c =
-    let t = c.args.text.now in
-    let s = c.args.indices.now in
-    rw c.at.ensures (refuses t s (refusal C.TooManyBytes 0)
-    (elim c.then-text-gt-TEXT_BYTES.branch [
-      | then-text-gt-TEXT_BYTES-via-then-text-gt-TEXT_BYTES w ↦ text_long t s w.if-text-gt-TEXT_BYTES.true
-      | then-text-gt-TEXT_BYTES-via-else-text-gt-TEXT_BYTES+then-indices-gt-INDICES_BYTES w ↦ indices_long t s w.if-indices-gt-INDICES_BYTES.true
-    ]))
-
-pub survey_run-requires-clause-text_value : goal.survey_run-requires-clause-text_value
-survey_run-requires-clause-text_value c =
-    let was : c.survey_text.result ≡ Ok c.in_ok-units.units = search rules in
-    (text_units_holds _ _ _ c.survey_text.ensures was).decodes
-
-pub survey_run-requires-clause-bounds : goal.survey_run-requires-clause-bounds
-survey_run-requires-clause-bounds c =
-    let was : c.survey_text.result ≡ Ok c.in_ok-units.units = search rules in
-    let x = text_units_holds _ _ _ c.survey_text.ensures was in
-    (x.count, x.few, c.if-indices-gt-INDICES_BYTES.false)
+pub returns-then-is_oversized : goal.returns-then-is_oversized
+returns-then-is_oversized c =
+    let l = c.args.label in
+    let long : in_size l.text.now l.indices.now ≡ false = search rules in
+    rw c.at.ensures (refuses l (refusal C.TooManyBytes 0) (read_long l.text.now l.indices.now long))
 
 pub returns-in_err-units : goal.returns-in_err-units
 returns-in_err-units c =
+    let l = c.args.label in
     let e = c.in_err-units.field-0.0 in
+    let fits : in_size l.text.now l.indices.now ≡ true = search rules in
     let was : c.survey_text.result ≡ Err e = search rules in
     let r : c.from_residual.result ≡ Err e = search rules in
-    rw r (refuses c.args.text.now c.args.indices.now e
-    (text_refused _ _ c.if-text-gt-TEXT_BYTES.false c.if-indices-gt-INDICES_BYTES.false _ _ c.survey_text.ensures was))
+    rw r (refuses l e (read_refused l.text.now l.indices.now fits e (subst (Reads l.text.now) was c.survey_text.ensures.read)))
 
 pub returns-in_err-reading : goal.returns-in_err-reading
 returns-in_err-reading c =
+    let l = c.args.label in
     let e = c.in_err-reading.field-0.0 in
+    let fits : in_size l.text.now l.indices.now ≡ true = search rules in
     let units : c.survey_text.result ≡ Ok c.in_ok-units.units = search rules in
     let was : c.survey_run.result ≡ Err e = search rules in
     let r : c.from_residual-in_err-reading.result ≡ Err e = search rules in
-    let x = text_units_holds _ _ _ c.survey_text.ensures units in
-    rw r (refuses c.args.text.now c.args.indices.now e
-    (sym (ap reading_outcome was) ∙ c.survey_run.ensures.result_value
-    ∙ read_units _ _ c.if-text-gt-TEXT_BYTES.false c.if-indices-gt-INDICES_BYTES.false _ _ x))
+    rw r (refuses l e (sym (ap reading_outcome was) ∙ c.survey_run.ensures.result_value
+    ∙ read_run l.text.now l.indices.now fits _ (subst (Reads l.text.now) units c.survey_text.ensures.read).0))
 
 pub returns : goal.returns
 returns c =
+    let l = c.args.label in
+    let fits : in_size l.text.now l.indices.now ≡ true = search rules in
     let units : c.survey_text.result ≡ Ok c.in_ok-units.units = search rules in
     let was : c.survey_run.result ≡ Ok c.in_ok-reading.reading = search rules in
-    let x = text_units_holds _ _ _ c.survey_text.ensures units in
-    judges c.args.text.now c.args.indices.now _
-    (sym (ap reading_outcome was) ∙ c.survey_run.ensures.result_value
-    ∙ read_units _ _ c.if-text-gt-TEXT_BYTES.false c.if-indices-gt-INDICES_BYTES.false _ _ x)
+    let found = subst (Reads l.text.now) units c.survey_text.ensures.read in
+    judges l (record { reading = c.in_ok-reading.reading; units = c.in_ok-units.units })
+    (sym (ap reading_outcome was) ∙ c.survey_run.ensures.result_value ∙ read_run l.text.now l.indices.now fits _ found.0)
     (rw was at c.survey_run.ensures.rounded)
-    x.start
+    found
+    (rw units at c.survey_text.ensures.same_text)

@@ -1,13 +1,8 @@
--- `survey::survey_run`: the loop keeps `Underway`: the walk stands at the cursor, and the fields rounded so far and those left are all; each end is one law of
--- Endings. Assumes nothing.
-use Prim.Native.Nat.{◌+◌, ◌-◌}
-use lib.ListN.{length}
-use Rattle.text.specs.Moves.{units_from}
+-- `survey::survey_run`: the loop keeps `Underway`: where the walk stands, what results are left, and the fields rounded so far. Assumes nothing.
+use Rattle.text.specs.Moves.{units}
+use Rattle.entry.specs.Results.{results_left}
 use Rattle.survey.proofs.Surveying.{Underway}
 use Rattle.survey.proofs.survey_run.Given as goal
 
-abbrev pub invariant-loop-c : goal.invariant-loop-c
-invariant-loop-c l = Underway l.text (units_from l.text l.start) l.indices l.c l.rounded
-
-abbrev pub decreases-loop-c : goal.decreases-loop-c
-decreases-loop-c l = length l.indices + 1 - l.c.place
+abbrev pub invariant-loop-item : goal.invariant-loop-item
+invariant-loop-item l = Underway (units l.run.passage) l.indices l.walk l.rounded (results_left l.item-iterator)
