@@ -291,16 +291,7 @@ pub fn put_unit(out: &mut [u8], j: usize, u: u16)
     out[i..i + 2].copy_from_slice(&u.to_le_bytes());
 }
 
-// by its bits
-pub fn put_bits(out: &mut [u8], k: usize, n: u32)
-    requires { k < length out.old / 4 }
-    ensures { out.new ≡ puts out.old (4 * k) (four_bytes n) }
-{
-    let i = 4 * k;
-    out[i..i + 4].copy_from_slice(&n.to_le_bytes());
-}
-
-pub fn put_number(out: &mut [u8], k: usize, v: i32)
+fn put_number(out: &mut [u8], k: usize, v: i32)
     requires { k < length out.old / 4 }
     ensures { out.new ≡ puts out.old (4 * k) (four_bytes (bits_of v)) }
 {
@@ -330,7 +321,7 @@ fn index_number(i: Index) -> i32
     }
 }
 
-// An advance's, by its bits.
+// An advance's, likewise; one of more than 31 bits keeps its bits.
 fn advance_number(a: Advance) -> i32
     ensures { bits_of result ≡ bits_of (advance_number a) }
 {
@@ -340,6 +331,7 @@ fn advance_number(a: Advance) -> i32
     }
 }
 
+// The numbers of a glyph record, to be stored.
 impl From<Glyph> for GlyphNumbers {
     ghost from_gives = { λ g n. glyph_stored n ≡ glyph_places g };
 
