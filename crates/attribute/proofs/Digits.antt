@@ -13,6 +13,7 @@ use Rattle.label.specs.Text.{xml_char}
 use Rattle.label.specs.Requests.Attribute.{digit_value, all_of, value_behind, numbered}
 use Rattle.label.proofs.Basics.{cases}
 use Rattle.label.proofs.Text.{xml_range}
+use Rattle.attribute.specs.Pieces.{GivesChar}
 
 -- a base is at most sixteen, and the code took the byte b for the character w
 module _ {base w b : ℕ} (o : base ≤ 16) (e : w ≡ b) where
@@ -94,6 +95,6 @@ at_end {base} {n} {s} {i} g h k =
 
 -- the character with a number, or none where no character has it
 pub as_char : (r : Option ℕ) {n v : ℕ} → n ≡ v → SomeIff r (char.IsScalar n) n → MatchOption r (char.OutOfScalarRange n) (λ (_ : ℕ). char.InScalarRange n)
-    → MatchOption r (xml_char v ≡ false) (λ (c : ℕ). c ≡ v)
+    → GivesChar r v
 as_char (Some c) e k h = k.1 ∙ e
 as_char None {n} {v} e k h = cases (xml_char v) (λ x. absurd (⊎_elim (λ l. omega (arith, h)) (λ l. omega (arith, h, l.0, l.1)) (xml_range v x))) (λ x. x)

@@ -1,7 +1,8 @@
 -- A raw value as the code walks it, piece by piece, and as it stores what the pieces give.
 -- Assumes nothing.
-use Rattle.std.specs.Prelude.{ℕ, suc, ◌+◌, ◌≡◌, ◌≤◌, ◌<◌, true, false, Option, Some, None, Result, Ok, Err, List, [], ◌∷◌, length, get_or, drop}
+use Rattle.std.specs.Prelude.{ℕ, suc, ◌+◌, ◌≡◌, ◌≤◌, ◌<◌, true, false, Option, Some, None, Result, Ok, Err, MatchOption, List, [], ◌∷◌, length, get_or, drop}
 use Rattle.label.specs.Outcome.{ok, no}
+use Rattle.label.specs.Text.{xml_char}
 use Rattle.label.specs.Write.{utf8}
 use Rattle.label.specs.Requests.Attribute.{referred, body, is_reference, is_good, gives, further}
 use Rattle.label.specs.Steps.{resolve}
@@ -13,6 +14,10 @@ use Rattle.octets.specs.Puts.{Put}
 use Rattle.attribute.specs.declared.Piece.{Piece}
 use Rattle.attribute.specs.declared.Piece.TheVariants.{Byte, Char}
 use Rattle.attribute.specs.declared.Pieces.{Pieces}
+
+-- the answer for character c: it is found, or there is none, and then c is no XML character
+abbrev pub GivesChar : Option ℕ → ℕ → Type 0
+GivesChar r c = MatchOption r (xml_char c ≡ false) (λ d. d ≡ c)
 
 -- the bytes that come out of a piece
 abbrev pub piece_bytes : Piece → List ℕ

@@ -1,13 +1,12 @@
 // Raw XML attribute values: references resolved and white space replaced, as XML 1.0 says.
 #![tactic(auto)]
 
-ghost use Rattle.std.specs.Prelude.{◌≡◌, ◌+◌, ◌-◌, ◌*◌, ◌^◌, ◌≤◌, ◌<◌, ◌==◌, false, length, position, MatchOption, SomeIff};
+ghost use Rattle.std.specs.Prelude.{◌≡◌, ◌+◌, ◌-◌, ◌*◌, ◌^◌, ◌≤◌, ◌<◌, false, length, MatchOption, SomeIff};
 ghost use Rattle.std.specs.Iterator.{at_most};
-ghost use Rattle.label.specs.Text.{xml_char};
 ghost use Rattle.label.specs.Calls.{outcome_of, filled_count, filled_after};
 ghost use Rattle.label.specs.Requests.Attribute.{predefined, numbered, referred, is_reference, body, is_good, gives, further, resolve_into};
 ghost use Rattle.octets.specs.Puts.{Put};
-ghost use Rattle.attribute.specs.Pieces.{IsReference, IsPiece, GivesPiece, Stores};
+ghost use Rattle.attribute.specs.Pieces.{GivesChar, IsReference, IsPiece, GivesPiece, Stores};
 
 use label::{Cause, Refusal};
 use octets::Output;
@@ -24,7 +23,7 @@ fn with_digit(n: u32, base: u32, digit: u32) -> Option<u32>
 // The character whose number the digits of base ten or sixteen are. None: there are none, or another byte stands among them, or no character has the number.
 fn numbered(digits: &[u8], base: u32) -> Option<char>
     requires { (2 ≤ base) × (base ≤ 16) }
-    ensures { MatchOption result (xml_char (numbered base digits.now) ≡ false) (λ c. c ≡ numbered base digits.now) }
+    ensures { GivesChar result (numbered base digits.now) }
 {
     if digits.is_empty() {
         return None;
@@ -40,7 +39,7 @@ fn numbered(digits: &[u8], base: u32) -> Option<char>
 // The character of one of the five names.
 #[tactic(auto, using(crate::proofs::Names::names))]
 fn predefined(name: &[u8]) -> Option<char>
-    ensures { MatchOption result (xml_char (predefined name.now) ≡ false) (λ c. c ≡ predefined name.now) }
+    ensures { GivesChar result (predefined name.now) }
 {
     match name {
         b"amp" => Some('&'),
@@ -55,7 +54,7 @@ fn predefined(name: &[u8]) -> Option<char>
 // The character of what stands between `&` and `;`: `#x` with hexadecimal digits, `#` with decimal ones, or a name.
 #[tactic(auto, unfolding(label::specs::Requests::Attribute::referred))]
 fn referred(body: &[u8]) -> Option<char>
-    ensures { MatchOption result (xml_char (referred body.now) ≡ false) (λ c. c ≡ referred body.now) }
+    ensures { GivesChar result (referred body.now) }
 {
     match body {
         [b'#', b'x', digits @ ..] => numbered(digits, 16),
@@ -64,18 +63,11 @@ fn referred(body: &[u8]) -> Option<char>
     }
 }
 
-// How many bytes stand up to the first `;`, if there is one.
-fn find_end(behind: &[u8]) -> Option<usize>
-    ensures { result ≡ position (λ b. b == 59) behind.now }
-{
-    behind.iter().position(|b| *b == b';')
-}
-
 // The character of the reference whose `&` stands before these bytes, and how many of them it has.
 fn read_reference(behind: &[u8]) -> Option<(char, usize)>
     ensures { MatchOption result (is_reference behind.now ≡ false) (λ r. IsReference behind.now r.0 r.1) }
 {
-    let end = find_end(behind)?;
+    let end = octets::position_of(behind, b';')?;
     let c = referred(&behind[..end])?;
     utf8::is_xml(u32::from(c)).then_some((c, end + 1))
 }
@@ -106,7 +98,8 @@ fn read_piece(b: u8, behind: &[u8]) -> Option<(Piece, usize)>
     }
 }
 
-// The pieces of a raw value from a place on; behind a bad reference or a raw `<`, which is refused, there are none.
+// The pieces of a raw value from a place on; behind a bad reference or a raw `<`, which is refused, there are none. A refusal names its place in the whole
+// value, so the place stands beside the bytes.
 #[derive(Clone, Copy)]
 struct Pieces<'a> {
     raw: &'a [u8],
@@ -121,11 +114,11 @@ impl Iterator for Pieces<'_> {
     ghost remaining = { λ s. at_most (length s.raw.now - s.at) };
 
     fn next(&mut self) -> Option<Result<Piece, Refusal>> {
-        let at = self.at;
-        let b = *self.raw.get(at)?;
-        let Some((piece, length)) = read_piece(b, &self.raw[at + 1..]) else {
+        let b = *self.raw.get(self.at)?;
+        let Some((piece, length)) = read_piece(b, &self.raw[self.at + 1..]) else {
+            let refusal = Cause::BadReference.at(self.at);
             self.at = self.raw.len();
-            return Some(Err(Cause::BadReference.at(at)));
+            return Some(Err(refusal));
         };
         self.at += length;
         Some(Ok(piece))
@@ -136,7 +129,7 @@ impl Iterator for Pieces<'_> {
 fn put_resolved(out: &mut [u8], raw: &[u8]) -> Result<usize, Refusal>
     ensures { Stores raw.now out.old result out.new }
 {
-    let mut output = Output { bytes: out, at: 0 };
+    let mut output = Output::on(out);
     let pieces = Pieces { raw, at: 0 };
     for piece in pieces {
         match piece? {

@@ -55,7 +55,7 @@ here_is (b ∷ bs) =
     (λ t. rw (split_hit 59 b bs t) (sym (here_hit b bs t)))
     (λ t. rw (split_miss 59 b bs t, split_head bs) (ap (λ (x : List ℕ). b ∷ x) (here_is bs) ∙ sym (here_miss b bs t)))
 
-split_here : (l : List ℕ) → split 59 l ≡ here l ∷ cond (leb (suc (length (here l))) (length l)) (split 59 (drop (suc (length (here l))) l)) []
+pub split_here : (l : List ℕ) → split 59 l ≡ here l ∷ cond (leb (suc (length (here l))) (length l)) (split 59 (drop (suc (length (here l))) l)) []
 split_here l =
     split_head l
     ∙ ap (λ (x : List ℕ). x ∷ cond (leb (suc (length x)) (length l)) (split 59 (drop (suc (length x)) l)) []) (here_is l)

@@ -9,6 +9,7 @@ ghost use Rattle.octets.specs.Outputs.{Gains};
 ghost use Rattle.wire.specs.Numbers.{as_glyph};
 ghost use Rattle.entry_bytes.specs.Fields.{fields};
 
+use label::Cluster;
 use octets::Output;
 use wire::GlyphNumbers;
 
@@ -112,27 +113,27 @@ fn put_colon(out: &mut Output, b: u32)
     put_decimal(out, b);
 }
 
-// `(a:b)`, unless it is 1:1 or 0:1.
+// The map of a cluster, `(a:b)`, unless it is 1:1 or 0:1.
 #[tactic(auto, using(octets::proofs::Outputs::nothing), unfolding(label::specs::Write::map_bytes))]
-fn put_map(out: &mut Output, a: u32, b: u32)
-    ensures { Gains out.old (map_bytes a b) out.new }
+fn put_map(out: &mut Output, cluster: Cluster)
+    ensures { Gains out.old (map_bytes cluster.units cluster.glyphs) out.new }
 {
-    if a <= 1 && b == 1 {
+    if cluster.units <= 1 && cluster.glyphs == 1 {
         return;
     }
     out.put_byte(b'(');
-    put_decimal(out, a);
-    put_colon(out, b);
+    put_decimal(out, cluster.units);
+    put_colon(out, cluster.glyphs);
     out.put_byte(b')');
 }
 
-// An index with its map a:b; nothing for one that the font chooses.
+// An index with the map of the cluster that it opens; nothing for one that the font chooses.
 #[tactic(auto, using(octets::proofs::Outputs::nothing), unfolding(label::specs::Write::index_bytes))]
-fn put_index(out: &mut Output, a: u32, b: u32, n: i32)
-    ensures { Gains out.old (index_bytes a b (number_index n)) out.new }
+fn put_index(out: &mut Output, cluster: Cluster, n: i32)
+    ensures { Gains out.old (index_bytes cluster.units cluster.glyphs (number_index n)) out.new }
 {
     if 0 <= n {
-        put_map(out, a, b);
+        put_map(out, cluster);
         put_decimal(out, n.unsigned_abs());
     }
 }
@@ -158,11 +159,11 @@ fn put_fields(out: &mut Output, advance: i32, u: i32, v: i32)
     put_offset(out, v);
 }
 
-// The entry of a glyph, which opens a cluster a:b.
-pub fn put_entry(out: &mut Output, a: u32, b: u32, g: GlyphNumbers)
-    ensures gains { Gains out.old (entry_by value_bytes a b (as_glyph g)) out.new }
-    ensures bounds { length (entry_by value_bytes a b (as_glyph g)) ≤ 80 }
+// The entry of a glyph, which opens a cluster.
+pub fn put_entry(out: &mut Output, cluster: Cluster, g: GlyphNumbers)
+    ensures gains { Gains out.old (entry_by value_bytes cluster.units cluster.glyphs (as_glyph g)) out.new }
+    ensures bounds { length (entry_by value_bytes cluster.units cluster.glyphs (as_glyph g)) ≤ 80 }
 {
-    put_index(out, a, b, g.index);
+    put_index(out, cluster, g.index);
     put_fields(out, g.advance, g.u, g.v);
 }

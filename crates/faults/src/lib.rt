@@ -1,56 +1,60 @@
 // Showing a fault: the part of a label that a refusal speaks of, as a place and as the caller's own bytes.
 #![tactic(auto)]
 
-ghost use Rattle.std.specs.Prelude.{◌+◌, ◌-◌, ◌≤◌, ◌≡◌, length, drop};
-ghost use Rattle.label.specs.Fault.{of_text, of_entry, portion, fault_part, part_bytes, part_ptr};
-ghost use Rattle.entry.specs.Items.{here};
-ghost use Rattle.faults.specs.Faults.{entry_shown};
+ghost use Rattle.std.specs.Prelude.{◌≡◌, length, position};
+ghost use Rattle.label.specs.Fault.{of_text, of_entry, fault_part, part_bytes, part_ptr};
+ghost use Rattle.entry.specs.Items.{is_semi, here};
+ghost use Rattle.faults.specs.Faults.{text_shown, entry_shown};
 
-use label::{Part, Source};
+use label::{Label, Part, Source};
 
-// Where the entry that starts at `place` ends: at a `;` or at the end.
-fn entry_end(indices: &[u8], place: usize) -> usize
-    requires { place ≤ length indices.now }
-    ensures value { result ≡ place + length (here (drop place indices.now)) }
-    ensures bounds { (place ≤ result) × (result ≤ length indices.now) }
+// The text from `start` on, where that is a place of it.
+fn text_from(text: &[u8], start: usize) -> Option<Part>
+    ensures { result ≡ text_shown text.now start }
 {
-    octets::find_byte(indices, place, b';')
-}
-
-// A part that starts at `start` and ends at `end`.
-fn part_of(source: Source, start: usize, end: usize) -> Part
-    requires { start ≤ end }
-    ensures { result ≡ portion source start (end - start) }
-{
-    Part {
-        source,
-        start,
-        length: end - start,
+    if start < text.len() {
+        Some(Part {
+            source: Source::Text,
+            start,
+            length: text.len() - start,
+        })
+    } else {
+        None
     }
 }
 
-// The empty start of the text, for what is nowhere.
-fn nowhere() -> Part
-    ensures { result ≡ portion Source.Text 0 0 }
+// Where the first `;` stands.
+fn semicolon(indices: &[u8]) -> Option<usize>
+    ensures { result ≡ position is_semi indices.now }
 {
-    part_of(Source::Text, 0, 0)
+    indices.iter().position(|b| *b == b';')
 }
 
-// Entry k of the indices, or the empty start of the text where there is none.
-fn find_entry(indices: &[u8], k: usize) -> Part
+// How long the entry is that the indices begin with: it ends at a `;` or where they do.
+#[tactic(auto, using(crate::proofs::Faults::length_here))]
+fn entry_length(indices: &[u8]) -> usize
+    ensures { result ≡ length (here indices.now) }
+{
+    semicolon(indices).unwrap_or(indices.len())
+}
+
+// Entry k of the indices, where there is one: no bytes are no entries, and behind each `;` is one more. The entries are counted by their `;` and not read,
+// as a refused label's may be ill-formed.
+fn find_entry(indices: &[u8], k: usize) -> Option<Part>
     ensures { result ≡ entry_shown indices.now k }
 {
-    let mut place = survey::first_place(indices);
+    if indices.is_empty() {
+        return None;
+    }
+    let mut start = 0;
     for _ in 0..k {
-        if indices.len() < place {
-            return nowhere();
-        }
-        place = entry_end(indices, place) + 1;
+        start += semicolon(&indices[start..])? + 1;
     }
-    if indices.len() < place {
-        return nowhere();
-    }
-    part_of(Source::Indices, place, entry_end(indices, place))
+    Some(Part {
+        source: Source::Indices,
+        start,
+        length: entry_length(&indices[start..]),
+    })
 }
 
 // The place of a refusal with this number is a byte of the text.
@@ -67,29 +71,36 @@ fn is_of_entry(number: u32) -> bool
     matches!(number, 7..=12 | 14)
 }
 
-// The part of the label that a refusal speaks of. A caller in C may hand over any number, so it is no `Cause`.
+// The part of the label that a refusal speaks of, or the empty start of the text. A caller in C may hand over any number, so it is no `Cause`.
 #[tactic(auto, unfolding(label::specs::Fault::fault_part, crate::specs::Faults::entry_shown))]
-pub fn find_part(text: &[u8], indices: &[u8], number: u32, place: usize) -> Part
-    ensures { result ≡ fault_part text.now indices.now number place }
+pub fn find_part(label: Label, number: u32, place: usize) -> Part
+    ensures { result ≡ fault_part label.entry.text.now label.entry.indices.now number place }
 {
-    if is_of_text(number) && place < text.len() {
-        part_of(Source::Text, place, text.len())
+    let part = if is_of_text(number) {
+        text_from(label.text, place)
     } else if is_of_entry(number) {
-        find_entry(indices, place)
+        find_entry(label.indices, place)
     } else {
-        nowhere()
-    }
+        None
+    };
+    part.unwrap_or(Part {
+        source: Source::Text,
+        start: 0,
+        length: 0,
+    })
 }
 
 // Its bytes: the caller's own.
-pub fn fault<'a>(text: &'a [u8], indices: &'a [u8], number: u32, place: usize) -> &'a [u8]
-    ensures result_value { result.now ≡ part_bytes text.now indices.now (fault_part text.now indices.now number place) }
-    ensures own { result.ref_ptr ≡ part_ptr text.entry.ref_ptr indices.entry.ref_ptr (fault_part text.now indices.now number place) }
+pub fn fault<'a>(label: Label<'a>, number: u32, place: usize) -> &'a [u8]
+    ensures result_value { let part = fault_part label.entry.text.now label.entry.indices.now number place in
+        result.now ≡ part_bytes label.entry.text.now label.entry.indices.now part }
+    ensures own { let part = fault_part label.entry.text.now label.entry.indices.now number place in
+        result.ref_ptr ≡ part_ptr label.entry.text.ref_ptr label.entry.indices.ref_ptr part }
 {
-    let part = find_part(text, indices, number, place);
+    let part = find_part(label, number, place);
     let end = part.start + part.length;
     match part.source {
-        Source::Text => &text[part.start..end],
-        Source::Indices => &indices[part.start..end],
+        Source::Text => &label.text[part.start..end],
+        Source::Indices => &label.indices[part.start..end],
     }
 }

@@ -21,7 +21,7 @@ use Rattle.label.specs.Fetched.{halves, words}
 use Rattle.label.specs.Sound.{clusters_of, glyphs_of, run_of, sound}
 use Rattle.label.specs.Write.{Label, normal}
 use Rattle.label.specs.Pick.{holding, touched, turned, inside, pick_units, pick_glyphs}
-use Rattle.label.specs.Calls.{filled_count, read_into, counted, asked_for, write_asked, lengths}
+use Rattle.label.specs.Calls.{read_into, counted, asked_for, write_asked, lengths}
 use Rattle.label.specs.Requests.RoundedCount.{rounded, beside}
 use Rattle.label.specs.Requests.Attribute.{is_good, further, raw_check, raw_checks, raw_gives, resolve_checks, resolve_into}
 use Rattle.label.specs.Requests.Sheet.{header, is_record, record_check, sheet_records, file_labels, file_checks, answers, sheet_checks, sheet_into}
@@ -36,7 +36,7 @@ use Rattle.label.proofs.Refusals.{Placed, fine, refused, need_placed, bind_place
 use Rattle.label.proofs.Requests.Escaping.{asked_short}
 use Rattle.sound.specs.Sounds.{unit_sum}
 use Rattle.sound.proofs.Facts.{few_units, few_glyphs, units_add_up, glyphs_add_up}
-use Rattle.glyph_label.specs.Fits.{Small32, ReadingFits, WritingFits, StretchFits, FilledFits}
+use Rattle.glyph_label.specs.Fits.{Small32, ReadingFits, WritingFits, StretchFits}
 
 -- ── a reading ──
 
@@ -123,10 +123,6 @@ abbrev OneNumber : ℕ → ℕ → Outcome (Unit {0}) → Type 0
 OneNumber m k (ok x) = Unit {0}
 OneNumber m k (no n p) = (n ≡ m) × (p < k)
 
-fill_fits : {A : Type 0} (o : Outcome (List A)) → ((n p : ℕ) → o ≡ no n p → Small32 n) → FilledFits (filled_count o)
-fill_fits (ok vs) h = tt
-fill_fits (no n p) h = h n p refl
-
 -- ── resolving ──
 
 raw_checks_holds : (k : ℕ) (bs : List ℕ) (skip at : ℕ) → at + length bs ≤ k → OneNumber 23 k (verdict (each raw_check (pieces further skip at bs)))
@@ -144,11 +140,8 @@ resolve_refusal room raw n p e =
     ⊎_elim (λ v. inl (subst (OneNumber 23 (length raw)) v (raw_checks_holds (length raw) raw 0 0 (omega arith)))) (λ l. inr (l.0, l.1, omega arith))
     (last_refusal (raw_checks raw) (length (raw_gives raw)) room 24 (length (raw_gives raw)) (raw_gives raw) n p e)
 
-pub resolve_number : (room : ℕ) (raw : List ℕ) (n p : ℕ) → resolve_into room raw ≡ no n p → (1 ≤ n) × Small32 n
-resolve_number room raw n p e = ⊎_elim (λ x. (omega arith, omega arith)) (λ x. (omega arith, omega arith)) (resolve_refusal room raw n p e)
-
-pub filled_fits : (room : ℕ) (raw : List ℕ) → FilledFits (filled_count (resolve_into room raw))
-filled_fits room raw = fill_fits (resolve_into room raw) (λ n p e. (resolve_number room raw n p e).1)
+pub resolve_number : (room : ℕ) (raw : List ℕ) (n p : ℕ) → resolve_into room raw ≡ no n p → 1 ≤ n
+resolve_number room raw n p e = ⊎_elim (λ x. omega arith) (λ x. omega arith) (resolve_refusal room raw n p e)
 
 -- ── a sheet ──
 
@@ -176,13 +169,9 @@ sheet_refusal room file n p e =
         let a : n ≡ 25 = cc in
         let b : p ≡ 0 = cc in inl (a, b))
 
-pub sheet_number : (room : ℕ) (file : List ℕ) (n p : ℕ) → sheet_into room file ≡ no n p → (1 ≤ n) × Small32 n
+pub sheet_number : (room : ℕ) (file : List ℕ) (n p : ℕ) → sheet_into room file ≡ no n p → 1 ≤ n
 sheet_number room file n p e =
-    ⊎_elim (λ x. (omega arith, omega arith)) (λ y. ⊎_elim (λ x. (omega arith, omega arith)) (λ x. (omega arith, omega arith)) y)
-    (sheet_refusal room file n p e)
-
-pub sheet_fits : (room : ℕ) (file : List ℕ) → FilledFits (filled_count (sheet_into room file))
-sheet_fits room file = fill_fits (sheet_into room file) (λ n p e. (sheet_number room file n p e).1)
+    ⊎_elim (λ x. omega arith) (λ y. ⊎_elim (λ x. omega arith) (λ x. omega arith) y) (sheet_refusal room file n p e)
 
 -- ── a pick ──
 

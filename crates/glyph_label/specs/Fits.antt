@@ -22,8 +22,3 @@ WritingFits (no n p) = Small32 n × Small32 p
 abbrev pub StretchFits : Outcome Stretch → Type 0
 StretchFits (ok s) = Small32 s.first × Small32 s.end
 StretchFits (no n p) = Small32 n × Small32 p
-
--- of a call that fills a buffer only the number: its count and its place have all bits
-abbrev pub FilledFits : Outcome ℕ → Type 0
-FilledFits (ok n) = Unit {0}
-FilledFits (no n p) = Small32 n

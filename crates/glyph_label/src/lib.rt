@@ -10,7 +10,7 @@ ghost use Rattle.glyph_label.specs.CallContracts.{ReadCall, WriteCall, ResolveCa
 ghost use Rattle.glyph_label.specs.Answers.{version, reading_answer, writing_answer, filled_answer, stretch_answer, part_answer};
 ghost use Rattle.glyph_label.specs.Fits.{Small32, ReadingFits, WritingFits, StretchFits};
 
-use label::{Lengths, Part, Reading, Refusal, Source, Stretch};
+use label::{Label, Lengths, Part, Reading, Refusal, Source, Stretch};
 use wire::Run;
 
 // ── answers ──
@@ -66,6 +66,7 @@ pub struct GlyphLabelPart {
     pub length: usize,
 }
 
+// These three are no `From`: their numbers have to fit 32 bits, and a `From` asks nothing of what it takes.
 fn reading_answer(r: Result<Reading, Refusal>) -> GlyphLabelReading
     requires { ReadingFits (reading_outcome r) × Small32 (reading_rounded r) }
     ensures { result ≡ reading_answer (reading_outcome r) (reading_rounded r) }
@@ -110,23 +111,6 @@ fn writing_answer(r: Result<Lengths, Refusal>) -> GlyphLabelWriting
     }
 }
 
-fn filled_answer(r: Result<usize, Refusal>) -> GlyphLabelFilled
-    ensures { result ≡ filled_answer (outcome_of r) }
-{
-    match r {
-        Ok(n) => GlyphLabelFilled {
-            number: 0,
-            place: 0,
-            filled: n,
-        },
-        Err(x) => GlyphLabelFilled {
-            number: x.cause.number(),
-            place: x.place,
-            filled: 0,
-        },
-    }
-}
-
 fn stretch_answer(r: Result<Stretch, Refusal>) -> GlyphLabelStretch
     requires { StretchFits (outcome_of r) }
     ensures { result ≡ stretch_answer (outcome_of r) }
@@ -147,6 +131,25 @@ fn stretch_answer(r: Result<Stretch, Refusal>) -> GlyphLabelStretch
     }
 }
 
+impl From<Result<usize, Refusal>> for GlyphLabelFilled {
+    ghost from_gives = { λ r a. a ≡ filled_answer (outcome_of r) };
+
+    fn from(r: Result<usize, Refusal>) -> GlyphLabelFilled {
+        match r {
+            Ok(n) => GlyphLabelFilled {
+                number: 0,
+                place: 0,
+                filled: n,
+            },
+            Err(x) => GlyphLabelFilled {
+                number: x.cause.number(),
+                place: x.place,
+                filled: 0,
+            },
+        }
+    }
+}
+
 impl From<Part> for GlyphLabelPart {
     ghost from_gives = { λ x r. r ≡ part_answer x };
 
@@ -163,6 +166,8 @@ impl From<Part> for GlyphLabelPart {
 }
 
 // ── the calls ──
+
+// A run is three arguments in C. Each call names them in a `Run` where it needs one: a function that did so would take the same three.
 
 // Which calls, structs and answers these are.
 #[unsafe(no_mangle)]
@@ -270,7 +275,7 @@ pub extern "C" fn glyph_label_glyphs_of(
 pub extern "C" fn glyph_label_resolve(raw: &[u8], out: &mut [u8]) -> GlyphLabelFilled
     ensures { ResolveCall raw.now out.old result out.new }
 {
-    filled_answer(attribute::resolve(raw, out))
+    GlyphLabelFilled::from(attribute::resolve(raw, out))
 }
 
 // The answers to the labels of a sheet's file, as bytes, two numbers a label, where none of 25 to 27 holds.
@@ -278,7 +283,7 @@ pub extern "C" fn glyph_label_resolve(raw: &[u8], out: &mut [u8]) -> GlyphLabelF
 pub extern "C" fn glyph_label_sheet(file: &[u8], answers: &mut [u8]) -> GlyphLabelFilled
     ensures { SheetCall file.now answers.old result answers.new }
 {
-    filled_answer(sheet::read_sheet(file, answers))
+    GlyphLabelFilled::from(sheet::read_sheet(file, answers))
 }
 
 // The offending part of a refused label, as offsets into the text or the indices.
@@ -291,5 +296,5 @@ pub extern "C" fn glyph_label_fault(
 ) -> GlyphLabelPart
     ensures { result ≡ part_answer (fault_part text.now indices.now number place) }
 {
-    GlyphLabelPart::from(faults::find_part(text, indices, number, place))
+    GlyphLabelPart::from(faults::find_part(Label { text, indices }, number, place))
 }

@@ -1,7 +1,7 @@
 -- The definitions at a cursor: what each comes to at `drop i s`, for a loop over a slice s with a place i. The loop's invariant is an equation
 -- "the definition at the start is this, put before the definition at the cursor".
 -- Assumes nothing.
-use Prim.Native.Nat.{ℕ, zero, suc, ◌+◌, ◌-◌, ◌≤◌}
+use Prim.Native.Nat.{ℕ, zero, suc, ◌+◌, ◌-◌}
 use native.Mathlib.Omega.{arith}
 use native.Mathlib.Nat.{add-zero, add-suc, suc-add}
 use mathlib.Core.Path.{◌≡◌, refl, sym, ◌∙◌, ap, subst}
@@ -9,7 +9,7 @@ use mathlib.Core.Bool.{Bool, true, false, not}
 use mathlib.Core.List.{List, [], ◌∷◌, ◌++◌, append_assoc, append-nil}
 use borrow.Author.Tests.{eq-eqb, not-true}
 use lib.Dec.{eqb}
-use lib.ListN.{length, take, drop, length-drop, drop_of_length-le}
+use lib.ListN.{length, take, drop, length-drop}
 use lib.Seq.{take_all}
 use Rattle.label.specs.Outcome.{Outcome, ok, no, ◌>>=◌}
 use Rattle.label.specs.Bytes.{split}
@@ -51,9 +51,6 @@ decode_skip zero at [] = decode_none 0 at ∙ sym (decode_none 0 (at + 0))
 decode_skip zero at (b ∷ s) = rw (add-zero at)
 decode_skip (suc k) at [] = decode_none (suc k) at ∙ sym (decode_none 0 (at + suc k))
 decode_skip (suc k) at (b ∷ s) = decode_inside k at b s ∙ decode_skip k (suc at) s ∙ rw (add-suc at k, suc-add at k)
-
-pub decode_end : (s : List ℕ) (i : ℕ) → length s ≤ i → decode 0 i (drop i s) ≡ ok []
-decode_end s i h = rw (drop_of_length-le s h) (decode_none 0 i)
 
 -- ── entries ──
 

@@ -1,4 +1,4 @@
-// The types that document 01's definitions and the code share, and its limits.
+// The types that the definitions and the code share, and the limits of labels.
 // The definitions are in specs/, their laws and the demands' proofs in proofs/.
 #![tactic(auto)]
 
@@ -96,6 +96,7 @@ pub struct LimitValues {
 
 // Where the walk over the entries stands: the number of the next entry; the units used; the glyphs that the open cluster lacks and the entry that opened
 // it; the clusters so far.
+// What is lacked is a count, so 0 says by itself that no cluster is open; the entry that opened one is looked at only where it lacks glyphs.
 #[derive(Clone, Copy)]
 pub struct Cursor {
     pub entry: usize,
@@ -218,6 +219,7 @@ impl TryFrom<u32> for Cause {
 
     ghost try_from_gives = { CauseOf };
 
+    // std derives no way back from a number, so the numbers stand once more, one arm each.
     fn try_from(number: u32) -> Result<Cause, UnknownCause> {
         match number {
             1 => Ok(Cause::TooManyBytes),
@@ -252,7 +254,7 @@ impl TryFrom<u32> for Cause {
     }
 }
 
-// A refusal: its cause, and its place in document 01's table.
+// A refusal: its cause, and the place that the table of causes names for it, 0 where it names none.
 #[derive(Clone, Copy)]
 pub struct Refusal {
     pub cause: Cause,
@@ -263,9 +265,9 @@ impl fmt::Display for Refusal {
     ghost output = { λ x. Some (refusal_text x) };
 
     fn fmt<W: fmt::Write>(&self, f: &mut fmt::Formatter<W>) -> fmt::Result {
-        let number = self.cause.number();
+        // A number behind a reference is known to fit its type only where it is read, and `write!` lends it on.
         let place = self.place;
-        write!(f, "{number} {place}")
+        write!(f, "{} {place}", self.cause.number())
     }
 }
 
@@ -298,7 +300,7 @@ pub struct Lengths {
     pub indices: usize,
 }
 
-// A stretch of code units or of glyphs, from `first` up to and without `end`.
+// A stretch of code units or of glyphs, from `first` up to and without `end`: two numbers, as C's form of it has them; std's `Range` is no `Copy`.
 #[derive(Clone, Copy)]
 pub struct Stretch {
     pub first: usize,
@@ -312,7 +314,7 @@ pub enum Source {
     Indices,
 }
 
-// A part of the text or of the indices of a label.
+// A part of the text or of the indices of a label, by two numbers, as C's form of it has them; `faults::fault` makes a slice of it.
 #[derive(Clone, Copy)]
 pub struct Part {
     pub source: Source,

@@ -35,7 +35,7 @@ first (b ∷ bs) h =
 
 -- the same where x has the two lines
 pub prints_first : (s : List ℕ) (x : TwoLines) → 0 < length s → TwoLinesOf s x
-    → printed_labels (length s) s ≡ printed (relabel_read x.text.now x.indices.now) ++ printed_labels (length x.rest.now) x.rest.now
+    → printed_labels (length s) s ≡ printed (relabel_read x.label.text.now x.label.indices.now) ++ printed_labels (length x.rest.now) x.rest.now
 prints_first s x h k = rw (k.text, k.indices, k.rest) (first s h)
 
 pub prints_none : (s : List ℕ) → s ≡ [] → printed_labels (length s) s ≡ []

@@ -9,9 +9,10 @@ ghost use Rattle.std.specs.Iterator.{at_most};
 ghost use Rattle.lines.specs.Labels.{TwoLinesOf, GivesLabel};
 ghost use Rattle.lines.specs.Lines.{answered, places_written, relabelled, text_line, indices_line};
 
-use label::{Cause, Counts, Lengths, Limits, Refusal};
+use label::{Cause, Counts, Label, Lengths, Limits, Refusal};
 use wire::Run;
 
+// The counts of the run that was read, and the lengths of the lines that were written.
 #[derive(Clone, Copy)]
 pub struct Relabelled {
     pub read: Counts,
@@ -20,12 +21,13 @@ pub struct Relabelled {
 
 // A line, and what follows it.
 #[derive(Clone, Copy)]
-pub struct Line<'a> {
-    pub bytes: &'a [u8],
-    pub rest: &'a [u8],
+struct Line<'a> {
+    bytes: &'a [u8],
+    rest: &'a [u8],
 }
 
-// Where the first line feed stands.
+// Where the first line feed stands: a function of its own, whose contract is one equation. A larger one knows of the library's search only what each call of
+// the closure gave.
 fn line_feed(input: &[u8]) -> Option<usize>
     ensures { result ≡ position (λ b. eqb b 10) input.now }
 {
@@ -33,7 +35,7 @@ fn line_feed(input: &[u8]) -> Option<usize>
 }
 
 // The first line: a line feed ends it and is no part of it.
-pub fn first_line(input: &[u8]) -> Line<'_>
+fn first_line(input: &[u8]) -> Line<'_>
     ensures bytes { result.bytes.now ≡ (line input.now).before }
     ensures rest { result.rest.now ≡ (line input.now).after }
 {
@@ -49,11 +51,10 @@ pub fn first_line(input: &[u8]) -> Line<'_>
     }
 }
 
-// A label's two lines, and what follows them.
+// The label of two lines, and what follows them.
 #[derive(Clone, Copy)]
 pub struct TwoLines<'a> {
-    pub text: &'a [u8],
-    pub indices: &'a [u8],
+    pub label: Label<'a>,
     pub rest: &'a [u8],
 }
 
@@ -64,9 +65,12 @@ pub fn two_lines(input: &[u8]) -> TwoLines<'_>
 {
     let text = first_line(input);
     let indices = first_line(text.rest);
-    TwoLines {
+    let label = Label {
         text: text.bytes,
         indices: indices.bytes,
+    };
+    TwoLines {
+        label,
         rest: indices.rest,
     }
 }
@@ -78,94 +82,85 @@ pub struct Labels<'a> {
 }
 
 impl<'a> Iterator for Labels<'a> {
-    type Item = TwoLines<'a>;
+    type Item = Label<'a>;
 
     ghost next_gives = { GivesLabel };
 
     ghost remaining = { λ s. at_most (length s.rest.now) };
 
-    fn next(&mut self) -> Option<TwoLines<'a>> {
+    fn next(&mut self) -> Option<Label<'a>> {
         if self.rest.is_empty() {
             return None;
         }
         let lines = two_lines(self.rest);
         self.rest = lines.rest;
-        Some(lines)
+        Some(lines.label)
     }
 }
 
-// Writes the run whose counts these are from the bytes at the front of three buffers: 2 a unit, 8 a cluster and 16 a glyph.
+// Writes the run whose counts these are from the bytes at the front of three buffers: 2 a unit, 8 a cluster and 16 a glyph. The two outputs are no struct, as
+// each has a clause of its own that says what it holds afterwards; so have the buffers below.
 fn write_places(
     n: Counts,
-    units: &[u8],
-    clusters: &[u8],
-    glyphs: &[u8],
+    buffers: Run,
     first: &mut [u8],
     second: &mut [u8],
 ) -> Result<Relabelled, Refusal>
-    requires { (2 * n.units ≤ length units.now) × (8 * n.clusters ≤ length clusters.now) × (16 * n.glyphs ≤ length glyphs.now) }
-    ensures result { let room = outputs first.old second.old in
-        outcome_of result ≡ answered n (lengths (places_written n units.now clusters.now glyphs.now room)) }
-    ensures text { let room = outputs first.old second.old in
-        first.new ≡ text_after (places_written n units.now clusters.now glyphs.now room) first.old }
-    ensures indices { let room = outputs first.old second.old in
-        second.new ≡ indices_after (places_written n units.now clusters.now glyphs.now room) second.old }
+    requires { let b = buffers in
+        (2 * n.units ≤ length b.units.now) × (8 * n.clusters ≤ length b.clusters.now) × (16 * n.glyphs ≤ length b.glyphs.now) }
+    ensures result { let b = buffers.entry in let room = outputs first.old second.old in
+        outcome_of result ≡ answered n (lengths (places_written n b.units.now b.clusters.now b.glyphs.now room)) }
+    ensures text { let b = buffers.entry in let room = outputs first.old second.old in
+        first.new ≡ text_after (places_written n b.units.now b.clusters.now b.glyphs.now room) first.old }
+    ensures indices { let b = buffers.entry in let room = outputs first.old second.old in
+        second.new ≡ indices_after (places_written n b.units.now b.clusters.now b.glyphs.now room) second.old }
 {
     let run = Run {
-        units: &units[..2 * n.units],
-        clusters: &clusters[..8 * n.clusters],
-        glyphs: &glyphs[..16 * n.glyphs],
+        units: &buffers.units[..2 * n.units],
+        clusters: &buffers.clusters[..8 * n.clusters],
+        glyphs: &buffers.glyphs[..16 * n.glyphs],
     };
     let written = writer::write_as(false, run, first, second)?;
     Ok(Relabelled { read: n, written })
 }
 
-// The label of a text line and an indices line that is not too long, read into buffers that hold every run.
+// A label whose indices line is not too long, read into buffers that hold every run.
 fn relabel_in(
-    text: &[u8],
-    indices: &[u8],
+    label: Label,
     units: &mut [u8],
     clusters: &mut [u8],
     glyphs: &mut [u8],
     first: &mut [u8],
     second: &mut [u8],
 ) -> Result<Relabelled, Refusal>
-    requires indices_len_bound { length indices.now ≤ max_line_bytes }
+    requires indices_len_bound { length label.indices.now ≤ max_line_bytes }
     requires buffers { (length units.old ≡ 2 * max_units) × (length clusters.old ≡ 8 * max_glyphs) × (length glyphs.old ≡ 16 * max_glyphs) }
     requires outputs { (max_text_bytes ≤ length first.old) × (max_indices_bytes ≤ length second.old) }
-    ensures result { outcome_of result ≡ relabelled (relabel_read text.now indices.now) }
-    ensures text { first.new ≡ text_line (relabel_read text.now indices.now) first.old }
-    ensures indices { second.new ≡ indices_line (relabel_read text.now indices.now) second.old }
+    ensures result { outcome_of result ≡ relabelled (relabel_read label.entry.text.now label.entry.indices.now) }
+    ensures text { first.new ≡ text_line (relabel_read label.entry.text.now label.entry.indices.now) first.old }
+    ensures indices { second.new ≡ indices_line (relabel_read label.entry.text.now label.entry.indices.now) second.old }
 {
-    let reading = reader::read(text, indices, units, clusters, glyphs)?;
-    write_places(reading.counts, units, clusters, glyphs, first, second)
+    let reading = reader::read(label.text, label.indices, units, clusters, glyphs)?;
+    let buffers = Run {
+        units,
+        clusters,
+        glyphs,
+    };
+    write_places(reading.counts, buffers, first, second)
 }
 
-// The label of a text line and an indices line: its counts and its normal lines, which are written to the two outputs, or the refusal.
-pub fn relabel(
-    text: &[u8],
-    indices: &[u8],
-    first: &mut [u8],
-    second: &mut [u8],
-) -> Result<Relabelled, Refusal>
+// A label of two lines: its counts and its normal lines, which are written to the two outputs, or the refusal.
+pub fn relabel(label: Label, first: &mut [u8], second: &mut [u8]) -> Result<Relabelled, Refusal>
     requires { (max_text_bytes ≤ length first.old) × (max_indices_bytes ≤ length second.old) }
-    ensures result { outcome_of result ≡ relabelled (relabel_read text.now indices.now) }
-    ensures text { first.new ≡ text_line (relabel_read text.now indices.now) first.old }
-    ensures indices { second.new ≡ indices_line (relabel_read text.now indices.now) second.old }
+    ensures result { outcome_of result ≡ relabelled (relabel_read label.entry.text.now label.entry.indices.now) }
+    ensures text { first.new ≡ text_line (relabel_read label.entry.text.now label.entry.indices.now) first.old }
+    ensures indices { second.new ≡ indices_line (relabel_read label.entry.text.now label.entry.indices.now) second.old }
 {
-    if Limits::LINE_BYTES < indices.len() {
+    if Limits::LINE_BYTES < label.indices.len() {
         return Err(Cause::TooManyBytes.at(0));
     }
     let mut units = [0u8; 2 * Limits::UNITS];
     let mut clusters = [0u8; 8 * Limits::GLYPHS];
     let mut glyphs = [0u8; 16 * Limits::GLYPHS];
-    relabel_in(
-        text,
-        indices,
-        &mut units,
-        &mut clusters,
-        &mut glyphs,
-        first,
-        second,
-    )
+    relabel_in(label, &mut units, &mut clusters, &mut glyphs, first, second)
 }

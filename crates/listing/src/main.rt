@@ -30,18 +30,17 @@ impl fmt::Display for Shown {
     }
 }
 
-// Lists the glyphs of a run in the records, prints the answer, `listed` and the count or `no`, number and place, and the records, and hands them back.
-fn show<W: Write>(out: &mut W, run: Run, before: [Glyph; 4]) -> io::Result<[Glyph; 4]> {
-    let four = records::list_four(run, before);
-    match four.answer {
+// Lists the glyphs of a run in the records, and prints the answer, `listed` and the count or `no`, number and place, and the records.
+fn show<W: Write>(out: &mut W, run: Run, records: &mut [Glyph; 4]) -> io::Result<()> {
+    match records::list_records(run, records) {
         Ok(n) => writeln!(out, "listed {n}")?,
         Err(x) => writeln!(out, "no {x}")?,
     }
-    for record in four.records {
-        let record = Shown(record);
+    for record in records.iter() {
+        let record = Shown(*record);
         writeln!(out, "{record}")?;
     }
-    Ok(four.records)
+    Ok(())
 }
 
 fn main(rt: HostRuntime) -> io::Result<()> {
@@ -80,8 +79,8 @@ fn main(rt: HostRuntime) -> io::Result<()> {
         units: &units[..4],
         ..three
     };
-    let records = show(&mut out, three, [blank; 4])?;
-    let records = show(&mut out, unsound, records)?;
-    show(&mut out, whole, records)?;
-    Ok(())
+    let mut records = [blank; 4];
+    show(&mut out, three, &mut records)?;
+    show(&mut out, unsound, &mut records)?;
+    show(&mut out, whole, &mut records)
 }

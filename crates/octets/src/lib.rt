@@ -1,29 +1,16 @@
 // Bytes in memory: one looked for, and bytes stored as far as there is room.
 #![tactic(auto)]
 
-ghost use Rattle.std.specs.Prelude.{◌≡◌, [], ◌∷◌, ◌+◌, ◌≤◌, eqb, ◌==◌, length, drop, position};
-ghost use Rattle.label.specs.Bytes.{cut};
+ghost use Rattle.std.specs.Prelude.{◌≡◌, [], ◌∷◌, ◌==◌, position};
 ghost use Rattle.octets.specs.Outputs.{Gains};
 
 // ── bytes, looked for ──
 
-// Where the first byte b stands.
-fn position_of(s: &[u8], b: u8) -> Option<usize>
+// Where the first byte b stands, if it does.
+pub fn position_of(s: &[u8], b: u8) -> Option<usize>
     ensures { result ≡ position (λ x. x == b) s.now }
 {
     s.iter().position(|x| *x == b)
-}
-
-// Where the first byte b from `from` on stands, or the end.
-pub fn find_byte(s: &[u8], from: usize, b: u8) -> usize
-    requires { from ≤ length s.now }
-    ensures value { result ≡ from + length (cut (λ x. eqb x b) (drop from s.now)).before }
-    ensures bounds { (from ≤ result) × (result ≤ length s.now) }
-{
-    match position_of(&s[from..], b) {
-        Some(i) => from + i,
-        None => s.len(),
-    }
 }
 
 // ── bytes, stored one behind the other as far as there is room ──
@@ -36,9 +23,27 @@ pub struct Output<'a> {
 }
 
 impl<'a> Output<'a> {
+    // An output that fills these bytes from their start.
+    pub fn on(bytes: &'a mut [u8]) -> Output<'a>
+        ensures same { result.bytes.ghost_name ≡ bytes.entry.ghost_name }
+        ensures bytes { result.bytes.now ≡ bytes.old }
+        ensures start { result.at ≡ 0 }
+    {
+        Output { bytes, at: 0 }
+    }
+
+    // An output that stores nothing and counts.
+    pub fn counting() -> Output<'a>
+        ensures bytes { result.bytes.now ≡ [] }
+        ensures start { result.at ≡ 0 }
+    {
+        Output::on(&mut [])
+    }
+
     pub fn put_byte(&mut self, b: u8)
         ensures { Gains self.old (b ∷ []) self.new }
     {
+        // A copy of the place: the field would be fetched again behind the store, one instruction in a hundred of a writing.
         let at = self.at;
         if at < self.bytes.len() {
             self.bytes[at] = b;

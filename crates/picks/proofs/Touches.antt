@@ -1,6 +1,6 @@
 -- The walk over the clusters, for both ways of a pick: what is touched from a cluster on, and what the clusters from it on add up to.
 -- Assumes nothing.
-use Rattle.std.proofs.Common.{◌≡◌, ℕ, ◌+◌, ◌-◌, ◌<◌, ◌≤◌, cond, List, [], ◌∷◌, ℤ, length, drop, refl, arith}
+use Rattle.std.proofs.Common.{◌≡◌, ℕ, ◌+◌, ◌-◌, ◌<◌, ◌≤◌, cond, List, [], ◌∷◌, ℤ, map, refl, arith}
 use native.Mathlib.Nat.{sub-zero, sub-add-eq}
 use borrow.Author.Tests.{le-leb, lt-leb, lt-ltb, le-ltb, leb-true, leb-false, ltb-true, ltb-false}
 use lib.Dec.{leb, ltb}
@@ -13,10 +13,11 @@ use Rattle.picks.specs.declared.Way.{Way}
 use Rattle.picks.specs.declared.Way.TheVariants.{ToUnits, ToGlyphs}
 use Rattle.picks.specs.Ways.{along, turn}
 use Rattle.sound.specs.Sounds.{unit_sum}
-use Rattle.wire.specs.Numbers.{as_cluster, cluster_numbers}
-use Rattle.wire.proofs.Runs.{clusters_at, clusters_length}
+use Rattle.wire.specs.Numbers.{as_cluster}
+use Rattle.wire.specs.Walks.{clusters_in}
+use Rattle.wire.specs.declared.ClusterNumbers.{ClusterNumbers}
+use Rattle.wire.proofs.Walks.{clusters_are}
 use Rattle.std.proofs.lemmas.Bool.Decides.{nat_tests}
-use lib.ListN.{drop_of_length-le}
 
 -- ── the clusters from one on, either way ──
 
@@ -25,12 +26,9 @@ unfolding along turned
 along_first ToUnits c cs = refl
 along_first ToGlyphs c cs = refl
 
--- from cluster n on
-abbrev pub rest : Way → List ℤ → ℕ → List Cluster
-rest w cs n = along w (drop n (clusters_of cs))
-
-pub rest_at : (w : Way) (cs : List ℤ) (n : ℕ) → n < length (clusters_of cs) → rest w cs n ≡ turn w (as_cluster (cluster_numbers cs n)) ∷ rest w cs (n + 1)
-rest_at w cs n h = rw (clusters_at cs n h, along_first w)
+-- those that a walk has left
+unfoldable pub rest : Way → List ClusterNumbers → List Cluster
+rest w l = along w (map as_cluster l)
 
 -- ── the walk ──
 
@@ -67,40 +65,45 @@ module _ (first end : ℕ) where
 
 -- ── from a cluster on ──
 
-module _ (w : Way) (cs : List ℤ) where
-  pub starts : (first end : ℕ) → touched first end (along w (clusters_of cs)) ≡ touched_from first end (rest w cs 0) 0 0 0
-  starts first end = touched_start first end (along w (clusters_of cs)) 0
+module _ (w : Way) where
+  pub all_left : (z : List ℤ) → rest w (clusters_in z) ≡ along w (clusters_of z)
+  unfolding rest
+  all_left z = rw (clusters_are z)
 
-  module _ (n : ℕ) (h : n < length (clusters_of cs)) where
+  pub starts : (z : List ℤ) (first end : ℕ) → touched first end (along w (clusters_of z)) ≡ touched_from first end (rest w (clusters_in z)) 0 0 0
+  starts z first end = rw (all_left z) (touched_start first end (along w (clusters_of z)) 0)
+
+  module _ (c : ClusterNumbers) (l : List ClusterNumbers) where
     -- the next cluster, as the way takes it
     abbrev next : Cluster
-    next = turn w (as_cluster (cluster_numbers cs n))
+    next = turn w (as_cluster c)
 
-    pub added : unit_sum (rest w cs n) ≡ next.units + unit_sum (rest w cs (n + 1))
+    rest_is : rest w (c ∷ l) ≡ next ∷ rest w l
+    unfolding rest
+    rest_is = along_first w (as_cluster c) (map as_cluster l)
+
+    pub added : unit_sum (rest w (c ∷ l)) ≡ next.units + unit_sum (rest w l)
     unfolding unit_sum
-    added = rw (rest_at w cs n h)
+    added = rw rest_is
 
-    pub counted : unit_sum (turned (rest w cs n)) ≡ next.glyphs + unit_sum (turned (rest w cs (n + 1)))
+    pub counted : unit_sum (turned (rest w (c ∷ l))) ≡ next.glyphs + unit_sum (turned (rest w l))
     unfolding unit_sum turned
-    counted = rw (rest_at w cs n h)
+    counted = rw rest_is
 
     module _ (first end passed at s : ℕ) where
       pub stops : first < end → passed < end → end ≤ passed + next.glyphs
-          → touched_from first end (rest w cs n) passed at s ≡ stretch (cond (leb passed first) at s) (at + next.units)
-      stops f p e = rw (rest_at w cs n h) (touched_stop first end next (rest w cs (n + 1)) passed at s f p e)
+          → touched_from first end (rest w (c ∷ l)) passed at s ≡ stretch (cond (leb passed first) at s) (at + next.units)
+      stops f p e = rw rest_is (touched_stop first end next (rest w l) passed at s f p e)
 
       pub goes : passed + next.glyphs < end
-          → touched_from first end (rest w cs n) passed at s
-          ≡ touched_from first end (rest w cs (n + 1)) (passed + next.glyphs) (at + next.units) (cond (leb passed first) at s)
-      goes e = rw (rest_at w cs n h) (touched_on first end next (rest w cs (n + 1)) passed at s e)
+          → touched_from first end (rest w (c ∷ l)) passed at s
+          ≡ touched_from first end (rest w l) (passed + next.glyphs) (at + next.units) (cond (leb passed first) at s)
+      goes e = rw rest_is (touched_on first end next (rest w l) passed at s e)
 
 -- behind the last cluster nothing is left
-pub none_left : (w : Way) (cs : List ℤ) (n : ℕ) → length (clusters_of cs) ≤ n → unit_sum (turned (rest w cs n)) ≡ 0
-unfolding unit_sum turned along
-none_left w cs n h = rw (drop_of_length-le (clusters_of cs) h) (by w)
-  where
-    by : (v : Way) → unit_sum (turned (along v [])) ≡ 0
-    by ToUnits = refl
-    by ToGlyphs = refl
+pub none_left : (w : Way) → unit_sum (turned (rest w [])) ≡ 0
+unfolding unit_sum turned along rest
+none_left ToUnits = refl
+none_left ToGlyphs = refl
 
-pub ruleset walk = (starts, added, counted, stops, goes, none_left, clusters_length, nat_tests)
+pub ruleset walk = (starts, all_left, added, counted, stops, goes, none_left, nat_tests)

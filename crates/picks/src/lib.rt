@@ -46,25 +46,25 @@ impl Way {
     }
 }
 
-// The units of all clusters touched by glyphs `first` up to and without `end`; turned, the glyphs of those touched by units.
-// `passed` glyphs and `at` units stand before cluster n, and `start` is the first unit of the last cluster that begins no later than glyph `first`.
+// The units of all clusters touched by the glyphs picked; turned, the glyphs of those touched by units.
+// `passed` glyphs and `at` units stand before a cluster, and `start` is the first unit of the last cluster that begins no later than the first glyph picked.
 #[tactic(auto, using(crate::proofs::Touches::walk))]
-fn touched(run: Run, way: Way, first: usize, end: usize) -> Stretch
-    requires stretch { (first < end) × (end ≤ unit_sum (turned (along way (clusters_of (words run.clusters.now))))) }
-    requires bounds { (end < 4294967296) × (unit_sum (along way (clusters_of (words run.clusters.now))) < 4294967296) }
-    ensures { result ≡ touched first end (along way (clusters_of (words run.entry.clusters.now))) }
+fn touched(run: Run, way: Way, picked: Stretch) -> Stretch
+    requires stretch { (picked.first < picked.end) × (picked.end ≤ unit_sum (turned (along way (clusters_of (words run.clusters.now))))) }
+    requires bounds { (picked.end < 4294967296) × (unit_sum (along way (clusters_of (words run.clusters.now))) < 4294967296) }
+    ensures { result ≡ touched picked.first picked.end (along way (clusters_of (words run.entry.clusters.now))) }
 {
     let mut passed = 0;
     let mut at = 0;
     let mut start = 0;
-    for n in 0..run.cluster_count() {
-        let cluster = way.turn(ClusterNumbers::at(run.clusters, n));
-        if passed <= first {
+    for cluster in run.clusters() {
+        let cluster = way.turn(cluster);
+        if passed <= picked.first {
             start = at;
         }
         passed += cluster.glyph_count();
         at += cluster.unit_count();
-        if end <= passed {
+        if picked.end <= passed {
             break;
         }
     }
@@ -77,28 +77,26 @@ fn touched(run: Run, way: Way, first: usize, end: usize) -> Stretch
 // ── the calls ──
 
 #[tactic(auto, using(crate::proofs::Picks::picking))]
-fn pick(run: Run, way: Way, first: usize, end: usize) -> Result<Stretch, Refusal>
-    ensures { outcome_of result ≡ pick_along way (as_places run.entry) first end }
+fn pick(run: Run, way: Way, picked: Stretch) -> Result<Stretch, Refusal>
+    ensures { outcome_of result ≡ pick_along way (as_places run.entry) picked.first picked.end }
 {
-    if !sound::is_sound(run) {
-        return Err(Cause::UnsoundRun.at(0));
-    }
-    if !(first < end && end <= way.total(run)) {
+    sound::check(run)?;
+    if !(picked.first < picked.end && picked.end <= way.total(run)) {
         return Err(Cause::BadPick.at(0));
     }
-    Ok(touched(run, way, first, end))
+    Ok(touched(run, way, picked))
 }
 
-// The code units of all clusters touched by glyphs `first` up to and without `end`.
-pub fn units_of(run: Run, first: usize, end: usize) -> Result<Stretch, Refusal>
-    ensures { outcome_of result ≡ pick_units (as_places run.entry) first end }
+// The code units of all clusters touched by the glyphs picked.
+pub fn units_of(run: Run, picked: Stretch) -> Result<Stretch, Refusal>
+    ensures { outcome_of result ≡ pick_units (as_places run.entry) picked.first picked.end }
 {
-    pick(run, Way::ToUnits, first, end)
+    pick(run, Way::ToUnits, picked)
 }
 
-// The glyphs of all clusters touched by code units `first` up to and without `end`.
-pub fn glyphs_of(run: Run, first: usize, end: usize) -> Result<Stretch, Refusal>
-    ensures { outcome_of result ≡ pick_glyphs (as_places run.entry) first end }
+// The glyphs of all clusters touched by the code units picked.
+pub fn glyphs_of(run: Run, picked: Stretch) -> Result<Stretch, Refusal>
+    ensures { outcome_of result ≡ pick_glyphs (as_places run.entry) picked.first picked.end }
 {
-    pick(run, Way::ToGlyphs, first, end)
+    pick(run, Way::ToGlyphs, picked)
 }

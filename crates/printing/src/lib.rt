@@ -2,15 +2,15 @@
 // refusal's number and place.
 #![tactic(auto)]
 
-ghost use Rattle.std.specs.Prelude.{◌≡◌, ◌≤◌, ◌<◌, length, take, IfOk, OnOk};
+ghost use Rattle.std.specs.Prelude.{◌≡◌, ◌≤◌, ◌<◌, length, take, IfOk};
 ghost use Rattle.label.specs.Cause.{cause_number};
 ghost use Rattle.label.specs.Outcome.{no};
 ghost use Rattle.label.specs.Relabel.{printed, relabel_read};
+ghost use Rattle.printing.specs.Prints.{Prints};
 ghost use Rattle.printing.specs.Lines.{counts_line, line_of, run_lines};
-ghost use Rattle.std.specs.Io.KnownBytes.{Appends, Consumes, IsAtEnd};
+ghost use Rattle.std.specs.Io.KnownBytes.{Consumes, IsAtEnd};
 
-use label::{Counts, Limits, Refusal};
-use lines::Relabelled;
+use label::{Counts, Label, Limits, Refusal};
 use std::io;
 use std::io::{Read, Write};
 
@@ -20,6 +20,7 @@ pub fn read_full<R: Read>(input: &mut R, buf: &mut [u8]) -> io::Result<usize>
     ensures bytes { IfOk result (λ n. Consumes (R.remaining input.old) (R.remaining input.new) (take n buf.new)) }
     ensures end { IfOk result (λ n. n < length buf.new → IsAtEnd (R.remaining input.new)) }
 {
+    // How far a turn comes is what the read gives, so the place is counted on by that.
     let mut done = 0;
     while done < buf.len() {
         let n = input.read(&mut buf[done..])?;
@@ -32,7 +33,7 @@ pub fn read_full<R: Read>(input: &mut R, buf: &mut [u8]) -> io::Result<usize>
 }
 
 fn print_counts<W: Write>(out: &mut W, counts: Counts) -> io::Result<()>
-    ensures { OnOk result (Appends (W.contents out.old) (W.contents out.new) (counts_line counts)) }
+    ensures { Prints result (W.contents out.old) (W.contents out.new) (counts_line counts) }
 {
     let Counts {
         units,
@@ -42,15 +43,16 @@ fn print_counts<W: Write>(out: &mut W, counts: Counts) -> io::Result<()>
     writeln!(out, "ok {units} {clusters} {glyphs}")
 }
 
+// A line's bytes need not be UTF-8, so they are no `&str` for `writeln!`.
 fn print_line<W: Write>(out: &mut W, s: &[u8]) -> io::Result<()>
-    ensures { OnOk result (Appends (W.contents out.old) (W.contents out.new) (line_of s.now)) }
+    ensures { Prints result (W.contents out.old) (W.contents out.new) (line_of s.now) }
 {
     out.write_all(s)?;
     out.write_all(b"\n")
 }
 
 fn print_refusal<W: Write>(out: &mut W, x: Refusal) -> io::Result<()>
-    ensures { OnOk result (Appends (W.contents out.old) (W.contents out.new) (printed (no (cause_number x.cause) x.place))) }
+    ensures { Prints result (W.contents out.old) (W.contents out.new) (printed (no (cause_number x.cause) x.place)) }
 {
     writeln!(out, "no {x}")
 }
@@ -59,26 +61,32 @@ fn print_refusal<W: Write>(out: &mut W, x: Refusal) -> io::Result<()>
 fn part(s: &[u8], n: usize) -> &[u8]
     ensures { result.now ≡ take n s.now }
 {
-    if n <= s.len() { &s[..n] } else { s }
+    &s[..n.min(s.len())]
 }
 
-fn print_run<W: Write>(out: &mut W, x: Relabelled, text: &[u8], indices: &[u8]) -> io::Result<()>
-    ensures { let lines = run_lines x.read (take x.written.text text.now) (take x.written.indices indices.now) in
-        OnOk result (Appends (W.contents out.old) (W.contents out.new) lines) }
+// A run's counts, and the label that is its normal writing.
+fn print_run<W: Write>(out: &mut W, counts: Counts, normal: Label) -> io::Result<()>
+    ensures { Prints result (W.contents out.old) (W.contents out.new) (run_lines counts normal.entry.text.now normal.entry.indices.now) }
 {
-    print_counts(out, x.read)?;
-    print_line(out, part(text, x.written.text))?;
-    print_line(out, part(indices, x.written.indices))
+    print_counts(out, counts)?;
+    print_line(out, normal.text)?;
+    print_line(out, normal.indices)
 }
 
-// Prints what `relabel` prints of a label's two lines.
-pub fn print_label<W: Write>(out: &mut W, text: &[u8], indices: &[u8]) -> io::Result<()>
-    ensures { OnOk result (Appends (W.contents out.old) (W.contents out.new) (printed (relabel_read text.now indices.now))) }
+// Prints what `relabel` prints of a label of two lines.
+pub fn print_label<W: Write>(out: &mut W, label: Label) -> io::Result<()>
+    ensures { Prints result (W.contents out.old) (W.contents out.new) (printed (relabel_read label.entry.text.now label.entry.indices.now)) }
 {
     let mut out_text = [0u8; Limits::TEXT_BYTES];
     let mut out_indices = [0u8; Limits::INDICES_BYTES];
-    match lines::relabel(text, indices, &mut out_text, &mut out_indices) {
-        Ok(x) => print_run(out, x, &out_text, &out_indices),
+    match lines::relabel(label, &mut out_text, &mut out_indices) {
+        Ok(x) => {
+            let normal = Label {
+                text: part(&out_text, x.written.text),
+                indices: part(&out_indices, x.written.indices),
+            };
+            print_run(out, x.read, normal)
+        }
         Err(x) => print_refusal(out, x),
     }
 }

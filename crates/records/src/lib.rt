@@ -1,15 +1,15 @@
 // The glyphs of a sound run as a list of glyph records.
 #![tactic(auto)]
 
-ghost use Rattle.std.specs.Prelude.{◌≡◌, ◌≤◌, length, take, IsTrue};
-ghost use Rattle.label.specs.Calls.{outcome_of, filled_count, filled_after, list_into};
-ghost use Rattle.label.specs.Fetched.{words};
-ghost use Rattle.label.specs.Sound.{glyph_fits, glyphs_of};
-ghost use Rattle.records.specs.Records.{AllFit};
+ghost use Rattle.std.specs.Prelude.{◌≡◌, ◌≤◌, length, map, IsTrue};
+ghost use Rattle.label.specs.Calls.{outcome_of, filled, filled_count, filled_after, list_into};
+ghost use Rattle.label.specs.Sound.{glyph_fits};
+ghost use Rattle.records.specs.Records.{all_fit};
 ghost use Rattle.wire.specs.Numbers.{as_glyph, as_places};
+ghost use Rattle.wire.specs.Walks.{glyphs_left};
 
 use label::{Advance, Cause, Glyph, Index, Refusal};
-use wire::{GlyphNumbers, Run};
+use wire::{GlyphNumbers, Glyphs, Run};
 
 // The record of a glyph's numbers: a negative index or advance leaves it to the font.
 fn record_of(numbers: GlyphNumbers) -> Glyph
@@ -24,19 +24,25 @@ fn record_of(numbers: GlyphNumbers) -> Glyph
     }
 }
 
-// Stores the records of the first glyphs, as many as `out` has.
-#[tactic(auto, using(crate::proofs::Filled::fills))]
-fn fill(out: &mut [Glyph], glyphs: &[u8])
-    requires room { length out.old ≤ length (glyphs_of (words glyphs.now)) }
-    requires fit { AllFit (words glyphs.now) }
-    ensures { out.new ≡ take (length out.old) (glyphs_of (words glyphs.now)) }
+// Stores the records of the glyphs at the start of `out`.
+// Of a list that a walk goes over by a zip with its `iter_mut` nothing is known afterwards, so each glyph is taken inside the loop.
+#[tactic(auto, using(crate::proofs::Filled::fills), unfolding(crate::specs::Records::all_fit))]
+fn fill(out: &mut [Glyph], glyphs: Glyphs)
+    requires room { length (glyphs_left glyphs) ≤ length out.old }
+    requires fit { IsTrue (all_fit (glyphs_left glyphs)) }
+    ensures { out.new ≡ filled (map as_glyph (glyphs_left glyphs.entry)) out.old }
 {
-    for (k, record) in out.iter_mut().enumerate() {
-        *record = record_of(GlyphNumbers::at(glyphs, k));
+    let mut glyphs = glyphs;
+    for record in out.iter_mut() {
+        let Some(numbers) = glyphs.next() else {
+            break;
+        };
+        *record = record_of(numbers);
     }
 }
 
 // Lists the glyphs of a run in `out`: 19 where the run is not sound, 18 where `out` is too short. The records behind stay, and a refusal changes none.
+
 #[tactic(auto, using(crate::proofs::Listed::listing))]
 pub fn list_records(run: Run, out: &mut [Glyph]) -> Result<usize, Refusal>
     ensures result { let p = as_places run.entry in
@@ -44,35 +50,11 @@ pub fn list_records(run: Run, out: &mut [Glyph]) -> Result<usize, Refusal>
     ensures records { let p = as_places run.entry in
         out.new ≡ filled_after (list_into (length out.old) p) out.old }
 {
-    if !sound::is_sound(run) {
-        return Err(Cause::UnsoundRun.at(0));
-    }
+    sound::check(run)?;
     let n = run.glyph_count();
     if out.len() < n {
         return Err(Cause::GlyphRoom.at(n));
     }
-    fill(&mut out[..n], run.glyphs);
+    fill(out, run.glyphs());
     Ok(n)
-}
-
-// Four records by value, and what the listing into them answers.
-#[derive(Clone, Copy)]
-pub struct Four {
-    pub answer: Result<usize, Refusal>,
-    pub records: [Glyph; 4],
-}
-
-// The same with four records that are passed by value and handed back.
-pub fn list_four(run: Run, records: [Glyph; 4]) -> Four
-    ensures result { let p = as_places run.entry in
-        outcome_of result.answer ≡ filled_count (list_into 4 p) }
-    ensures records { let p = as_places run.entry in
-        result.records ≡ filled_after (list_into 4 p) records }
-{
-    let mut out = records;
-    let answer = list_records(run, &mut out);
-    Four {
-        answer,
-        records: out,
-    }
 }

@@ -2,9 +2,9 @@
 // instead; so it does on standard error where it knows no such argument.
 #![tactic(auto)]
 
-ghost use Rattle.std.specs.Prelude.{take, IfSome, OnOk};
-ghost use Rattle.std.specs.Io.KnownBytes.{Appends};
+ghost use Rattle.std.specs.Prelude.{take, IfSome};
 ghost use Rattle.label.specs.Relabel.{relabel};
+ghost use Rattle.printing.specs.Prints.{Prints};
 
 use std::env::{Env, FillError};
 use std::io;
@@ -41,16 +41,16 @@ fn asks_for_help(rt: &impl Env) -> bool {
 
 // Prints the label of the first two lines.
 fn print_first<W: Write>(out: &mut W, s: &[u8]) -> io::Result<()>
-    ensures { OnOk result (Appends (W.contents out.old) (W.contents out.new) (relabel s.now)) }
+    ensures { Prints result (W.contents out.old) (W.contents out.new) (relabel s.now) }
 {
     let lines = lines::two_lines(s);
-    printing::print_label(out, lines.text, lines.indices)
+    printing::print_label(out, lines.label)
 }
 
 // 65,536 bytes hold two lines of the lengths that are read, and show that a longer line is too long.
 fn relabel_input<R: Read, W: Write>(input: &mut R, out: &mut W) -> io::Result<()>
     ensures { IfSome (R.remaining input.old) (λ bytes.
-        OnOk result (Appends (W.contents out.old) (W.contents out.new) (relabel (take 65536 bytes)))) }
+        Prints result (W.contents out.old) (W.contents out.new) (relabel (take 65536 bytes))) }
 {
     let mut buffer = [0u8; 65_536];
     let n = printing::read_full(input, &mut buffer)?;

@@ -7,19 +7,20 @@ use Rattle.label.specs.Calls.{numbers_after}
 use Rattle.label.specs.Requests.Sheet.{answer, answers}
 use Rattle.label.specs.Steps.{labels_from}
 use Rattle.label.specs.Write.{Label}
+use Rattle.std.specs.Int.{to_le_bytes}
 use mir.Syntax.{w32}
 use Rattle.label.proofs.Basics.{no_ok, and_l, and_r}
 use Rattle.label.proofs.Run.{ok_path}
 use Rattle.label.proofs.Wire.{in32, all32, in32_below, length_words, words_append}
 use Rattle.label.proofs.Statements.Sheet.{answer_32}
 use Rattle.label.proofs.Requests.Sheet.{length_answer, length_answers, answers_append}
-use Rattle.wire.proofs.Signed.{back}
+use Rattle.wire.proofs.Stored.{four_are}
 use Rattle.octets.specs.Puts.{Put}
 use Rattle.octets.specs.Outputs.{Gains}
 use Rattle.octets.specs.declared.Output.{Output}
 use Rattle.octets.proofs.Outputs.{nothing, then, gains_as}
 use Rattle.octets.proofs.Puts.{put_room}
-use Rattle.sheet.specs.declared.Label.{Label as Part}
+use Rattle.label.specs.declared.Label.{Label as Part}
 use Rattle.sheet.specs.declared.Records.{Records}
 use Rattle.sheet.specs.Records.{label_of, GivesRecord, Accepted, answers_of}
 use Rattle.sheet.proofs.Walk.{Walked, start, end, cut, next}
@@ -69,17 +70,24 @@ module _ {all : List ℕ} {old new : Output} {s : Records} (g : Stored all old s
       let p : Put old.bytes.now 0 (from_words (answers g.before)) new.at new.bytes.now = rw z at (g.gained.put (omega arith)) in
       rw e (put_room p few)
 
--- numbers that fit are stored as they are
-stored_as : (a : List ℤ) → length a ≡ 2 → all32 a ≡ true
-    → (to_z w32 (of_z w32 (get_or a 0 (pos 0))) ∷ to_z w32 (of_z w32 (get_or a 1 (pos 0))) ∷ []) ≡ a
-stored_as (n ∷ p ∷ []) h k =
+-- the bytes that the library gives of a number in an array
+abbrev bytes_of : ℤ → List ℕ
+bytes_of z = to_le_bytes w32 (of_z w32 (to_z w32 (of_z w32 z)))
+
+-- the two numbers of an answer, and that their bytes are those of the definitions
+pub record Numbers (a : List ℤ) : Type 0 where
+  pub are : (get_or a 0 (pos 0) ∷ get_or a 1 (pos 0) ∷ []) ≡ a
+  pub number : bytes_of (get_or a 0 (pos 0)) ≡ four_bytes (bits_of (get_or a 0 (pos 0)))
+  pub place : bytes_of (get_or a 1 (pos 0)) ≡ four_bytes (bits_of (get_or a 1 (pos 0)))
+
+two_numbers : (a : List ℤ) → length a ≡ 2 → all32 a ≡ true → Numbers a
+two_numbers (n ∷ p ∷ []) h k =
     let i : in32 n ≡ true = and_l (in32 n) (in32 p && true) k in
     let j : in32 p ≡ true = and_l (in32 p) true (and_r (in32 n) (in32 p && true) k) in
-    rw (back n (in32_below n i), back p (in32_below p j))
-stored_as [] h k = absurd (omega arith)
-stored_as (n ∷ []) h k = absurd (omega arith)
-stored_as (n ∷ p ∷ q ∷ a) h k = absurd (omega arith)
+    record { are = refl; number = four_are n (record { sfits = in32_below n i }); place = four_are p (record { sfits = in32_below p j }) }
+two_numbers [] h k = absurd (omega arith)
+two_numbers (n ∷ []) h k = absurd (omega arith)
+two_numbers (n ∷ p ∷ q ∷ a) h k = absurd (omega arith)
 
-pub as_stored : (l : Label) {a : List ℤ} → a ≡ answer l
-    → (to_z w32 (of_z w32 (get_or a 0 (pos 0))) ∷ to_z w32 (of_z w32 (get_or a 1 (pos 0))) ∷ []) ≡ answer l
-as_stored l e = rw e (stored_as (answer l) (length_answer l) (answer_32 l))
+pub numbers : (l : Label) {a : List ℤ} → a ≡ answer l → Numbers a
+numbers l e = rw e (two_numbers (answer l) (length_answer l) (answer_32 l))

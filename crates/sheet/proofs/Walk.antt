@@ -8,7 +8,7 @@ use Rattle.label.specs.Bytes.{begins}
 use Rattle.label.specs.Steps.{labels_from}
 use Rattle.label.specs.Write.{Label}
 use Rattle.label.proofs.Requests.Sheet.{labels_none, labels_cut, labels_whole}
-use Rattle.sheet.specs.declared.Label.{Label as Part}
+use Rattle.label.specs.declared.Label.{Label as Part}
 use Rattle.sheet.specs.declared.Records.{Records}
 use Rattle.sheet.specs.Records.{label_of, IsRecord, GivesRecord}
 

@@ -9,7 +9,7 @@ use Rattle.label.specs.Requests.Sheet.{header, record_length, is_record, record_
 use Rattle.label.specs.Steps.{labels_from}
 use Rattle.label.specs.declared.Cause.TheVariants.{BadSheetMark}
 use Rattle.label.specs.declared.Refusal.{Refusal}
-use Rattle.sheet.specs.declared.Label.{Label}
+use Rattle.label.specs.declared.Label.{Label}
 use Rattle.sheet.specs.declared.Records.{Records}
 
 -- a label where it stands in the file, as one by itself

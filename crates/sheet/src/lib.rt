@@ -6,21 +6,12 @@ ghost use Rattle.std.specs.Iterator.{at_most};
 ghost use Rattle.label.specs.Calls.{outcome_of, filled_count, numbers_after};
 ghost use Rattle.label.specs.Requests.Sheet.{is_record, answer, list_room, sheet_into};
 ghost use Rattle.label.specs.Steps.{labels_from};
-ghost use Rattle.label.specs.Wire.{bits_of, four_bytes};
-ghost use Rattle.octets.specs.Outputs.{Gains};
 ghost use Rattle.sheet.specs.Records.{label_of, IsRecord, GivesRecord, Opens, Accepted, answers_of};
 
-use label::{Cause, Refusal};
+use label::{Cause, Label, Refusal};
 use octets::Output;
 
 // ── records ──
-
-// A label where it stands in the file: nothing of it is copied.
-#[derive(Clone, Copy)]
-struct Label<'a> {
-    text: &'a [u8],
-    indices: &'a [u8],
-}
 
 // The label of the record that stands first, two lengths, of 2 and of 4 bytes, the text and the indices; and the bytes behind it. None: they end inside it.
 #[tactic(auto, using(crate::proofs::Splits::splits))]
@@ -76,7 +67,7 @@ impl<'a> Iterator for Records<'a> {
     }
 }
 
-// How many labels there are.
+// How many labels there are: a count beside the walk, as it is the result and, where a record is cut, the number of that record.
 fn count_labels(records: Records) -> Result<usize, Refusal>
     ensures { outcome_of result ≡ filled_count (labels_from 0 0 records.entry.rest.now) }
 {
@@ -94,16 +85,10 @@ fn count_labels(records: Records) -> Result<usize, Refusal>
 fn answer_to(label: Label) -> [i32; 2]
     ensures { result ≡ answer (label_of label.entry) }
 {
-    match survey::survey(label.text, label.indices) {
+    match survey::survey(label) {
         Ok(_) => [0, 0],
         Err(x) => [x.cause.number() as i32, x.place as i32],
     }
-}
-
-fn put_number(list: &mut Output, n: i32)
-    ensures { Gains list.old (four_bytes (bits_of n)) list.new }
-{
-    list.put_bytes(&n.to_le_bytes());
 }
 
 // Stores the answers to all labels, two numbers each, from the start of the list on. A file that was judged ends inside no record.
@@ -118,8 +103,8 @@ fn put_answers(records: Records, answers: &mut [u8])
     for label in records {
         let Some(label) = label else { unreachable!() };
         let [number, place] = answer_to(label);
-        put_number(&mut list, number);
-        put_number(&mut list, place);
+        list.put_bytes(&number.to_le_bytes());
+        list.put_bytes(&place.to_le_bytes());
     }
 }
 
@@ -132,7 +117,7 @@ pub fn read_sheet(file: &[u8], answers: &mut [u8]) -> Result<usize, Refusal>
 {
     let records = Records::of(file)?;
     let labels = count_labels(records)?;
-    if wire::number_count(answers) / 2 < labels {
+    if answers.len() / 8 < labels {
         return Err(Cause::AnswerRoom.at(labels));
     }
     put_answers(records, answers);

@@ -16,15 +16,16 @@ use Rattle.sound.specs.declared.Walk.{Walk}
 unfoldable pub well_run : List ℕ → List ℤ → List ℤ → Bool
 well_run us cs gs = whole_clusters cs && (whole_glyphs gs && fits (empty us) 0 us (clusters_of cs) (glyphs_of gs))
 
--- a glyph may stand where the walk stands, and so may the cluster that it opens, if any
+-- the cluster that a glyph opens may stand where the walk stands; where it opens none, it names its index
 abbrev pub stands : List ℕ → Walk → GlyphNumbers → Option ClusterNumbers → Bool
 stands us w g None = named (as_glyph g).index
 stands us w g (Some c) = opens_at us w.units c g
 
+-- an entry may stand where the walk stands
 unfoldable pub may_stand : List ℕ → Walk → EntryNumbers → Bool
 may_stand us w x = glyph_ok x.glyph && (not w.tail || is_font (as_glyph x.glyph)) && stands us w x.glyph x.cluster
 
--- the walk behind them
+-- the walk behind a glyph and the cluster that it opens, if any
 abbrev pub opened : Walk → GlyphNumbers → Option ClusterNumbers → Walk
 opened w g None = w
 opened w g (Some c) =
@@ -35,6 +36,7 @@ opened w g (Some c) =
       tail = w.tail || owes (as_cluster c) (as_glyph g);
     }
 
+-- the walk behind an entry
 abbrev pub behind : Walk → EntryNumbers → Walk
 behind w x = opened w x.glyph x.cluster
 

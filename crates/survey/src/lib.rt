@@ -1,7 +1,7 @@
 // The first pass over a label's text and indices: it judges 1 to 15 of document 01's checks and counts; nothing is stored.
 #![tactic(auto)]
 
-ghost use Rattle.std.specs.Prelude.{◌+◌, ◌≤◌, ◌≡◌, [], not, ◌&&◌, eqb, leb, length, drop, IfOk};
+ghost use Rattle.std.specs.Prelude.{◌+◌, ◌≤◌, ◌≡◌, [], not, ◌&&◌, eqb, leb, length, IfOk};
 ghost use Rattle.label.specs.Limits.{max_text_bytes, max_indices_bytes, max_units};
 ghost use Rattle.label.specs.Outcome.{ok};
 ghost use Rattle.label.specs.Run.{named, tail};
@@ -10,7 +10,7 @@ ghost use Rattle.label.specs.Steps.{walk, run_from};
 ghost use Rattle.label.specs.Calls.{reading_outcome, reading_rounded, counted};
 ghost use Rattle.label.specs.Requests.RoundedCount.{rounded as rounded_in, beside};
 ghost use Rattle.text.specs.Moves.{units, Moves};
-ghost use Rattle.survey.specs.Steps.{bare, state_at, advanced, Behind, Opens, Turns, counts_within, counted_from, Starts, reading_of};
+ghost use Rattle.survey.specs.Steps.{bare, state_at, advanced, Opens, Turns, counts_within, counted_from, Starts, reading_of};
 
 mod walk;
 
@@ -119,7 +119,7 @@ impl<'a> Walk<'a> {
         }
     }
 
-    // An entry's checks 10 to 13.
+    // An entry's checks 10 to 13. There is one, so no more than the indices have bytes were taken before it.
     fn take_entry(self, x: entry::Item) -> Result<Walk<'a>, Refusal>
         requires { self.at.entry ≤ max_indices_bytes }
         ensures { Turns self.entry x result }

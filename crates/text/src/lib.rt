@@ -77,7 +77,7 @@ fn characters_from(text: &[u8], at: usize) -> Characters<'_>
 
 // ── a text's units ──
 
-// How many units a character is.
+// How many units a character is. Its number is no `char` (`utf8::Char`), whose `len_utf16` says the same.
 #[tactic(auto, unfolding(label::specs::Text::units_of))]
 fn unit_count(code: u32) -> usize
     ensures value { result ≡ length (units_of code) }
@@ -144,7 +144,7 @@ fn halves(c: u32) -> (u16, u16)
 }
 
 // Stores the units of a character as units n and following; the number of the next.
-// The number stands beside the bytes, not an `octets::Output`, which tests for room and counts at each byte: a unit is stored as two bytes at once.
+// The number stands beside the bytes: with an `octets::Output`, which tests for room and counts at each byte, letters take three times as long.
 #[tactic(auto, unfolding(label::specs::Text::units_of, label::specs::Wire::from_halves, octets::specs::Puts::puts))]
 fn put_char(out: &mut [u8], n: usize, c: u32) -> usize
     requires { (c ≤ 1114111) × (2 * (n + length (units_of c)) ≤ length out.old) }

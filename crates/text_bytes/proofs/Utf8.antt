@@ -13,6 +13,10 @@ use lib.Dec.{leb}
 use lib.ListN.{length, get_or, drop, length-append, drop_of_length-le}
 use lib.Seq.{drop-cons, get_or-drop}
 use Rattle.std.proofs.lemmas.Bool.Decides.{nat_tests}
+use Rattle.std.specs.Prelude.{nat_eq}
+use Rattle.std.specs.List.{starts_with}
+use Rattle.std.proofs.lemmas.Grind.{common_steps}
+use Rattle.label.specs.Fetched.{halves}
 use Rattle.label.specs.Bytes.{ascii}
 use Rattle.label.specs.Text.{braced}
 use Rattle.label.specs.Write.{unit_bytes, units_bytes, text_of}
@@ -46,6 +50,13 @@ unfolding units_bytes
 asked_end e us i h = rw (drop_of_length-le us h) (asked_nil e)
 
 -- ── the text ──
+
+-- the code's test of the first two bytes
+pub starts_braced : (s : List ℕ) → get_or s 0 0 < 256 → starts_with nat_eq s (123 ∷ 0 ∷ []) ≡ braced (halves s)
+unfolding halves
+starts_braced [] h = refl
+starts_braced (a ∷ []) h = grind (arith, common_steps)
+starts_braced (a ∷ b ∷ s) h = grind (arith, common_steps)
 
 marked : (e : Bool) (s : List ℕ) → 123 ∷ 125 ∷ as_asked e s ≡ as_asked e (123 ∷ 125 ∷ s)
 unfolding escape escape_byte

@@ -44,7 +44,7 @@ pub fn put_char(out: &mut Output, c: u32)
 
 // ── a unit ──
 
-// The character of a pair.
+// The character of a pair. The unit behind a high half may be no low half: `char::decode_utf16` has an error for it, where the definition has bytes.
 fn pair_of(h: u16, l: u16) -> u32
     requires { (55296 ≤ h) × (h ≤ 56319) }
     ensures { (result ≡ paired h l) × (result < 2097152) }
@@ -85,6 +85,7 @@ fn put_escaped(out: &mut Output, b: u8)
 
 // The same as it is asked for. Only a character of one byte can be one of the six.
 // `escape` is a bool, as the definition `as_asked` has it: an enum would add its reading as one to the contract of each function that hands it on.
+// It is no field of the output, nor of a struct with the units: what an output gains is said of it alone, and most stores do not ask for it.
 fn put_asked(escape: bool, out: &mut Output, u: u16, v: u16)
     ensures { Gains out.old (as_asked escape (unit_bytes u v)) out.new }
 {
@@ -97,6 +98,7 @@ fn put_asked(escape: bool, out: &mut Output, u: u16, v: u16)
 
 // ── a run's units ──
 
+// Each unit with the one behind it. The last has none, and `array_windows` leaves it out, so they are fetched by their numbers.
 fn put_units(escape: bool, out: &mut Output, us: &[u8])
     ensures { Gains out.old (as_asked escape (units_bytes (halves us.now))) out.new }
 {
@@ -105,11 +107,11 @@ fn put_units(escape: bool, out: &mut Output, us: &[u8])
     }
 }
 
-// Whether the text of these units begins with `{}`: they begin with `{`.
+// Whether the text of these units begins with `{}`: the first of them is `{`, in two bytes.
 fn is_braced(us: &[u8]) -> bool
     ensures { result ≡ braced (halves us.now) }
 {
-    wire::unit_at(us, 0) == 123
+    us.starts_with(b"{\0")
 }
 
 // The text of a run's units. `{}` has none of the six bytes.
@@ -127,10 +129,7 @@ pub fn text_length(escape: bool, us: &[u8]) -> usize
     requires { length (halves us.now) ≤ 1000000000000 }
     ensures { result ≡ length (as_asked escape (text_of (halves us.now))) }
 {
-    let mut none = Output {
-        bytes: &mut [],
-        at: 0,
-    };
-    put_text(escape, &mut none, us);
-    none.at
+    let mut counted = Output::counting();
+    put_text(escape, &mut counted, us);
+    counted.at
 }

@@ -1,12 +1,9 @@
--- A run's units one at a time, as the code tests them.
+-- A run's units one by one.
 -- Assumes nothing.
-use Rattle.std.specs.Prelude.{ℕ, Bool, false, cond, ◌||◌}
-use Rattle.label.specs.Text.{xml_char, is_high, is_low}
+use Rattle.std.specs.Prelude.{ℕ, List}
+use Rattle.label.specs.Fetched.{halves}
+use Rattle.units.specs.declared.Units.{Units}
 
--- a unit may stand here; `half`: the unit before is a high half
-abbrev pub unit_ok : Bool → ℕ → Bool
-unit_ok half u = cond half (is_low u) (is_high u || xml_char u)
-
--- whether the unit behind it has to be a low half
-abbrev pub next_half : Bool → ℕ → Bool
-next_half half u = cond half false (is_high u)
+-- those that a walk has left
+abbrev pub units_left : Units → List ℕ
+units_left w = halves w.rest.now

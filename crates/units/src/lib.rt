@@ -5,7 +5,8 @@ ghost use Rattle.std.specs.Prelude.{◌≡◌, false, ◌/◌, ◌≤◌, length
 ghost use Rattle.label.specs.Text.{is_high, is_low, is_pair};
 ghost use Rattle.label.specs.Fetched.{halves};
 ghost use Rattle.label.specs.Sound.{proper_units};
-ghost use Rattle.units.specs.Units.{unit_ok, next_half};
+ghost use Rattle.std.specs.Iterator.{YieldsFirst, item_count};
+ghost use Rattle.units.specs.Units.{units_left};
 
 // ── a unit in hand ──
 
@@ -22,45 +23,45 @@ pub fn is_low(u: u16) -> bool
     matches!(u, 0xdc00..=0xdfff)
 }
 
-// A unit may stand behind a high half, or where no high half is before it.
-fn unit_ok(half: bool, u: u16) -> bool
-    ensures { result ≡ unit_ok half u }
-{
-    if half {
-        is_low(u)
-    } else {
-        is_high(u) || utf8::is_xml(u32::from(u))
-    }
-}
-
-// Whether the unit behind u has to be a low half.
-fn next_half(half: bool, u: u16) -> bool
-    ensures { result ≡ next_half half u }
-{
-    is_high(u) && !half
-}
-
 // ── the units of a run ──
 
 // Whether the two units at j are the halves of one pair.
 pub fn is_pair_at(us: &[u8], j: usize) -> bool
-    requires { j ≤ length us.now / 2 }
     ensures { result ≡ is_pair (drop j (halves us.now)) }
 {
     is_high(wire::unit_at(us, j)) && is_low(wire::unit_at(us, j + 1))
+}
+
+// The units in these bytes, one by one. A byte behind them that is no whole unit is none.
+#[derive(Clone, Copy)]
+struct Units<'a> {
+    rest: &'a [u8],
+}
+
+impl Iterator for Units<'_> {
+    type Item = u16;
+
+    ghost next_gives = { YieldsFirst units_left };
+
+    ghost remaining = { item_count units_left };
+
+    #[tactic(auto, using(crate::proofs::Proper::steps))]
+    fn next(&mut self) -> Option<u16> {
+        let (unit, rest) = self.rest.split_first_chunk::<2>()?;
+        self.rest = rest;
+        Some(u16::from_le_bytes(*unit))
+    }
 }
 
 // The units are well-formed XML characters.
 pub fn proper_units(us: &[u8]) -> bool
     ensures { result ≡ proper_units false (halves us.now) }
 {
-    let mut half = false;
-    for j in 0..wire::unit_count(us) {
-        let u = wire::unit_at(us, j);
-        if !unit_ok(half, u) {
+    for c in char::decode_utf16(Units { rest: us }) {
+        let Ok(c) = c else { return false };
+        if !utf8::is_xml(u32::from(c)) {
             return false;
         }
-        half = next_half(half, u);
     }
-    !half
+    true
 }

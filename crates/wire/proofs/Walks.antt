@@ -21,14 +21,14 @@ few_clusters (a ∷ b ∷ z) h = absurd (omega arith)
 pub no_cluster : (s : List ℕ) → length s < 8 → clusters_in (words s) ≡ []
 no_cluster s h = few_clusters (words s) (omega (arith, words_length s))
 
-two : (z : List ℤ) → 2 ≤ length z → clusters_in z ≡ cluster_numbers (take 2 z) 0 ∷ clusters_in (drop 2 z)
+two : (z : List ℤ) → 2 ≤ length z → clusters_in z ≡ cluster_numbers (take 2 z) ∷ clusters_in (drop 2 z)
 unfolding clusters_in cluster_numbers
 two [] h = absurd (omega arith)
 two (a ∷ []) h = absurd (omega arith)
 two (a ∷ b ∷ z) h = refl
 
 -- 8 bytes are the first
-pub first_cluster : (s : List ℕ) → 8 ≤ length s → clusters_in (words s) ≡ cluster_numbers (words (take 8 s)) 0 ∷ clusters_in (words (drop 8 s))
+pub first_cluster : (s : List ℕ) → 8 ≤ length s → clusters_in (words s) ≡ cluster_numbers (words (take 8 s)) ∷ clusters_in (words (drop 8 s))
 first_cluster s h = rw (← words_take 2 s, ← words_drop 2 s) (two (words s) (omega (arith, words_length s)))
 
 few_glyphs : (z : List ℤ) → length z < 4 → glyphs_in z ≡ []
@@ -43,7 +43,7 @@ few_glyphs (i ∷ a ∷ u ∷ v ∷ z) h = absurd (omega arith)
 pub no_glyph : (s : List ℕ) → length s < 16 → glyphs_in (words s) ≡ []
 no_glyph s h = few_glyphs (words s) (omega (arith, words_length s))
 
-four : (z : List ℤ) → 4 ≤ length z → glyphs_in z ≡ glyph_numbers (take 4 z) 0 ∷ glyphs_in (drop 4 z)
+four : (z : List ℤ) → 4 ≤ length z → glyphs_in z ≡ glyph_numbers (take 4 z) ∷ glyphs_in (drop 4 z)
 unfolding glyphs_in glyph_numbers
 four [] h = absurd (omega arith)
 four (i ∷ []) h = absurd (omega arith)
@@ -52,7 +52,7 @@ four (i ∷ a ∷ u ∷ []) h = absurd (omega arith)
 four (i ∷ a ∷ u ∷ v ∷ z) h = refl
 
 -- 16 bytes are the first
-pub first_glyph : (s : List ℕ) → 16 ≤ length s → glyphs_in (words s) ≡ glyph_numbers (words (take 16 s)) 0 ∷ glyphs_in (words (drop 16 s))
+pub first_glyph : (s : List ℕ) → 16 ≤ length s → glyphs_in (words s) ≡ glyph_numbers (words (take 16 s)) ∷ glyphs_in (words (drop 16 s))
 first_glyph s h = rw (← words_take 4 s, ← words_drop 4 s) (four (words s) (omega (arith, words_length s)))
 
 -- no cluster is left to open

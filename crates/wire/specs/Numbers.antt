@@ -1,6 +1,6 @@
 -- The numbers of a run: one of them, a cluster's two, a glyph's four; and what those of a cluster, a glyph and a run stand for.
 -- Assumes nothing.
-use Rattle.std.specs.Prelude.{ℕ, ◌+◌, ◌*◌, List, ℤ, pos, get_or}
+use Rattle.std.specs.Prelude.{ℕ, List, ℤ, pos, get_or}
 use Rattle.label.specs.Places.{Places, places}
 use Rattle.label.specs.Run.{cluster}
 use Rattle.label.specs.Sound.{nat, number_index, number_advance}
@@ -10,17 +10,16 @@ use Rattle.wire.specs.declared.ClusterNumbers.{ClusterNumbers}
 use Rattle.wire.specs.declared.GlyphNumbers.{GlyphNumbers}
 use Rattle.wire.specs.declared.Run.{Run}
 
--- place k of numbers; past the end 0
+-- number k of these; past the end 0
 abbrev pub place : List ℤ → ℕ → ℤ
 place s k = get_or s k (pos 0)
 
--- the two numbers of cluster n
-unfoldable pub cluster_numbers : List ℤ → ℕ → ClusterNumbers
-cluster_numbers s n = record { units = place s (2 * n); glyphs = place s (2 * n + 1) }
+-- the numbers of the cluster that stands first, and of the glyph
+unfoldable pub cluster_numbers : List ℤ → ClusterNumbers
+cluster_numbers s = record { units = place s 0; glyphs = place s 1 }
 
--- the four numbers of glyph k
-unfoldable pub glyph_numbers : List ℤ → ℕ → GlyphNumbers
-glyph_numbers s k = record { index = place s (4 * k); advance = place s (4 * k + 1); u = place s (4 * k + 2); v = place s (4 * k + 3) }
+unfoldable pub glyph_numbers : List ℤ → GlyphNumbers
+glyph_numbers s = record { index = place s 0; advance = place s 1; u = place s 2; v = place s 3 }
 
 -- the cluster and the glyph that have these numbers
 abbrev pub as_cluster : ClusterNumbers → Cluster

@@ -10,11 +10,11 @@ ghost use Rattle.label.specs.Places.{index_number, advance_number};
 ghost use Rattle.label.specs.Run.{named};
 ghost use Rattle.label.specs.Sound.{nat as nat_of, clusters_of, glyphs_of, is_font};
 ghost use Rattle.octets.specs.Puts.{puts};
-ghost use Rattle.wire.specs.Numbers.{as_glyph, glyph_numbers, cluster_numbers};
+ghost use Rattle.wire.specs.Numbers.{as_cluster, as_glyph, glyph_numbers, cluster_numbers};
 ghost use Rattle.wire.specs.Stores.{cluster_stored, glyph_stored, glyph_places};
 ghost use Rattle.wire.specs.Walks.{clusters_in, glyphs_in, entries_in, clusters_left, glyphs_left, entries_left};
 
-use label::{Advance, Glyph, Index};
+use label::{Advance, Cluster, Glyph, Index};
 
 // ── how many ──
 
@@ -24,13 +24,6 @@ pub fn unit_count(s: &[u8]) -> usize
     ensures bounds { result ≡ length s.now / 2 }
 {
     s.len() / 2
-}
-
-pub fn number_count(s: &[u8]) -> usize
-    ensures value { result ≡ length (words s.now) }
-    ensures bounds { result ≡ length s.now / 4 }
-{
-    s.len() / 4
 }
 
 // ── fetched ──
@@ -68,23 +61,11 @@ impl ClusterNumbers {
     // Those in these bytes.
     #[tactic(auto, using(crate::proofs::Fetched::words_length), unfolding(crate::specs::Numbers::cluster_numbers))]
     fn of(bytes: &[u8; 8]) -> ClusterNumbers
-        ensures { result ≡ cluster_numbers (words bytes.now) 0 }
+        ensures { result ≡ cluster_numbers (words bytes.now) }
     {
         ClusterNumbers {
             units: number(bytes, 0),
             glyphs: number(bytes, 1),
-        }
-    }
-
-    // Those of cluster n.
-    #[tactic(auto, using(crate::proofs::Fetched::words_length), unfolding(crate::specs::Numbers::cluster_numbers))]
-    pub fn at(clusters: &[u8], n: usize) -> ClusterNumbers
-        requires { n < length clusters.now / 8 }
-        ensures { result ≡ cluster_numbers (words clusters.now) n }
-    {
-        ClusterNumbers {
-            units: number(clusters, 2 * n),
-            glyphs: number(clusters, 2 * n + 1),
         }
     }
 
@@ -104,6 +85,18 @@ impl ClusterNumbers {
     }
 }
 
+// The cluster that has these numbers, 0 for a negative one.
+impl From<ClusterNumbers> for Cluster {
+    ghost from_gives = { λ n c. c ≡ as_cluster n };
+
+    fn from(numbers: ClusterNumbers) -> Cluster {
+        Cluster {
+            units: u32::try_from(numbers.units).unwrap_or(0),
+            glyphs: u32::try_from(numbers.glyphs).unwrap_or(0),
+        }
+    }
+}
+
 // A glyph's index, −1 for the font; its advance, −1 for the font's own; and its two offsets.
 #[derive(Clone, Copy)]
 pub struct GlyphNumbers {
@@ -117,27 +110,13 @@ impl GlyphNumbers {
     // Those in these bytes.
     #[tactic(auto, using(crate::proofs::Fetched::words_length), unfolding(crate::specs::Numbers::glyph_numbers))]
     fn of(bytes: &[u8; 16]) -> GlyphNumbers
-        ensures { result ≡ glyph_numbers (words bytes.now) 0 }
+        ensures { result ≡ glyph_numbers (words bytes.now) }
     {
         GlyphNumbers {
             index: number(bytes, 0),
             advance: number(bytes, 1),
             u: number(bytes, 2),
             v: number(bytes, 3),
-        }
-    }
-
-    // Those of glyph k.
-    #[tactic(auto, using(crate::proofs::Fetched::words_length), unfolding(crate::specs::Numbers::glyph_numbers))]
-    pub fn at(glyphs: &[u8], k: usize) -> GlyphNumbers
-        requires { k < length glyphs.now / 16 }
-        ensures { result ≡ glyph_numbers (words glyphs.now) k }
-    {
-        GlyphNumbers {
-            index: number(glyphs, 4 * k),
-            advance: number(glyphs, 4 * k + 1),
-            u: number(glyphs, 4 * k + 2),
-            v: number(glyphs, 4 * k + 3),
         }
     }
 
@@ -312,16 +291,7 @@ pub fn put_unit(out: &mut [u8], j: usize, u: u16)
     out[i..i + 2].copy_from_slice(&u.to_le_bytes());
 }
 
-// by its bits
-pub fn put_bits(out: &mut [u8], k: usize, n: u32)
-    requires { k < length out.old / 4 }
-    ensures { out.new ≡ puts out.old (4 * k) (four_bytes n) }
-{
-    let i = 4 * k;
-    out[i..i + 4].copy_from_slice(&n.to_le_bytes());
-}
-
-pub fn put_number(out: &mut [u8], k: usize, v: i32)
+fn put_number(out: &mut [u8], k: usize, v: i32)
     requires { k < length out.old / 4 }
     ensures { out.new ≡ puts out.old (4 * k) (four_bytes (bits_of v)) }
 {
@@ -351,7 +321,7 @@ fn index_number(i: Index) -> i32
     }
 }
 
-// An advance's, by its bits.
+// An advance's, likewise; one of more than 31 bits keeps its bits.
 fn advance_number(a: Advance) -> i32
     ensures { bits_of result ≡ bits_of (advance_number a) }
 {
@@ -361,6 +331,7 @@ fn advance_number(a: Advance) -> i32
     }
 }
 
+// The numbers of a glyph record, to be stored.
 impl From<Glyph> for GlyphNumbers {
     ghost from_gives = { λ g n. glyph_stored n ≡ glyph_places g };
 

@@ -1,15 +1,16 @@
--- The writer's call: one law for each return, by 19, 20 and 21 in order (`write_steps`).
+-- The writer's call: that 19 was passed, and one law for each return behind it, by 20 and 21 in order (`write_steps`).
 -- Assumes nothing.
 use Rattle.std.proofs.Common.{Err, Result}
+use Rattle.label.proofs.Basics.{no_ok}
 use Rattle.label.proofs.Steps.{write_steps}
-use mathlib.Core.Path.{◌≡◌, refl, ◌∙◌}
+use mathlib.Core.Path.{◌≡◌, refl, sym, ◌∙◌}
 use mathlib.Core.Bool.{Bool, true, false}
 use mathlib.Core.List.{List}
 use Prim.Native.Nat.{ℕ, ◌<◌, ◌≤◌}
 use native.Mathlib.Omega.{arith}
 use borrow.Author.Tests.{le-leb, lt-leb}
 use lib.ListN.{length}
-use Rattle.label.specs.Outcome.{Outcome, ok, no}
+use Rattle.label.specs.Outcome.{Outcome, ok, no, need}
 use Rattle.label.specs.Fetched.{halves, words}
 use Rattle.label.specs.Places.{places}
 use Rattle.label.specs.Sound.{clusters_of, glyphs_of, sound}
@@ -17,7 +18,6 @@ use Rattle.label.specs.Write.{text_of, indices_of, Label}
 use Rattle.label.specs.Cause.{cause_number}
 use Rattle.label.specs.Calls.{refusal, outcome_of, write_asked, outputs, lengths, text_after, indices_after}
 use Rattle.label.specs.Requests.Attribute.{as_asked}
-use Rattle.label.specs.declared.Cause.{Cause}
 use Rattle.label.specs.declared.Cause.TheVariants as C
 use Rattle.label.specs.declared.Lengths.{Lengths}
 use Rattle.label.specs.declared.Refusal.{Refusal}
@@ -29,8 +29,13 @@ use Rattle.octets.proofs.Puts.{put_room}
 abbrev Answer : Outcome Label → Result Lengths Refusal → List ℕ → List ℕ → List ℕ → List ℕ → Type 0
 Answer w r T T' I I' = record { result : outcome_of r ≡ lengths w; text : T' ≡ text_after w T; indices : I' ≡ indices_after w I }
 
-refuses : {w : Outcome Label} {x : Refusal} (c : Cause) (p : ℕ) (T I : List ℕ) → x ≡ refusal c p → w ≡ no (cause_number c) p → Answer w (Err x) T T I I
-refuses c p T I f e = rw (e, f) (record { result = refl; text = refl; indices = refl })
+refuses : {w : Outcome Label} (x : Refusal) (T I : List ℕ) → w ≡ no (cause_number x.cause) x.place → Answer w (Err x) T T I I
+refuses x T I e = rw e (record { result = refl; text = refl; indices = refl })
+
+-- the check of 19 was passed
+pub passed : {b : Bool} → ok tt ≡ need b 19 0 → b ≡ true
+passed {b = true} e = refl
+passed {b = false} e = no_ok 19 0 tt (sym e)
 
 module _ (a : Bool) (us cs gs T I : List ℕ) where
   abbrev W : Outcome Label
@@ -42,22 +47,16 @@ module _ (a : Bool) (us cs gs T I : List ℕ) where
   abbrev i : ℕ
   i = length (indices_of (clusters_of (words cs)) (glyphs_of (words gs)))
 
-  pub refuses_19 : {x : Refusal} → x ≡ refusal C.UnsoundRun 0 → sound (places us cs gs) ≡ false → Answer W (Err x) T T I I
-  refuses_19 f k = refuses C.UnsoundRun 0 T I f is
-    where
-      is : W ≡ no 19 0
-      is = write_steps a (outputs T I) (places us cs gs) ∙ rw k
-
   module _ (yes : sound (places us cs gs) ≡ true) {n : ℕ} (et : n ≡ t) where
     pub refuses_20 : {x : Refusal} → x ≡ refusal C.TextRoom n → length T < n → Answer W (Err x) T T I I
-    refuses_20 f h = refuses C.TextRoom n T I f is
+    refuses_20 f h = rw f (refuses (refusal C.TextRoom n) T I is)
       where
         is : W ≡ no 20 n
         is = write_steps a (outputs T I) (places us cs gs) ∙ rw (yes, lt-leb t (length T) (omega arith), et)
 
     module _ (h : n ≤ length T) {m : ℕ} (ei : m ≡ i) where
       pub refuses_21 : {x : Refusal} → x ≡ refusal C.IndicesRoom m → length I < m → Answer W (Err x) T T I I
-      refuses_21 f l = refuses C.IndicesRoom m T I f is
+      refuses_21 f l = rw f (refuses (refusal C.IndicesRoom m) T I is)
         where
           is : W ≡ no 21 m
           is = write_steps a (outputs T I) (places us cs gs)

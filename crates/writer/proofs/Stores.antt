@@ -1,29 +1,30 @@
--- The indices as they are stored: an entry behind the separators owed before it, and what is left to store from a cluster and a glyph on. Entries stored with
+-- The indices as they are stored: an entry behind the separators owed before it, and what is left to store of a walk over the entries. Entries stored with
 -- what is owed are those that are kept, joined (`owed_kept`).
 -- Assumes nothing.
 use mathlib.Core.Path.{◌≡◌, refl, sym, ap, ◌∙◌}
 use mathlib.Core.Bool.{true, false, cond, ◌&&◌}
 use mathlib.Core.List.{List, [], ◌∷◌, ◌++◌, append-nil, append_assoc}
-use Prim.Native.Nat.{ℕ, zero, suc, ◌+◌, ◌-◌, ◌<◌, ◌≤◌}
+use Prim.Native.Nat.{ℕ, zero, suc, ◌+◌, ◌-◌, ◌≤◌}
 use native.Mathlib.Omega.{arith}
-use lib.ListN.{length, drop, replicate, drop_of_length-le}
-use Rattle.label.specs.Bytes.{empty, join_rest, join, trim}
-use Rattle.label.specs.declared.Cluster.{Cluster}
-use Rattle.label.specs.declared.Glyph.{Glyph}
-use Rattle.label.specs.Write.{value_bytes, entry_by, entries_by, indices_by, indices_of}
+use lib.ListN.{length, replicate}
 use lib.IntN.{ℤ}
-use Rattle.wire.specs.declared.ClusterNumbers.{ClusterNumbers}
-use Rattle.wire.specs.declared.GlyphNumbers.{GlyphNumbers}
-use Rattle.wire.specs.Numbers.{as_glyph, cluster_numbers, glyph_numbers}
-use Rattle.wire.proofs.Runs.{clusters_at, glyphs_at}
+use Rattle.std.proofs.Common.{map}
+use Rattle.label.specs.Bytes.{empty, join_rest, join, trim}
 use Rattle.label.specs.Fetched.{words}
 use Rattle.label.specs.Places.{places}
 use Rattle.label.specs.Sound.{nat, is_font, clusters_of, glyphs_of, run_of, sound}
+use Rattle.label.specs.Write.{value_bytes, entry_by, entries_by, indices_by, indices_of}
 use Rattle.label.proofs.Values.{normal_writer}
 use Rattle.label.proofs.Outputs.{empty_is_font}
 use Rattle.label.proofs.Places.{sound_places}
 use Rattle.label.proofs.Requests.Escaping.{asked_short}
-use Rattle.writer.specs.Entries.{led, owing}
+use Rattle.wire.specs.declared.ClusterNumbers.{ClusterNumbers}
+use Rattle.wire.specs.declared.EntryNumbers.{EntryNumbers}
+use Rattle.wire.specs.declared.GlyphNumbers.{GlyphNumbers}
+use Rattle.wire.specs.Numbers.{as_cluster, as_glyph}
+use Rattle.wire.specs.Walks.{clusters_in, glyphs_in, entries_in}
+use Rattle.wire.proofs.Walks.{clusters_are, glyphs_are}
+use Rattle.writer.specs.Entries.{cluster_of, bytes_of, led, owing}
 
 -- ── the separators ──
 
@@ -58,69 +59,55 @@ kept_none [] = refl
 kept_none (x ∷ r) = refl
 
 -- an entry that is stored or not, and what is owed behind it
-module _ (n a b : ℕ) (g : Glyph) where
-  abbrev x : List ℕ
-  x = entry_by value_bytes a b g
+module _ (n : ℕ) (x : EntryNumbers) where
+  none_is : empty (bytes_of x) ≡ is_font (as_glyph x.glyph)
+  none_is = empty_is_font normal_writer (cluster_of x).units (cluster_of x).glyphs (as_glyph x.glyph)
 
-  pub led_none : is_font g ≡ true → [] ≡ led n x
+  pub led_none : is_font (as_glyph x.glyph) ≡ true → [] ≡ led n (bytes_of x)
   unfolding led
-  led_none h = rw (empty_is_font normal_writer a b g, h)
+  led_none h = rw (none_is, h)
 
-  pub owing_more : is_font g ≡ true → n + 1 ≡ owing n x
+  pub owing_more : is_font (as_glyph x.glyph) ≡ true → n + 1 ≡ owing n (bytes_of x)
   unfolding owing
-  owing_more h = rw (empty_is_font normal_writer a b g, h)
+  owing_more h = rw (none_is, h)
 
-  pub led_some : is_font g ≡ false → replicate n 59 ++ x ≡ led n x
+  pub led_some : is_font (as_glyph x.glyph) ≡ false → replicate n 59 ++ bytes_of x ≡ led n (bytes_of x)
   unfolding led
-  led_some h = rw (empty_is_font normal_writer a b g, h)
+  led_some h = rw (none_is, h)
 
-  pub owing_one : is_font g ≡ false → 1 ≡ owing n x
+  pub owing_one : is_font (as_glyph x.glyph) ≡ false → 1 ≡ owing n (bytes_of x)
   unfolding owing
-  owing_one h = rw (empty_is_font normal_writer a b g, h)
+  owing_one h = rw (none_is, h)
 
 -- ── what is left ──
 
-pub all_left : (cs : List Cluster) (gs : List Glyph) → indices_of cs gs ≡ owed 0 (entries_by value_bytes 0 cs gs)
+-- the bytes of the entries that a walk has left, with n separators owed
+abbrev pub left : ℕ → List EntryNumbers → List ℕ
+left n l = owed n (map bytes_of l)
+
+entries_are : (lack : ℕ) (cs : List ClusterNumbers) (gs : List GlyphNumbers)
+    → map bytes_of (entries_in lack cs gs) ≡ entries_by value_bytes lack (map as_cluster cs) (map as_glyph gs)
+unfolding entries_in entries_by
+entries_are lack cs [] = refl
+entries_are (suc n) cs (g ∷ gs) = ap (λ l. entry_by value_bytes 1 1 (as_glyph g) ∷ l) (entries_are n cs gs)
+entries_are zero [] (g ∷ gs) = refl
+entries_are zero (c ∷ cs) (g ∷ gs) =
+    ap (λ l. entry_by value_bytes (nat c.units) (nat c.glyphs) (as_glyph g) ∷ l) (entries_are (nat c.glyphs - 1) cs gs)
+
+pub left_all : (s t : List ℤ) → indices_of (clusters_of s) (glyphs_of t) ≡ left 0 (entries_in 0 (clusters_in s) (glyphs_in t))
 unfolding indices_by
-all_left cs gs = sym (owed_kept 0 (entries_by value_bytes 0 cs gs) ∙ kept_none (trim (entries_by value_bytes 0 cs gs)))
+left_all s t =
+    let l = entries_by value_bytes 0 (clusters_of s) (glyphs_of t) in
+    sym (ap (owed 0) (entries_are 0 (clusters_in s) (glyphs_in t) ∙ rw (clusters_are s, glyphs_are t)) ∙ owed_kept 0 l ∙ kept_none (trim l))
 
--- the bytes from cluster i and glyph k on, with n separators owed
-abbrev pub left : List Cluster → List Glyph → ℕ → ℕ → ℕ → ℕ → List ℕ
-left cs gs n lack i k = owed n (entries_by value_bytes lack (drop i cs) (drop k gs))
+pub left_next : {l r : List EntryNumbers} {x : EntryNumbers} (n : ℕ) {m : ℕ} → l ≡ x ∷ r → m ≡ owing n (bytes_of x)
+    → left n l ≡ led n (bytes_of x) ++ left m r
+unfolding owed
+left_next n e o = rw (e, o)
 
-module _ (s t : List ℤ) (n lack i k : ℕ) where
-  abbrev cs : List Cluster
-  cs = clusters_of s
-
-  abbrev gs : List Glyph
-  gs = glyphs_of t
-
-  pub left_end : length gs ≤ k → left cs gs n lack i k ≡ []
-  unfolding entries_by owed
-  left_end h = rw (drop_of_length-le gs h, entries_by)
-
-  module _ (h : k < length gs) where
-    pub left_none : lack ≡ 0 → length cs ≤ i → left cs gs n lack i k ≡ []
-    unfolding entries_by owed
-    left_none l d = rw (glyphs_at t k h, drop_of_length-le cs d, l, entries_by)
-
-    module _ {g : GlyphNumbers} (e : g ≡ glyph_numbers t k) where
-      pub left_further : {m : ℕ} → m ≡ owing n (entry_by value_bytes 1 1 (as_glyph g)) → 0 < lack
-          → left cs gs n lack i k ≡ led n (entry_by value_bytes 1 1 (as_glyph g)) ++ left cs gs m (lack - 1) i (k + 1)
-      unfolding entries_by owed
-      left_further {m} o l = rw (o, glyphs_at t k h, ← e) (by lack l)
-        where
-          by : (j : ℕ) → 0 < j → owed n (entries_by value_bytes j (drop i cs) (as_glyph g ∷ drop (k + 1) gs))
-              ≡ led n (entry_by value_bytes 1 1 (as_glyph g))
-              ++ owed (owing n (entry_by value_bytes 1 1 (as_glyph g))) (entries_by value_bytes (j - 1) (drop i cs) (drop (k + 1) gs))
-          by zero l = absurd (omega arith)
-          by (suc j) l = let d : suc j - 1 ≡ j = omega arith in rw d
-
-      pub left_opens : {c : ClusterNumbers} {a b m d : ℕ} → i < length cs → c ≡ cluster_numbers s i → a ≡ nat c.units → b ≡ nat c.glyphs
-          → m ≡ owing n (entry_by value_bytes a b (as_glyph g)) → d ≡ b - 1 → lack ≡ 0
-          → left cs gs n lack i k ≡ led n (entry_by value_bytes a b (as_glyph g)) ++ left cs gs m d (i + 1) (k + 1)
-      unfolding entries_by owed
-      left_opens j f p q o d l = rw (o, d, p, q, l, glyphs_at t k h, clusters_at s i j, ← e, ← f, entries_by)
+pub left_none : {l : List EntryNumbers} (n : ℕ) → l ≡ [] → left n l ≡ []
+unfolding owed
+left_none n e = rw e
 
 -- ── how many bytes ──
 

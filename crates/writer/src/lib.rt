@@ -4,15 +4,15 @@
 ghost use Rattle.std.specs.Prelude.{◌≡◌, true, ◌+◌, ◌<◌, ◌≤◌, length, replicate};
 ghost use Rattle.label.specs.Fetched.{words};
 ghost use Rattle.label.specs.Sound.{clusters_of, glyphs_of, sound};
-ghost use Rattle.label.specs.Write.{value_bytes, entry_by, indices_of};
+ghost use Rattle.label.specs.Write.{indices_of};
 ghost use Rattle.label.specs.Calls.{outcome_of, lengths, text_after, indices_after, write_asked, outputs};
 ghost use Rattle.octets.specs.Outputs.{Gains};
-ghost use Rattle.wire.specs.Numbers.{as_glyph, as_places};
-ghost use Rattle.writer.specs.Entries.{led, owing};
+ghost use Rattle.wire.specs.Numbers.{as_places};
+ghost use Rattle.writer.specs.Entries.{cluster_of, bytes_of, led, owing};
 
-use label::{Cause, Lengths, Refusal};
+use label::{Cause, Cluster, Lengths, Refusal};
 use octets::Output;
-use wire::{ClusterNumbers, GlyphNumbers, Run};
+use wire::{EntryNumbers, Run};
 
 // ── the indices ──
 
@@ -24,19 +24,32 @@ fn put_semis(out: &mut Output, n: usize)
     }
 }
 
-// The entry of a glyph, behind the separators owed before it; nothing for a glyph wholly the font's, whose entry has no bytes. What is owed before the next
-// entry: one separator, and those before an entry that was not stored.
-fn put_next(out: &mut Output, owed: usize, a: u32, b: u32, glyph: GlyphNumbers) -> usize
+// The cluster that an entry is written with: the one that its glyph opens; that of a further glyph is written as 1:1.
+fn cluster_of(entry: EntryNumbers) -> Cluster
+    ensures { result ≡ cluster_of entry }
+{
+    match entry.cluster {
+        Some(cluster) => Cluster::from(cluster),
+        None => Cluster {
+            units: 1,
+            glyphs: 1,
+        },
+    }
+}
+
+// An entry, behind the separators owed before it; nothing for a glyph wholly the font's, whose entry has no bytes. What is owed before the next entry: one
+// separator, and those before an entry that was not stored.
+fn put_next(out: &mut Output, owed: usize, entry: EntryNumbers) -> usize
     requires { owed < 18446744073709551615 }
-    ensures bytes { Gains out.old (led owed (entry_by value_bytes a b (as_glyph glyph))) out.new }
-    ensures owed { result ≡ owing owed (entry_by value_bytes a b (as_glyph glyph)) }
+    ensures bytes { Gains out.old (led owed (bytes_of entry)) out.new }
+    ensures owed { result ≡ owing owed (bytes_of entry) }
     ensures bounds { result ≤ owed + 1 }
 {
-    if glyph.is_font() {
+    if entry.glyph.is_font() {
         return owed + 1;
     }
     put_semis(out, owed);
-    entry_bytes::put_entry(out, a, b, glyph);
+    entry_bytes::put_entry(out, cluster_of(entry), entry.glyph);
     1
 }
 
@@ -44,25 +57,9 @@ fn put_next(out: &mut Output, owed: usize, a: u32, b: u32, glyph: GlyphNumbers) 
 fn put_indices(out: &mut Output, run: Run)
     ensures { Gains out.old (indices_of (clusters_of (words run.entry.clusters.now)) (glyphs_of (words run.entry.glyphs.now))) out.new }
 {
-    // glyphs that the open cluster still lacks
-    let mut lack = 0;
-    let mut opened = 0;
     let mut owed = 0;
-    for k in 0..run.glyph_count() {
-        let glyph = GlyphNumbers::at(run.glyphs, k);
-        if 0 < lack {
-            owed = put_next(out, owed, 1, 1, glyph);
-            lack -= 1;
-            continue;
-        }
-        if opened == run.cluster_count() {
-            return;
-        }
-        let cluster = ClusterNumbers::at(run.clusters, opened);
-        let glyphs = cluster.glyph_count();
-        owed = put_next(out, owed, cluster.unit_count() as u32, glyphs as u32, glyph);
-        opened += 1;
-        lack = glyphs.saturating_sub(1);
+    for entry in run.entries() {
+        owed = put_next(out, owed, entry);
     }
 }
 
@@ -71,17 +68,16 @@ fn indices_length(run: Run) -> usize
     requires { sound (as_places run) ≡ true }
     ensures { result ≡ length (indices_of (clusters_of (words run.entry.clusters.now)) (glyphs_of (words run.entry.glyphs.now))) }
 {
-    let mut none = Output {
-        bytes: &mut [],
-        at: 0,
-    };
-    put_indices(&mut none, run);
-    none.at
+    let mut counted = Output::counting();
+    put_indices(&mut counted, run);
+    counted.at
 }
 
 // ── the call ──
 
-// The writing of a run as it is asked for, where the run is sound and both outputs have room. Indices have no byte to escape.
+// The writing of a run as it is asked for, where the run is sound and both outputs have room. Indices have no byte to escape. The outputs are two parameters,
+// as each has a clause of its own that says what it holds afterwards.
+#[tactic(auto, using(label::proofs::Steps::write_steps))]
 pub fn write_as(
     escape: bool,
     run: Run,
@@ -92,9 +88,7 @@ pub fn write_as(
     ensures text { text.new ≡ text_after (write_asked escape (outputs text.old indices.old) (as_places run.entry)) text.old }
     ensures indices { indices.new ≡ indices_after (write_asked escape (outputs text.old indices.old) (as_places run.entry)) indices.old }
 {
-    if !sound::is_sound(run) {
-        return Err(Cause::UnsoundRun.at(0));
-    }
+    sound::check(run)?;
     let text_bytes = text_bytes::text_length(escape, run.units);
     if text.len() < text_bytes {
         return Err(Cause::TextRoom.at(text_bytes));
@@ -103,13 +97,8 @@ pub fn write_as(
     if indices.len() < indices_bytes {
         return Err(Cause::IndicesRoom.at(indices_bytes));
     }
-    let mut out = Output { bytes: text, at: 0 };
-    text_bytes::put_text(escape, &mut out, run.units);
-    let mut out = Output {
-        bytes: indices,
-        at: 0,
-    };
-    put_indices(&mut out, run);
+    text_bytes::put_text(escape, &mut Output::on(text), run.units);
+    put_indices(&mut Output::on(indices), run);
     Ok(Lengths {
         text: text_bytes,
         indices: indices_bytes,

@@ -12,12 +12,14 @@ use Rattle.entry_bytes.proofs.put_entry.Goals as goal
 
 pub returns-clause-gains : goal.returns-clause-gains
 returns-clause-gains c =
+    let x = c.args.cluster in
     let g = c.args.g in
-    let p : Gains c.args.out.now (index_bytes c.args.a c.args.b (number_index g.index)) c.put_index.new.out = search rules in
+    let p : Gains c.args.out.now (index_bytes x.units x.glyphs (number_index g.index)) c.put_index.new.out = search rules in
     let q : Gains c.put_index.new.out (fields g.advance g.u g.v) c.put_fields.new.out = search rules in
-    gains_as (entry_is c.args.a c.args.b g) (then p q)
+    gains_as (entry_is x.units x.glyphs g) (then p q)
 
 pub returns-clause-bounds : goal.returns-clause-bounds
 returns-clause-bounds c =
+    let x = c.args.cluster in
     let g = c.args.g in
-    entry_most c.args.a c.args.b g (search rules) (search rules) (search rules) (search rules) (search rules) (search rules)
+    entry_most x.units x.glyphs g (search rules) (search rules) (search rules) (search rules) (search rules) (search rules)

@@ -7,5 +7,5 @@ use Rattle.entry_bytes.proofs.put_map.Goals as goal
 
 pub returns : goal.returns
 returns c =
-    gains_as (map_some c.args.a c.args.b (search rules))
+    gains_as (map_some c.args.cluster.units c.args.cluster.glyphs (search rules))
     (then c.put_byte.ensures (then (then c.put_decimal.ensures c.put_colon.ensures) c.put_byte-2.ensures))

@@ -1,24 +1,29 @@
--- `faults::find_entry`: a turn passes an entry, and each return is one law of Faults. Assumes nothing.
-use native.Mathlib.Omega.{arith}
-use Rattle.std.proofs.Common.{◌≡◌, sym, ◌∙◌, ◌-◌}
-use Rattle.faults.proofs.Faults.{from_start, from_next, from_here, from_none}
+-- `faults::find_entry`: a turn passes an entry, or was at the last one; at the end it is the one that is asked for. Each is one law of Faults.
+-- Assumes nothing.
+use Rattle.std.proofs.Common.{◌<◌, sym, ◌∙◌, length, arith, rules}
+use Rattle.faults.proofs.Faults.{from_nothing, from_start, passes, last, asked}
 use Rattle.faults.proofs.find_entry.Goals as goal
+
+pub returns-then-is_empty : goal.returns-then-is_empty
+returns-then-is_empty c = from_nothing _ _ (search rules)
 
 pub loop-init : goal.loop-init
 loop-init c =
-    let e : c.args.k - 0 ≡ c.args.k = omega arith in
-    rw e (from_start _ _ _ c.first_place-place.ensures)
+    let some : 0 < length c.args.indices.now = search rules in
+    record { within = omega arith; left = from_start _ _ some }
 
-pub returns-then-indices-place : goal.returns-then-indices-place
-returns-then-indices-place c = c.nowhere.ensures ∙ from_none _ _ _ c.if-indices-place.true ∙ sym c.loop.invariant
+pub returns-in_err-start : goal.returns-in_err-start
+returns-in_err-start c =
+    let at = c.loop.invariant in
+    c.from_residual.ensures ∙ last _ _ at.within _ _ c.loop-test.true c.in_err-start.ensures ∙ sym at.left
 
 pub loop-preserved : goal.loop-preserved
 loop-preserved c =
-    c.loop.invariant ∙ from_next _ _ _ c.if-indices-place.false c.entry_end-place.ensures.value _ _ (omega (arith, c.loop-test.true))
-
-pub returns-then-indices-place-2 : goal.returns-then-indices-place-2
-returns-then-indices-place-2 c = c.nowhere-then-indices-place-2.ensures ∙ from_none _ _ _ c.if-indices-place-2.true ∙ sym c.loop.invariant
+    let at = c.loop.invariant in
+    let next = passes _ _ at.within _ _ c.loop-test.true _ c.in_ok-start.ensures in
+    record { within = next.0; left = at.left ∙ next.1 }
 
 pub returns : goal.returns
 returns c =
-    c.part_of.ensures ∙ from_here _ _ _ c.if-indices-place-2.false c.entry_end.ensures.value _ (omega (arith, c.loop-test.false)) ∙ sym c.loop.invariant
+    let at = c.loop.invariant in
+    asked _ _ at.within _ _ c.loop-test.false _ c.entry_length.ensures ∙ sym at.left

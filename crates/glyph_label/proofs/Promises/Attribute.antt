@@ -26,7 +26,7 @@ resolves : (raw old : List ℕ) (a : GlyphLabelFilled) (new : List ℕ) → Reso
     → Fills (resolve_checks (length old) raw) (length (raw_gives raw)) (raw_gives raw) old a new
 resolves raw old a new c =
     fills (λ (s : List ℕ). s) (resolve_into (length old) raw) old a new c (resolve_checks (length old) raw) (raw_gives raw) (unfold resolve_into in refl)
-    (λ n p e. (resolve_number (length old) raw n p e).0)
+    (resolve_number (length old) raw)
     (λ h. unfold resolve_checks in (has_room (raw_checks raw) (length (raw_gives raw)) (length old) 24 (length (raw_gives raw)) h))
 
 -- the bytes that came out, cut at the count

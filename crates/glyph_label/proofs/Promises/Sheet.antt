@@ -42,7 +42,7 @@ sheet_fills : (file old : List ℕ) (a : GlyphLabelFilled) (new : List ℕ) → 
 sheet_fills file old a new c =
     subst (λ (n : ℕ). Fills (sheet_checks (length old / 4) file) n (from_words (answers (file_labels file))) old a new) (length_answers (file_labels file))
     (fills from_words (sheet_into (length old / 4) file) old a new c (sheet_checks (length old / 4) file) (answers (file_labels file))
-    (unfold sheet_into in refl) (λ n p e. (sheet_number (length old / 4) file n p e).0)
+    (unfold sheet_into in refl) (sheet_number (length old / 4) file)
     (λ h. answers_room (file_labels file) (length old) (unfold sheet_checks in
     (has_room (file_checks file) (2 * length (file_labels file)) (length old / 4) 27 (length (file_labels file)) h))))
 
@@ -51,7 +51,7 @@ sheet_accepts : (file old : List ℕ) (a : GlyphLabelFilled) (new : List ℕ) �
 sheet_accepts file old a new b c =
     let o = sheet_into (length old / 4) file in
     let f : a.number ≡ number_in o = (fill_said from_words o old a new c).0 in (
-      λ z. let (list, e) = accepted o (λ n p e. (sheet_number (length old / 4) file n p e).0) (sym f ∙ z) in
+      λ z. let (list, e) = accepted o (sheet_number (length old / 4) file) (sym f ∙ z) in
           let (ls, q, m, r) = (answering.accepts (length old / 4) file list b).0 e in (ls, q, m),
       λ ls. f ∙ ap number_in ((answering.accepts (length old / 4) file (answers ls.0) b).1 (ls.0, ls.1, ls.2, refl)),
     )

@@ -2,12 +2,12 @@
 -- Assumes nothing.
 use Prim.Native.Nat.{ℕ, ◌≤◌}
 use native.Mathlib.Omega.{arith}
-use mathlib.Core.Path.{◌≡◌, refl, sym, ◌∙◌, ap, subst}
+use mathlib.Core.Path.{◌≡◌, refl, ◌∙◌, ap}
 use mathlib.Core.Logic.{◌↔◌}
 use mathlib.Core.Bool.{true, false}
 use mathlib.Core.List.{List, [], ◌∷◌}
-use borrow.Author.Tests.{leb-true, le-leb}
-use lib.Dec.{leb, eqb}
+use borrow.Author.Tests.{le-leb}
+use lib.Dec.{eqb}
 use lib.ListN.{length}
 use Rattle.label.specs.Outcome.{Outcome, ok, no}
 use Rattle.label.specs.Statements.Memory.{GivenBy}
@@ -21,11 +21,10 @@ use Rattle.label.specs.Statements.Attribute.{raw_label_checks, read_raw}
 use Rattle.label.specs.Statements.Memory.{filled_all, Kept}
 use Rattle.label.specs.Statements.Demands.{RoomyFor}
 use Rattle.label.specs.Statements.Attribute.{came_out, escaped_text, escaped_indices, Restored, is_markup, Restoring}
-use Rattle.label.proofs.Basics.{cases, bind_ok, need_ok}
+use Rattle.label.proofs.Basics.{cases}
 use Rattle.label.proofs.Splits.{none, none_append}
 use Rattle.label.proofs.Decimals.{cut_none}
 use Rattle.label.proofs.Values.{normal_writer}
-use Rattle.label.proofs.Run.{ok_path}
 use Rattle.label.proofs.Sound.{read_sound}
 use Rattle.label.proofs.Steps.{resolve_into_steps, raw_steps}
 use Rattle.label.proofs.Checks.{given_is, kept}
@@ -36,13 +35,6 @@ use Rattle.label.proofs.Requests.Escaping.{escaped_most, indices_plain}
 use Rattle.label.specs.Steps.{resolve}
 
 -- ── resolving into a buffer ──
-
-into_resolve : (raw s : List ℕ) (room : ℕ) → resolve_into room raw ≡ ok s → (resolve raw ≡ ok s) × (length s ≤ room)
-into_resolve raw s room h =
-    let (r, a, b) = bind_ok (resolve raw) _ s (sym (resolve_into_steps room raw) ∙ h) in
-    let (f, c) = need_ok (leb (length r) room) 24 _ _ s b in
-    let q : r ≡ s = ok_path r s c in
-    (a ∙ c, subst (λ (z : List ℕ). length z ≤ room) q (leb-true (length r) room f))
 
 resolve_into_holds : (raw s : List ℕ) (room : ℕ) → resolve raw ≡ ok s → length s ≤ room → resolve_into room raw ≡ ok s
 resolve_into_holds raw s room h m = resolve_into_steps room raw ∙ rw (h, le-leb (length s) room m)

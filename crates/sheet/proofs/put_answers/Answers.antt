@@ -1,7 +1,9 @@
 -- `sheet::put_answers`: each step is a law of Storing; what the list gains stands in the slice that it lends on.
 -- Assumes nothing.
-use Rattle.std.proofs.Common.{refl, rules, arith}
-use Rattle.sheet.proofs.Storing.{stored_start, stored_next, stored_end, not_cut, as_stored}
+use Rattle.std.proofs.Common.{◌∙◌, refl, rules, arith}
+use Rattle.sheet.specs.Records.{label_of}
+use Rattle.octets.proofs.Outputs.{gains_as}
+use Rattle.sheet.proofs.Storing.{stored_start, stored_next, stored_end, not_cut, numbers}
 use Rattle.sheet.proofs.put_answers.Goals as goal
 
 pub loop-label-init : goal.loop-label-init
@@ -11,8 +13,11 @@ pub unreachable-requires : goal.unreachable-requires
 unreachable-requires c = not_cut c.loop-label.invariant _ c.requires c.in-Some.ensures.steps c.in_default.is
 
 pub loop-label-preserved : goal.loop-label-preserved
-loop-label-preserved c = stored_next c.loop-label.invariant _ c.in-Some.ensures.steps c.in-Some-label.is (as_stored _ c.answer_to.ensures)
-    c.put_number.ensures c.put_number-in-loop-label.ensures
+loop-label-preserved c =
+    let n = numbers (label_of c.in-Some-label.label) c.answer_to.ensures in
+    stored_next c.loop-label.invariant _ c.in-Some.ensures.steps c.in-Some-label.is (n.are ∙ c.answer_to.ensures)
+    (gains_as (c.to_le_bytes.ensures ∙ n.number) c.put_bytes.ensures)
+    (gains_as (c.to_le_bytes-in-loop-label.ensures ∙ n.place) c.put_bytes-in-loop-label.ensures)
 
 pub returns : goal.returns
 returns c = let e = stored_end c.loop-label.invariant c.in-None.ensures.steps c.requires refl (omega arith) in search rules

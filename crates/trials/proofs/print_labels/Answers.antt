@@ -13,10 +13,10 @@ pub loop-label-preserved : goal.loop-label-preserved
 loop-label-preserved g c =
     let before = c.loop-label.invariant in
     let step = c.in-Some.ensures.steps in
-    let next = prints_first c.loop-label.label-iterator.rest.now c.in-Some.label step.0 step.1 in (
+    let next = prints_first c.loop-label.label-iterator.rest.now _ step.0 step.1 in (
       before.0 ++ _,
       Appends-trans _ _ _ _ _ before.1 c.in_ok-print_label.ensures,
-      rw step.2 (append_assoc before.0 _ _) ∙ ap (λ l. before.0 ++ l) (sym next) ∙ before.2,
+      append_assoc before.0 _ _ ∙ ap (λ l. before.0 ++ l) (sym next) ∙ before.2,
     )
 
 pub returns : goal.returns

@@ -1,19 +1,28 @@
--- `units::proper_units`: a unit and what is left behind it are judged by `proper_here`, the end by `proper_end`.
+-- `units::proper_units`: one law of Decoded for the start, each return and a turn; a `char` is no half of a pair, as the walk's laws ask.
 -- Assumes nothing.
-use Rattle.std.proofs.Common.{sym, ◌∙◌, arith}
-use Rattle.label.specs.Fetched.{halves}
-use Rattle.units.proofs.Units.{proper_here, proper_end}
+use Rattle.std.proofs.Common.{sym, ap, ◌∙◌, false, rules}
+use Rattle.std.specs.Char.{InScalarRange}
+use Rattle.label.specs.Sound.{proper_units}
+use Rattle.units.proofs.Decoded.{at_start, at_char, at_half, at_end}
 use Rattle.units.proofs.proper_units.Goals as goal
 
-pub returns-then-not-unit_ok : goal.returns-then-not-unit_ok
-returns-then-not-unit_ok c =
-    let e = proper_here c.loop-j.half (halves c.args.us.now) c.loop-j.j (omega arith) c.unit_at-u.ensures (omega arith) in
-    sym (c.loop-j.invariant ∙ rw (e, sym c.unit_ok.ensures ∙ c.if-not-unit_ok.true))
+pub loop-c-init : goal.loop-c-init
+loop-c-init c =
+    let d = c.decode_utf16-c-items.ensures in
+    rw c.into_iter-c-iterator.ensures.into_iter_gives (ap (proper_units false) (at_start _ d.source d.peeked))
 
-pub loop-j-preserved : goal.loop-j-preserved
-loop-j-preserved c =
-    let e = proper_here c.loop-j.half (halves c.args.us.now) c.loop-j.j (omega arith) c.unit_at-u.ensures (omega arith) in
-    c.loop-j.invariant ∙ rw (e, sym c.unit_ok.ensures ∙ c.if-not-unit_ok.false, c.next_half-half.ensures)
+pub returns-in_default : goal.returns-in_default
+returns-in_default c = sym (c.loop-c.invariant ∙ at_half _ _ c.in-Some.ensures.steps c.in_default.is)
+
+pub returns-then-not-is_xml : goal.returns-then-not-is_xml
+returns-then-not-is_xml c =
+    let r : InScalarRange c.in-Ok.c = search rules in
+    sym (c.loop-c.invariant ∙ at_char _ _ c.in-Some.ensures.steps c.in-Ok.is r ∙ rw (← c.from.ensures, ← c.is_xml.ensures, c.if-not-is_xml.true))
+
+pub loop-c-preserved : goal.loop-c-preserved
+loop-c-preserved c =
+    let r : InScalarRange c.in-Ok.c = search rules in
+    c.loop-c.invariant ∙ at_char _ _ c.in-Some.ensures.steps c.in-Ok.is r ∙ rw (← c.from.ensures, ← c.is_xml.ensures, c.if-not-is_xml.false)
 
 pub returns : goal.returns
-returns c = sym (c.loop-j.invariant ∙ proper_end c.loop-j.half (halves c.args.us.now) c.loop-j.j (omega arith))
+returns c = sym (c.loop-c.invariant ∙ at_end _ _ c.in-None.ensures.steps)

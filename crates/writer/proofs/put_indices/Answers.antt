@@ -1,58 +1,32 @@
--- `writer::put_indices`: a turn stores one entry (`left_further`, `left_opens`), and at each return there is none left.
+-- `writer::put_indices`: a turn stores one entry (`left_next`), and at the end there is none left.
 -- Assumes nothing.
-use Rattle.std.proofs.Common.{arith}
+use Rattle.std.proofs.Common.{arith, ap, length}
 use Rattle.label.specs.Fetched.{words}
-use Rattle.label.specs.Sound.{clusters_of, glyphs_of}
 use Rattle.octets.proofs.Outputs.{lacks_all, lacks_next, lacks_none, lacks_as}
-use Rattle.writer.proofs.Stores.{all_left, left_end, left_none, left_further, left_opens}
+use Rattle.sound.proofs.Walks.{few_entries}
+use Rattle.wire.specs.Walks.{clusters_in, glyphs_in}
+use Rattle.wire.proofs.Runs.{glyphs_length}
+use Rattle.wire.proofs.Walks.{glyphs_in_length}
+use Rattle.writer.proofs.Stores.{left_all, left_next, left_none}
 use Rattle.writer.proofs.put_indices.Goals as goal
 
-pub loop-k-init : goal.loop-k-init
-loop-k-init c =
-    let r = c.args.run in
-    record {
-      lacks = lacks_as (all_left (clusters_of (words r.clusters.now)) (glyphs_of (words r.glyphs.now))) lacks_all;
-      owed_most = omega arith;
-      opened_most = omega arith;
-    }
+pub loop-entry-init : goal.loop-entry-init
+loop-entry-init c =
+    let s = words c.args.run.clusters.now in
+    let t = words c.args.run.glyphs.now in
+    rw (c.into_iter-entry-iterator.ensures.into_iter_gives, c.entries-entry-items.ensures)
+    (record {
+      lacks = lacks_as (left_all s t) lacks_all;
+      few = omega (arith, few_entries 0 (clusters_in s) (glyphs_in t), glyphs_in_length t, glyphs_length c.args.run.glyphs.now);
+    })
 
-pub loop-k-preserved-then-lack-gt0 : goal.loop-k-preserved-then-lack-gt0
-loop-k-preserved-then-lack-gt0 c =
-    let l = c.loop-k in
-    let r = c.args.run in
+pub loop-entry-preserved : goal.loop-entry-preserved
+loop-entry-preserved c =
+    let l = c.loop-entry in
     record {
-      lacks =
-          lacks_next l.invariant.lacks
-          (left_further (words r.clusters.now) (words r.glyphs.now) l.owed l.lack l.opened l.k (omega arith) c.at-glyph.ensures c.put_next-owed.ensures.owed
-          c.if-lack-gt0.true)
-          c.put_next-owed.ensures.bytes;
-      owed_most = omega arith;
-      opened_most = omega arith;
-    }
-
-pub returns-then-opened-cluster_count : goal.returns-then-opened-cluster_count
-returns-then-opened-cluster_count c =
-    let l = c.loop-k in
-    let r = c.args.run in
-    lacks_none l.invariant.lacks
-    (left_none (words r.clusters.now) (words r.glyphs.now) l.owed l.lack l.opened l.k (omega arith) (omega arith) (omega arith))
-
-pub loop-k-preserved : goal.loop-k-preserved
-loop-k-preserved c =
-    let l = c.loop-k in
-    let r = c.args.run in
-    record {
-      lacks =
-          lacks_next l.invariant.lacks
-          (left_opens (words r.clusters.now) (words r.glyphs.now) l.owed l.lack l.opened l.k (omega arith) c.at-glyph.ensures (omega arith) c.at-cluster.ensures
-          c.unit_count.ensures.value c.glyph_count-glyphs.ensures.value c.put_next-owed-in-loop-k.ensures.owed c.saturating_sub-lack.ensures (omega arith))
-          c.put_next-owed-in-loop-k.ensures.bytes;
-      owed_most = omega arith;
-      opened_most = omega arith;
+      lacks = lacks_next l.invariant.lacks (left_next l.owed c.in-Some.ensures.steps c.put_next-owed.ensures.owed) c.put_next-owed.ensures.bytes;
+      few = omega (arith, ap length c.in-Some.ensures.steps);
     }
 
 pub returns : goal.returns
-returns c =
-    let l = c.loop-k in
-    let r = c.args.run in
-    lacks_none l.invariant.lacks (left_end (words r.clusters.now) (words r.glyphs.now) l.owed l.lack l.opened l.k (omega arith))
+returns c = lacks_none c.loop-entry.invariant.lacks (left_none c.loop-entry.owed c.in-None.ensures.steps.0)
