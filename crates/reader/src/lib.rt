@@ -37,9 +37,8 @@ const FONT: Glyph = Glyph {
     v: 0,
 };
 
-// The buffers of clusters and of glyphs are lent side by side, since each has a clause that says what it holds afterwards.
-
 // Stores a cluster of `units` units and `count` glyphs, and its first glyph.
+// The buffers are lent one by one, here and below, and not as a struct: each has a clause of its own that says what it holds afterwards.
 fn open_cluster(
     at: Stored,
     units: usize,
