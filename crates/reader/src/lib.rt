@@ -114,6 +114,7 @@ fn fill_tail(units: &[u8], at: Stored, clusters: &mut [u8], glyphs: &mut [u8])
 {
     let count = wire::unit_count(units);
     let mut at = at;
+    // A cluster has one unit or two: the next is where what is stored ends.
     while at.units < count {
         let taken = tail_units(units, at.units);
         at = open_cluster(at, taken, 1, FONT, clusters, glyphs);
