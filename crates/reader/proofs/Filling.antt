@@ -1,295 +1,235 @@
--- The second pass over an accepted label: what a turn stores, and what stands in the buffers at the end. The walk is accepted, so no turn is refused, and
--- there is room for what each adds.
+-- The second pass over an accepted label: what a turn stores, and what is left behind the last entry. The walk is accepted, so no entry is refused, and there
+-- is room for what each adds.
 -- Assumes nothing.
-use Rattle.label.proofs.Steps.{walk_end}
-use Prim.Native.Nat.{ℕ, ◌+◌, ◌*◌, ◌-◌, ◌≤◌, ◌<◌, min}
-use native.Mathlib.Omega.{arith}
-use mathlib.Core.Path.{◌≡◌, refl, sym, ◌∙◌, ap}
-use mathlib.Core.Bool.{Bool, true, cond, not, ◌&&◌}
-use mathlib.Core.List.{List, [], ◌∷◌, ◌++◌}
-use borrow.Author.Tests.{eq-eqb, eqb-true, eqb-false}
-use lib.Dec.{eqb}
-use lib.ListN.{length, drop, length-append}
-use lib.Seq.{sets}
-use Rattle.label.specs.Outcome.{Outcome, ok, no}
+use Rattle.std.proofs.Common.{◌≡◌, refl, sym, ap, ◌∙◌, subst, Bool, true, false, List, [], ◌∷◌, ℕ, suc, ◌+◌, ◌-◌, ◌*◌, ◌≤◌, min, arith, eqb, leb, length, drop, Result, Ok, Err, add-one}
+use borrow.Author.Tests.{eq-eqb, ne_eqb, eqb-true, eqb-false, leb-true}
+use native.Mathlib.Nat.{add-zero}
+use lib.ListN.{length-drop}
+use lib.Seq.{sets, drop-drop}
+use Rattle.label.specs.Outcome.{ok}
 use Rattle.label.specs.Bytes.{empty}
-use Rattle.label.specs.Entry.{entries}
-use Rattle.label.specs.Run.{Parts, tail, State, start_state, opens, takes, next}
-use Rattle.label.specs.Steps.{entry, step, walk}
-use Rattle.label.specs.Wire.{from_words}
-use Rattle.label.specs.Places.{flat_glyphs}
-use Rattle.label.specs.Calls.{filled}
+use Rattle.label.specs.Entry.{Entry}
+use Rattle.label.specs.Cause.{cause_number}
+use Rattle.label.specs.Run.{Parts, cluster, add_glyph, tail, State, opens, takes, next}
+use Rattle.label.specs.Steps.{walk}
 use Rattle.label.specs.Requests.RoundedCount.{rounded_entry}
-use Rattle.label.specs.declared.Cursor.{Cursor}
+use Rattle.label.specs.declared.Cluster.{Cluster}
+use Rattle.label.specs.declared.Glyph.{Glyph}
+use Rattle.label.specs.declared.Refusal.{Refusal}
 use Rattle.label.proofs.Basics.{cases, need_ok, no_ok}
 use Rattle.label.proofs.Lists.{empty_is}
-use Rattle.label.proofs.Run.{ok_path, Walked, walk_ok, step_ok}
-use Rattle.label.proofs.Cursors.{joined, after, added}
+use Rattle.label.proofs.Run.{ok_path, Walked, walk_ok, Stepped, step_ok}
+use Rattle.label.proofs.Steps.{walk_end}
 use Rattle.number.specs.Digits.{cap}
-use Rattle.entry.specs.Items.{here}
+use Rattle.entry.specs.Items.{cut_item}
+use Rattle.entry.specs.Results.{entry_results}
 use Rattle.entry.specs.declared.Item.{Item}
-use Rattle.survey.specs.Steps.{item_entry, advanced, entry_at}
-use Rattle.reader.specs.Stores.{taken_by, opened_here, cluster_bytes, glyph_bytes, cluster_places, glyph_places, Storable}
-use Rattle.survey.proofs.Entries.{left_from, left_is, left_few}
-use Rattle.survey.proofs.Placing.{read_is, refused_is}
-use Rattle.survey.proofs.Walking.{state_of, Stands, Ready, Turned, turned, takes_cut, refusing, step_no, ends_open, ends_shut}
-use Rattle.reader.proofs.Stores.{Stored, Flattens, clusters_flatten, glyphs_flatten, room_more, flat_stored}
+use Rattle.entry.proofs.Results.{NextEntry, next_entry, no_entry, result_ok, result_no}
+use Rattle.wire.specs.Stores.{glyph_places}
+use Rattle.reader.specs.declared.Stored.{Stored}
+use Rattle.reader.specs.Stores.{opened, added, taken, behind, cluster_opened, Opens, Storable}
+use Rattle.reader.proofs.Storing.{Storing, storing_opened, storing_added, opened_room, added_room}
 
 -- ── an open cluster's glyphs are there ──
 
-walk_lack : (ss : List (List ℕ)) (bare : Bool) (st : State) (p : Parts) → walk bare st ss ≡ ok p → st.lack ≤ length ss
+one_glyph : (o : Bool) (c : Cluster) (g : Glyph) (p : Parts) → length (add_glyph o c g p).glyphs ≡ suc (length p.glyphs)
+one_glyph true c g p = refl
+one_glyph false c g p = refl
+
+more_glyphs : {bare : Bool} {st : State} {s : List ℕ} {ss : List (List ℕ)} {p : Parts} (x : Walked bare st s ss p)
+    → length p.glyphs ≡ suc (length x.others.glyphs)
+more_glyphs {bare} {st} x =
+    ap (λ (q : Parts). length q.glyphs) (sym x.is) ∙ one_glyph (opens st) (cluster (takes bare st x.first) x.first.glyphs) x.first.glyph x.others
+
+walk_lack : (ss : List (List ℕ)) (bare : Bool) (st : State) (p : Parts) → walk bare st ss ≡ ok p → st.lack ≤ length p.glyphs
 walk_lack [] bare st p h =
     let (t, b) = need_ok (opens st) 14 st.opener (ok (tail st.rest)) p (sym (walk_end bare st) ∙ h) in
     let z : st.lack ≡ 0 = eqb-true st.lack 0 t in
     omega arith
 walk_lack (s ∷ ss) bare st p h =
     let x : Walked bare st s ss p = walk_ok bare st s ss p h in
-    let r : (next bare st x.first).lack ≤ length ss = walk_lack ss bare (next bare st x.first) x.others x.walked in
+    let r : (next bare st x.first).lack ≤ length x.others.glyphs = walk_lack ss bare (next bare st x.first) x.others x.walked in
     cases (eqb st.lack 0)
     (λ t. let z : st.lack ≡ 0 = eqb-true st.lack 0 t in omega arith)
-    (λ t. let r' : st.lack - 1 ≤ length ss = rw t at r in omega arith)
+    (λ t. let r' : st.lack - 1 ≤ length x.others.glyphs = rw t at r in omega (arith, more_glyphs x))
 
--- where the next entry starts
-pub place_behind : (c d : Cursor) (b a g i : ℕ) → d ≡ advanced c b a g i → d.place ≡ i
-unfolding advanced
-place_behind c d b a g i e = ap (λ (x : Cursor). x.place) e
+-- ── an accepted walk ──
 
--- ── clusters and glyphs alike ──
+-- label's state, where so much is stored
+abbrev state_at : List ℕ → Stored → ℕ → State
+state_at us at o = record { k = at.glyphs; at = at.units; rest = drop at.units us; lack = at.lack; opener = o }
 
--- one of a run's two lists: how its numbers are laid out
-record Listed {A : Type 0} (of : Parts → List A) (flat : List A → List ℕ) (one : A → List ℕ) (w : ℕ) : Type 0 where
-  flattens : Flattens flat one w
-  joins : (p q : Parts) → of (joined p q) ≡ of p ++ of q
+-- of entries whose results are rs, and which are accepted, the parts are still to store
+pub record Filled (cw gw us : List ℕ) (rs : List (Result Item Refusal)) (cs gs : List ℕ) (at : Stored) : Type 0 where
+  pub entries : List (List ℕ)
+  pub results : rs ≡ entry_results at.glyphs entries
+  pub opener : ℕ
+  pub parts : Parts
+  pub walked : walk (empty us) (state_at us at opener) entries ≡ ok parts
+  pub storing : Storing cw gw parts cs gs at.clusters at.glyphs
+  pub inside : at.units ≤ length us
+  pub few : at.glyphs + length parts.glyphs ≤ 4096
 
-clusters_listed : Listed (λ (p : Parts). p.clusters) cluster_bytes cluster_places 8
-clusters_listed = record { flattens = clusters_flatten; joins = λ p q. refl }
+-- entry x can be stored, in a text of n units, and then the others are still to store
+pub record Turn (cw gw us : List ℕ) (rs : List (Result Item Refusal)) (cs gs : List ℕ) (at : Stored) (n : ℕ) (x : Item) : Type 0 where
+  pub fits : Storable n at x (length cs) (length gs)
+  pub then : {d : Stored} {cs' gs' : List ℕ} → d ≡ behind n at x → cs' ≡ sets cs (8 * at.clusters) (cluster_opened n at x)
+      → gs' ≡ sets gs (16 * at.glyphs) (glyph_places x.glyph) → Filled cw gw us rs cs' gs' d
 
-glyphs_listed : Listed (λ (p : Parts). p.glyphs) glyph_bytes glyph_places 16
-glyphs_listed = record { flattens = glyphs_flatten; joins = λ p q. refl }
+module _ {cw gw us : List ℕ} {rs : List (Result Item Refusal)} {cs gs : List ℕ} {at : Stored} (f : Filled cw gw us rs cs gs at) where
+  abbrev st : State
+  st = state_at us at f.opener
 
-module _ {A : Type 0} (of : Parts → List A) (flat : List A → List ℕ) (one : A → List ℕ) (w : ℕ) (l : Listed of flat one w) (all pre : Parts) (n : ℕ)
-    (en : length (of pre) ≡ n) where
-  -- parts in the middle, whose numbers are vs
-  module _ (more others : Parts) (is : joined (joined pre more) others ≡ all) (vs : List ℕ) (ev : flat (of more) ≡ vs) where
-    listed_inside : length (of pre ++ of more) ≤ length (of all)
-    listed_inside =
-        let e : length (of (joined pre more)) + length (of others) ≡ length (of all) =
-        sym (length-append (of (joined pre more)) (of others)) ∙ ap length (sym (l.joins (joined pre more) others)) ∙ ap (λ (y : Parts). length (of y)) is in
-        rw (← l.joins pre more) (omega arith)
+  module _ (y : Result Item Refusal) (qs : List (Result Item Refusal)) (h : rs ≡ y ∷ qs) where
+    entry_is : NextEntry at.glyphs f.entries y qs
+    entry_is = next_entry at.glyphs f.entries y qs (sym f.results ∙ h)
 
-    listed_room : w * n + length vs ≤ w * length (of all)
-    listed_room = room_more flat one w l.flattens (of pre) (of more) vs n en ev (length (of all)) listed_inside
+    abbrev head : List ℕ
+    head = entry_is.first
 
-    listed_stored : (old out out' : List ℕ) → Stored old out (flat (of pre)) → out' ≡ sets out (w * n) vs → w * length (of all) ≤ length old
-        → Stored old out' (flat (of (joined pre more)))
-    listed_stored old out out' s q r =
-        rw (l.joins pre more) (flat_stored flat one w l.flattens (of pre) (of more) vs n en ev old out out' s q (omega (arith, listed_room)))
+    walks : Walked (empty us) st head entry_is.behind f.parts
+    walks = walk_ok (empty us) st head entry_is.behind f.parts (subst (λ (ss : List (List ℕ)). walk (empty us) st ss ≡ ok f.parts) entry_is.are f.walked)
 
-  -- parts at the end
-  module _ (more : Parts) (is : joined pre more ≡ all) where
-    all_listed : of all ≡ of pre ++ of more
-    all_listed = sym (ap of is) ∙ l.joins pre more
+    steps : Stepped (empty us) st head walks.first
+    steps = step_ok (empty us) st head walks.first walks.stepped
 
-    end_count : n + length (of more) ≡ length (of all)
-    end_count = sym (ap length all_listed ∙ length-append (of pre) (of more) ∙ rw en)
+  -- an accepted label has no entry that is refused
+  pub fill_never : {A : Type 0} (r : Refusal) (qs : List (Result Item Refusal)) → rs ≡ Err r ∷ qs → A
+  fill_never r qs h =
+      no_ok (cause_number r.cause) r.place (walks (Err r) qs h).first
+      (sym (result_no at.glyphs (head (Err r) qs h) r (entry_is (Err r) qs h).is) ∙ (steps (Err r) qs h).is)
 
-    end_filled : (old out out' : List ℕ) → Stored old out (flat (of pre)) → out' ≡ sets out (w * n) (flat (of more)) → w * length (of all) ≤ length old
-        → out' ≡ filled (flat (of all)) old
-    end_filled old out out' s q r =
-        let e : length (of pre ++ of more) ≤ length (of all) = rw (← all_listed) (omega arith) in
-        let g : w * n + length (flat (of more)) ≤ w * length (of all) = room_more flat one w l.flattens (of pre) (of more) (flat (of more)) n en refl
-        (length (of all)) e in
-        rw all_listed (flat_stored flat one w l.flattens (of pre) (of more) (flat (of more)) n en refl old out out' s q (omega arith)).is
+  -- ── one turn ──
 
--- ── an accepted walk, whose parts are `all` ──
+  module _ (n : ℕ) (en : n ≡ length us) (short : length us ≤ 4096) (x : Item) (qs : List (Result Item Refusal)) (h : rs ≡ Ok x ∷ qs) where
+    abbrev w : Walked (empty us) st (head (Ok x) qs h) (entry_is (Ok x) qs h).behind f.parts
+    w = walks (Ok x) qs h
 
--- the walk stands at c, and the parts before it are stored
-pub record Filled (us s : List ℕ) (c₀ g₀ cs gs : List ℕ) (c : Cursor) : Type 0 where
-  pub pre : Parts
-  pub lack : ℕ
-  pub stands : Stands us s pre lack c
-  pub ready : Ready us s c
-  pub clusters : Stored c₀ cs (cluster_bytes pre.clusters)
-  pub glyphs : Stored g₀ gs (glyph_bytes pre.glyphs)
+    abbrev e : Entry
+    e = w.first
 
--- entry x at c, in a text of n units, can be stored, and then the walk stands behind it
-pub record Fills (us s : List ℕ) (c₀ g₀ cs gs : List ℕ) (c : Cursor) (n : ℕ) (x : Item) : Type 0 where
-  pub fits : Storable n c x (length cs) (length gs)
-  pub then : (d : Cursor) (cs' gs' : List ℕ) → d ≡ advanced c 0 (taken_by n c.lack x.units) x.glyphs (c.place + x.used + 1)
-      → cs' ≡ sets cs (8 * c.clusters) (cluster_bytes (opened_here c.lack (taken_by n c.lack x.units) x.glyphs))
-      → gs' ≡ sets gs (16 * c.entry) (glyph_places x.glyph) → Filled us s c₀ g₀ cs' gs' d
+    said : cut_item (length (head (Ok x) qs h)) (rounded_entry (head (Ok x) qs h)) e ≡ x
+    said =
+        let (y, k, i) = result_ok at.glyphs (head (Ok x) qs h) x (entry_is (Ok x) qs h).is in
+        subst (λ (z : Entry). cut_item (length (head (Ok x) qs h)) (rounded_entry (head (Ok x) qs h)) z ≡ x)
+        (ok_path y e (sym k ∙ (steps (Ok x) qs h).is)) i
 
-after_ok : (p : Parts) (o : Outcome Parts) (q : Parts) → after p o ≡ ok q → (r : Parts) × (o ≡ ok r) × (joined p r ≡ q)
-after_ok p (ok r) q h = (r, refl, ok_path (joined p r) q h)
-after_ok p (no n m) q h = no_ok n m q h
+    units_said : min e.units cap ≡ x.units
+    units_said = ap (λ (i : Item). i.units) said
 
-module _ (us s : List ℕ) (all : Parts) (good : walk (empty us) (start_state us) (entries s) ≡ ok all) where
-  never : {A : Type 0} (n p : ℕ) → walk (empty us) (start_state us) (entries s) ≡ no n p → A
-  never n p h = no_ok n p all (sym h ∙ good)
+    glyphs_said : min e.glyphs cap ≡ x.glyphs
+    glyphs_said = ap (λ (i : Item). i.glyphs) said
 
-  -- what is left of it
-  record Accepted (pre : Parts) (lack : ℕ) (c : Cursor) : Type 0 where
-    others : Parts
-    rest : walk (empty us) (state_of us c lack) (left_from s c.place) ≡ ok others
-    is : joined pre others ≡ all
+    glyph_said : e.glyph ≡ x.glyph
+    glyph_said = ap (λ (i : Item). i.glyph) said
 
-  module _ (pre : Parts) (lack : ℕ) (c : Cursor) (st : Stands us s pre lack c) where
-    accepted : Accepted pre lack c
-    accepted =
-        let (r, a, b) = after_ok pre (walk (empty us) (state_of us c lack) (left_from s c.place)) all (sym st.so_far ∙ good) in
-        record { others = r; rest = a; is = b }
+    bare_is : empty us ≡ eqb n 0
+    bare_is = empty_is us ∙ ap (λ (m : ℕ). eqb m 0) (sym en)
 
-    -- ── one turn ──
+    few_others : at.glyphs + 1 + length w.others.glyphs ≤ 4096
+    few_others = omega (arith, f.few, more_glyphs w)
 
-    module _ (rd : Ready us s c) (hi : c.place ≤ length s) where
-      abbrev head : List ℕ
-      head = here (drop c.place s)
+    lacks : (next (empty us) st e).lack ≤ length w.others.glyphs
+    lacks = walk_lack (entry_is (Ok x) qs h).behind (empty us) (next (empty us) st e) w.others w.walked
 
-      -- an accepted label has no entry that is refused
-      pub fill_never : {A : Type 0} (i p : ℕ) → entry_at s c ≡ no i p → A
-      fill_never i p e =
-          never i p
-          (refusing us s pre lack c st hi i p
-          (step_no (empty us) (state_of us c lack) head i p (refused_is (length head) (rounded_entry head) (entry c.entry head) i p e)))
+    -- it opens a cluster
+    module _ (o : at.lack ≡ 0) where
+      open_is : eqb at.lack 0 ≡ true
+      open_is = eq-eqb at.lack 0 o
 
-      fill_turn : (x : Item) (n a : ℕ) → entry_at s c ≡ ok x → n ≡ length us → a ≡ taken_by n c.lack x.units
-          → (d : Cursor) → d ≡ advanced c 0 a x.glyphs (c.place + x.used + 1) → Turned us s pre lack c d a x
-      fill_turn x n a e en ea d ed =
-          let (e₁, is, ex) = read_is (length head) (rounded_entry head) (entry c.entry head) x e in
-          let w : Walked (empty us) (state_of us c lack) head (left_from s (c.place + length head + 1)) accepted.others =
-          walk_ok (empty us) (state_of us c lack) head (left_from s (c.place + length head + 1)) accepted.others
-          (ap (λ (ss : List (List ℕ)). walk (empty us) (state_of us c lack) ss) (sym (left_is s c.place hi)) ∙ accepted.rest) in
-          let same : w.first ≡ e₁ = ok_path w.first e₁ (sym (step_ok (empty us) (state_of us c lack) head w.first w.stepped).is ∙ is) in
-          let q : step (empty us) (state_of us c lack) head ≡ ok e₁ = w.stepped ∙ ap ok same in
-          let u : takes (empty us) (state_of us c lack) e₁ ≡ a =
-          sym (takes_cut us s pre lack c st rd hi e₁ q (length head) (rounded_entry head))
-          ∙ ap (λ (y : Item). takes (empty us) (state_of us c c.lack) (item_entry y)) ex
-          ∙ ap (λ (b : Bool). cond (eqb c.lack 0 && not b) x.units 0) (empty_is us ∙ ap (λ (m : ℕ). eqb m 0) (sym en))
-          ∙ sym ea in
-          turned us s pre lack c st rd hi e₁ q 0 d x a ex u
-          (ed
-          ∙ ap (λ (m : ℕ). advanced c 0 m x.glyphs (c.place + x.used + 1)) (sym u)
-          ∙ ap (λ (y : Item). advanced c 0 (takes (empty us) (state_of us c lack) e₁) y.glyphs (c.place + y.used + 1)) (sym ex))
+      glyphs_are : e.glyphs ≡ x.glyphs
+      glyphs_are = let l : e.glyphs - 1 ≤ length w.others.glyphs = rw open_is at lacks in omega (arith, glyphs_said, few_others)
 
-  -- what the turn stores
-  module _ (pre : Parts) (lack : ℕ) (c d : Cursor) (t : ℕ) (x : Item) (w : Turned us s pre lack c d t x) (st : Stands us s pre lack c) where
-    abbrev more : Parts
-    more = added (empty us) (state_of us c lack) w.e
+      units_are : takes (empty us) st e ≡ taken n x
+      units_are =
+          rw (open_is, bare_is)
+          (cases (eqb n 0)
+          (λ t. rw t)
+          (λ t. let l : leb e.units (length (drop at.units us)) ≡ true = rw (open_is, bare_is, t) at (steps (Ok x) qs h).twelve in
+          rw t (omega (arith, units_said, leb-true e.units (length (drop at.units us)) l, length-drop at.units us))))
 
-    then : Accepted (joined pre more) w.lack' d
-    then = accepted (joined pre more) w.lack' d w.stands
+      inside_on : at.units + taken n x ≤ length us
+      inside_on =
+          let l : leb (taken n x) (length (drop at.units us)) ≡ true = rw units_are at (steps (Ok x) qs h).twelve in
+          omega (arith, leb-true (taken n x) (length (drop at.units us)) l, length-drop at.units us, f.inside)
 
-    glyphs_cut : min w.e.glyphs cap ≡ x.glyphs
-    glyphs_cut = ap (λ (y : Item). y.glyphs) w.item_is
+      parts_are : add_glyph true (cluster (taken n x) x.glyphs) x.glyph w.others ≡ f.parts
+      parts_are = rw (units_are, open_is, glyphs_are, glyph_said) at w.is
 
-    few_glyphs : eqb c.lack 0 ≡ true → w.e.glyphs ≤ 262146
-    few_glyphs h =
-        let l : w.lack' ≤ length (left_from s d.place) = walk_lack (left_from s d.place) (empty us) (state_of us d w.lack') then.others
-        then.rest in
-        let m : w.lack' ≡ w.e.glyphs - 1 = w.lacks ∙ rw (w.opened, h) in
-        omega (arith, left_few s d.place, w.ready.few_bytes)
+      state_is : next (empty us) st e ≡ state_at us (opened at (taken n x) x.glyphs) at.glyphs
+      state_is = rw (units_are, open_is, glyphs_are, drop-drop, add-one)
 
-    small_counts : c.lack ≡ 0 → (t < 2147483648) × (x.glyphs < 2147483648)
-    small_counts h =
-        let f = few_glyphs (eq-eqb c.lack 0 h) in
-        (omega (arith, w.units_few, w.ready.few_units), omega (arith, f, glyphs_cut))
+      left : Storing cw gw (add_glyph true (cluster (taken n x) x.glyphs) x.glyph w.others) cs gs at.clusters at.glyphs
+      left = subst (λ (p : Parts). Storing cw gw p cs gs at.clusters at.glyphs) (sym parts_are) f.storing
 
-    opened_is : cluster_bytes more.clusters ≡ cluster_bytes (opened_here c.lack t x.glyphs)
-    unfolding opened_here
-    opened_is =
-        rw w.opened
-        (cases (eqb c.lack 0)
-        (λ h. let g : w.e.glyphs ≡ x.glyphs = omega (arith, few_glyphs h, glyphs_cut) in
-        rw (← g, ← w.units_are, w.opened, h))
-        (λ h. rw h))
+      opens_fit : Opens n at x (length cs)
+      opens_fit =
+          record {
+            units = omega (arith, inside_on, short);
+            glyphs = omega (arith, few_others, glyphs_are, glyphs_said, rw open_is at lacks);
+            inside = omega (arith, inside_on, short);
+            room = (opened_room left).0;
+          }
 
-    glyph_is : glyph_bytes more.glyphs ≡ glyph_places x.glyph
-    unfolding flat_glyphs from_words glyph_bytes glyph_places
-    glyph_is = rw (← w.item_is) (cases (eqb lack 0) (λ h. rw h) (λ h. rw h))
+      opened_on : {d : Stored} {cs' gs' : List ℕ} → d ≡ behind n at x → cs' ≡ sets cs (8 * at.clusters) (cluster_opened n at x)
+          → gs' ≡ sets gs (16 * at.glyphs) (glyph_places x.glyph) → Filled cw gw us qs cs' gs' d
+      opened_on {d} {cs'} {gs'} ed ec eg =
+          subst (λ (z : Stored). Filled cw gw us qs cs' gs' z) (sym (rw open_is at ed)) (record {
+            entries = (entry_is (Ok x) qs h).behind;
+            results = (entry_is (Ok x) qs h).others x refl;
+            opener = at.glyphs;
+            parts = w.others;
+            walked = rw state_is at w.walked;
+            storing = storing_opened left (rw open_is at ec) eg;
+            inside = inside_on;
+            few = few_others;
+          })
 
-    room_clusters : 8 * c.clusters + length (cluster_bytes (opened_here c.lack t x.glyphs)) ≤ 8 * length all.clusters
-    room_clusters = listed_room _ _ _ _ clusters_listed all pre c.clusters st.clusters_are more then.others then.is _ opened_is
+    -- it is a further glyph
+    module _ (o : at.lack ≡ 0 → ⊥) where
+      shut_is : eqb at.lack 0 ≡ false
+      shut_is = ne_eqb at.lack 0 o
 
-    room_glyphs : 16 * c.entry + 16 ≤ 16 * length all.glyphs
-    unfolding glyph_places
-    room_glyphs = listed_room _ _ _ _ glyphs_listed all pre c.entry st.glyphs_are more then.others then.is _ glyph_is
+      parts_on : ◌≡◌ {A = Parts} (record { clusters = w.others.clusters; glyphs = x.glyph ∷ w.others.glyphs }) f.parts
+      parts_on = rw (shut_is, glyph_said) at w.is
 
-    module _ (old out out' : List ℕ) where
-      clusters_stored : Stored old out (cluster_bytes pre.clusters) → out' ≡ sets out (8 * c.clusters) (cluster_bytes (opened_here c.lack t x.glyphs))
-          → 8 * length all.clusters ≤ length old → Stored old out' (cluster_bytes (joined pre more).clusters)
-      clusters_stored = listed_stored _ _ _ _ clusters_listed all pre c.clusters st.clusters_are more then.others then.is _ opened_is old out out'
+      state_on : next (empty us) st e ≡ state_at us (added at) f.opener
+      state_on = rw (shut_is, add-one, add-zero)
 
-      glyphs_stored : Stored old out (glyph_bytes pre.glyphs) → out' ≡ sets out (16 * c.entry) (glyph_places x.glyph)
-          → 16 * length all.glyphs ≤ length old → Stored old out' (glyph_bytes (joined pre more).glyphs)
-      glyphs_stored = listed_stored _ _ _ _ glyphs_listed all pre c.entry st.glyphs_are more then.others then.is _ glyph_is old out out'
+      left_on : Storing cw gw (record { clusters = w.others.clusters; glyphs = x.glyph ∷ w.others.glyphs }) cs gs at.clusters at.glyphs
+      left_on = subst (λ (p : Parts). Storing cw gw p cs gs at.clusters at.glyphs) (sym parts_on) f.storing
 
-  module _ (c₀ g₀ cs gs : List ℕ) (c : Cursor) (l : Filled us s c₀ g₀ cs gs c) (hi : c.place ≤ length s) (hc : 8 * length all.clusters ≤ length c₀)
-      (hg : 16 * length all.glyphs ≤ length g₀)
-      (n : ℕ) (en : n ≡ length us) (x : Item) (h : entry_at s c ≡ ok x) where
-    abbrev units : ℕ
-    units = taken_by n c.lack x.units
+      added_on : {d : Stored} {cs' gs' : List ℕ} → d ≡ behind n at x → cs' ≡ sets cs (8 * at.clusters) (cluster_opened n at x)
+          → gs' ≡ sets gs (16 * at.glyphs) (glyph_places x.glyph) → Filled cw gw us qs cs' gs' d
+      added_on {d} {cs'} {gs'} ed ec eg =
+          let same : cs' ≡ cs = rw shut_is at ec in
+          subst (λ (z : Stored). Filled cw gw us qs cs' gs' z) (sym (rw shut_is at ed)) (record {
+            entries = (entry_is (Ok x) qs h).behind;
+            results = (entry_is (Ok x) qs h).others x refl;
+            opener = f.opener;
+            parts = w.others;
+            walked = rw state_on at w.walked;
+            storing = rw same (storing_added left_on eg);
+            inside = f.inside;
+            few = few_others;
+          })
 
-    abbrev behind : Cursor
-    behind = advanced c 0 units x.glyphs (c.place + x.used + 1)
-
-    turn : (d : Cursor) → d ≡ behind → Turned us s l.pre l.lack c d units x
-    turn d ed = fill_turn l.pre l.lack c l.stands l.ready hi x n units h en refl d ed
-
-    storable : Storable n c x (length cs) (length gs)
-    storable =
-        let w : Turned us s l.pre l.lack c behind units x = turn behind refl in (
-          small_counts l.pre l.lack c behind units x w l.stands,
-          omega (arith, hc, l.clusters.same, room_clusters l.pre l.lack c behind units x w l.stands),
-          omega (arith, hg, l.glyphs.same, room_glyphs l.pre l.lack c behind units x w l.stands),
-          omega (arith, l.ready.number, hi, l.ready.few_bytes),
-          omega (arith, w.units_few, l.ready.few_units),
-          l.ready.some,
-          omega (arith, w.behind, l.ready.few_bytes),
-        )
-
-    filled_on : (d : Cursor) (cs' gs' : List ℕ) → d ≡ behind → cs' ≡ sets cs (8 * c.clusters) (cluster_bytes (opened_here c.lack units x.glyphs))
-        → gs' ≡ sets gs (16 * c.entry) (glyph_places x.glyph) → Filled us s c₀ g₀ cs' gs' d
-    filled_on d cs' gs' ed ec eg =
-        let w : Turned us s l.pre l.lack c d units x = turn d ed in
+    pub fill_turn : Turn cw gw us qs cs gs at n x
+    fill_turn =
         record {
-          pre = joined l.pre (added (empty us) (state_of us c l.lack) w.e);
-          lack = w.lack';
-          stands = w.stands;
-          ready = w.ready;
-          clusters = clusters_stored l.pre l.lack c d units x w l.stands c₀ cs cs' l.clusters ec hc;
-          glyphs = glyphs_stored l.pre l.lack c d units x w l.stands g₀ gs gs' l.glyphs eg hg;
+          fits = record {
+            cluster = λ o. opens_fit o;
+            glyph = cases (eqb at.lack 0) (λ t. (opened_room (left (eqb-true at.lack 0 t))).1) (λ t. added_room (left_on (eqb-false at.lack 0 t)));
+          };
+          then = λ ed ec eg. cases (eqb at.lack 0) (λ t. opened_on (eqb-true at.lack 0 t) ed ec eg) (λ t. added_on (eqb-false at.lack 0 t) ed ec eg);
         }
-
-    pub fills : Fills us s c₀ g₀ cs gs c n x
-    fills = record { fits = storable; then = filled_on }
 
   -- ── the end ──
 
-  module _ (pre : Parts) (lack : ℕ) (c : Cursor) (st : Stands us s pre lack c) (rd : Ready us s c) (hi : length s < c.place) where
-    shut : c.lack ≡ 0
-    shut =
-        cases (eqb c.lack 0)
-        (λ t. eqb-true c.lack 0 t)
-        (λ t. never 14 c.opener (ends_open us s pre lack c st rd hi (eqb-false c.lack 0 t)))
-
-    -- `rest`: the units not used yet
-    module _ (rest : List ℕ) (er : rest ≡ drop c.unit us) where
-      all_parts : joined pre (tail rest) ≡ all
-      all_parts = ok_path _ all (ap (λ (r : List ℕ). ok (joined pre (tail r))) er ∙ sym (ends_shut us s pre lack c st rd hi shut) ∙ good)
-
-      -- how many there are with the tail
-      pub end_clusters : c.clusters + length (tail rest).clusters ≡ length all.clusters
-      end_clusters = end_count _ _ _ _ clusters_listed all pre c.clusters st.clusters_are (tail rest) all_parts
-
-      pub end_glyphs : c.entry + length (tail rest).glyphs ≡ length all.glyphs
-      end_glyphs = end_count _ _ _ _ glyphs_listed all pre c.entry st.glyphs_are (tail rest) all_parts
-
-      module _ (old out out' : List ℕ) where
-        -- and with it the buffers hold the run
-        pub clusters_end : Stored old out (cluster_bytes pre.clusters) → out' ≡ sets out (8 * c.clusters) (cluster_bytes (tail rest).clusters)
-            → 8 * length all.clusters ≤ length old → out' ≡ filled (cluster_bytes all.clusters) old
-        clusters_end = end_filled _ _ _ _ clusters_listed all pre c.clusters st.clusters_are (tail rest) all_parts old out out'
-
-        pub glyphs_end : Stored old out (glyph_bytes pre.glyphs) → out' ≡ sets out (16 * c.entry) (glyph_bytes (tail rest).glyphs)
-            → 16 * length all.glyphs ≤ length old → out' ≡ filled (glyph_bytes all.glyphs) old
-        glyphs_end = end_filled _ _ _ _ glyphs_listed all pre c.entry st.glyphs_are (tail rest) all_parts old out out'
+  -- the tail is still to store
+  pub fill_end : rs ≡ [] → Storing cw gw (tail (drop at.units us)) cs gs at.clusters at.glyphs
+  fill_end h =
+      let none : f.entries ≡ [] = no_entry at.glyphs f.entries (sym f.results ∙ h) in
+      let done : walk (empty us) st [] ≡ ok f.parts = subst (λ (ss : List (List ℕ)). walk (empty us) st ss ≡ ok f.parts) none f.walked in
+      let (t, b) = need_ok (opens st) 14 f.opener (ok (tail (drop at.units us))) f.parts (sym (walk_end (empty us) st) ∙ done) in
+      subst (λ (p : Parts). Storing cw gw p cs gs at.clusters at.glyphs) (sym (ok_path (tail (drop at.units us)) f.parts b)) f.storing

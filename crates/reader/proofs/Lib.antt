@@ -1,4 +1,4 @@
-pub mod Stores
-pub mod Filling
+pub mod Storing
 pub mod Tails
+pub mod Filling
 pub mod Calls

@@ -1,27 +1,18 @@
 -- What the second pass stores: the places of an entry's cluster and of its glyph.
 -- Assumes nothing.
-use Rattle.label.specs.Limits.{max_indices_bytes, max_units}
+use Rattle.std.specs.Prelude.{ℕ, ◌+◌, ◌-◌, ◌*◌, ◌/◌, ◌≤◌, ◌<◌, ◌≡◌, cond, List, [], ◌++◌, eqb}
+use Rattle.label.specs.Limits.{max_units}
 use Rattle.label.specs.Outcome.{ok}
 use Rattle.label.specs.Run.{cluster}
-use Rattle.label.specs.Checks.{read}
-use Rattle.label.specs.Wire.{bits_of, four_bytes, from_words}
-use Rattle.label.specs.Places.{index_number, advance_number, flat_clusters, flat_glyphs}
+use Rattle.label.specs.Steps.{run_from}
+use Rattle.label.specs.Wire.{four_bytes, from_words}
+use Rattle.label.specs.Places.{flat_clusters, flat_glyphs}
 use Rattle.label.specs.Calls.{counted}
 use Rattle.label.specs.declared.Counts.{Counts}
-use Rattle.std.specs.Prelude.{ℕ, ◌+◌, ◌*◌, ◌≤◌, ◌<◌, ◌≡◌, cond, not, ◌&&◌, List, [], ◌∷◌, ◌++◌, eqb, length}
-use Rattle.label.specs.declared.Cursor.{Cursor}
 use Rattle.label.specs.declared.Cluster.{Cluster}
 use Rattle.label.specs.declared.Glyph.{Glyph}
-use Rattle.text.specs.Texts.{units_start}
 use Rattle.entry.specs.declared.Item.{Item}
-
--- the units that an entry takes in a text of `count` units: its own where it opens a cluster and there are any
-abbrev pub taken_by : ℕ → ℕ → ℕ → ℕ
-taken_by count lack units = cond (eqb lack 0 && not (eqb count 0)) units 0
-
--- the cluster that an entry opens, where none is open
-unfoldable pub opened_here : ℕ → ℕ → ℕ → List Cluster
-opened_here lack a b = cond (eqb lack 0) (cluster a b ∷ []) []
+use Rattle.reader.specs.declared.Stored.{Stored}
 
 -- the bytes of clusters and of glyphs
 unfoldable pub cluster_bytes : List Cluster → List ℕ
@@ -30,29 +21,45 @@ cluster_bytes cs = from_words (flat_clusters cs)
 unfoldable pub glyph_bytes : List Glyph → List ℕ
 glyph_bytes gs = from_words (flat_glyphs gs)
 
--- a cluster's 8 bytes, and a glyph's 16
+-- a cluster's 8 bytes
 unfoldable pub cluster_places : Cluster → List ℕ
 cluster_places c = four_bytes c.units ++ four_bytes c.glyphs
 
-unfoldable pub glyph_places : Glyph → List ℕ
-glyph_places g =
-    four_bytes (bits_of (index_number g.index))
-    ++ (four_bytes (bits_of (advance_number g.advance)) ++ (four_bytes (bits_of g.u) ++ four_bytes (bits_of g.v)))
+-- what is stored behind a cluster of a units and b glyphs and the first of these
+abbrev pub opened : Stored → ℕ → ℕ → Stored
+opened at a b = record { clusters = at.clusters + 1; glyphs = at.glyphs + 1; units = at.units + a; lack = b - 1 }
 
--- entry x at cursor c can be stored in m bytes of clusters and n of glyphs, and the walk can go on
-abbrev pub Storable : ℕ → Cursor → Item → ℕ → ℕ → Type 0
-Storable count c x m n =
-    (c.lack ≡ 0 → (taken_by count c.lack x.units < 2147483648) × (x.glyphs < 2147483648))
-    × (8 * c.clusters + length (cluster_bytes (opened_here c.lack (taken_by count c.lack x.units) x.glyphs)) ≤ m) × (16 * c.entry + 15 < n)
-    × (c.entry ≤ max_indices_bytes) × (c.unit + taken_by count c.lack x.units ≤ max_units)
-    × (c.clusters ≤ c.entry) × (c.place + x.used ≤ max_indices_bytes)
+-- and behind a further glyph
+abbrev pub added : Stored → Stored
+added at = record { clusters = at.clusters; glyphs = at.glyphs + 1; units = at.units; lack = at.lack - 1 }
 
--- the label is accepted, with a run of `count` units that start at that byte of its text; it fits into u, c and g bytes
-pub record Fillable (text : List ℕ) (start : ℕ) (indices : List ℕ) (count u c g : ℕ) : Type 0 where
+-- the units of the cluster that entry x opens in a text of `count` units: its own, where there are any
+abbrev pub taken : ℕ → Item → ℕ
+taken count x = cond (eqb count 0) 0 x.units
+
+-- what is stored behind entry x, which opens a cluster where none is open
+abbrev pub behind : ℕ → Stored → Item → Stored
+behind count at x = cond (eqb at.lack 0) (opened at (taken count x) x.glyphs) (added at)
+
+-- the bytes of its cluster, if it opens one
+abbrev pub cluster_opened : ℕ → Stored → Item → List ℕ
+cluster_opened count at x = cond (eqb at.lack 0) (cluster_places (cluster (taken count x) x.glyphs)) []
+
+-- there is room for what entry x stores in m bytes of clusters and n of glyphs, and its counts can be stored
+pub record Opens (count : ℕ) (at : Stored) (x : Item) (m : ℕ) : Type 0 where
+  pub units : taken count x < 2147483648
+  pub glyphs : x.glyphs < 2147483648
+  pub inside : at.units + taken count x ≤ max_units
+  pub room : at.clusters < m / 8
+
+pub record Storable (count : ℕ) (at : Stored) (x : Item) (m n : ℕ) : Type 0 where
+  pub cluster : at.lack ≡ 0 → Opens count at x m
+  pub glyph : at.glyphs < n / 16
+
+-- a text of these units with these indices is accepted, and its run fits into u bytes of units, c of clusters and g of glyphs
+pub record Fillable (us indices : List ℕ) (u c g : ℕ) : Type 0 where
   pub counts : Counts
-  pub are : counted (read text indices) ≡ ok counts
-  pub starts : start ≡ units_start text
-  pub units : count ≡ counts.units
+  pub are : counted (run_from us indices) ≡ ok counts
   pub units_room : 2 * counts.units ≤ u
   pub clusters_room : 8 * counts.clusters ≤ c
   pub glyphs_room : 16 * counts.glyphs ≤ g

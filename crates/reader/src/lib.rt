@@ -4,66 +4,97 @@
 
 ghost use Rattle.std.specs.Prelude.{◌+◌, ◌*◌, ◌/◌, ◌≤◌, ◌<◌, ◌≡◌, cond, length, drop};
 ghost use Rattle.std.proofs.lemmas.List.Edits.{sets};
+ghost use Rattle.label.specs.Limits.{max_units};
 ghost use Rattle.label.specs.Text.{is_pair};
-ghost use Rattle.label.specs.Run.{tail};
-ghost use Rattle.label.specs.Checks.{read as read_label};
-ghost use Rattle.label.specs.Wire.{bits_of};
+ghost use Rattle.label.specs.Run.{cluster, tail};
+ghost use Rattle.label.specs.Steps.{run_from};
 ghost use Rattle.label.specs.Fetched.{halves};
-ghost use Rattle.label.specs.Places.{index_number, advance_number};
 ghost use Rattle.label.specs.Calls.{reading_outcome, reading_rounded, room_of, read_into, counted, units_after, clusters_after, glyphs_after};
 ghost use Rattle.label.specs.Requests.RoundedCount.{rounded as rounded_in, beside};
-ghost use Rattle.text.specs.Texts.{units_start};
-ghost use Rattle.survey.specs.Steps.{advanced};
-ghost use Rattle.reader.specs.Stores.{taken_by, opened_here, glyph_places, cluster_bytes, glyph_bytes, Storable, Fillable};
+ghost use Rattle.wire.specs.Stores.{glyph_places};
+ghost use Rattle.text.specs.Moves.{units as units_of};
+ghost use Rattle.reader.specs.Stores.{cluster_places, cluster_bytes, glyph_bytes, opened, added, behind, cluster_opened, Storable, Fillable};
 
-use label::{Advance, Cause, Cursor, Glyph, Index, Reading, Refusal};
+use entry::{Entries, Item};
+use label::{Advance, Cause, Glyph, Index, Label, Reading, Refusal};
+use text::TextUnits;
+use wire::{ClusterNumbers, GlyphNumbers};
 
-// An index's number, and an advance's, by its bits.
-fn index_bits(i: Index) -> u32
-    ensures { result ≡ bits_of (index_number i) }
+// How much of a run is stored: its clusters, its glyphs and the units of its clusters; and how many glyphs the last cluster still lacks.
+#[derive(Clone, Copy)]
+struct Stored {
+    clusters: usize,
+    glyphs: usize,
+    units: usize,
+    lack: usize,
+}
+
+// A glyph that is wholly the font's.
+const FONT: Glyph = Glyph {
+    index: Index::Font,
+    advance: Advance::Own,
+    u: 0,
+    v: 0,
+};
+
+// The buffers of clusters and of glyphs are lent side by side, since each has a clause that says what it holds afterwards.
+
+// Stores a cluster of `units` units and `count` glyphs, and its first glyph.
+fn open_cluster(
+    at: Stored,
+    units: usize,
+    count: usize,
+    glyph: Glyph,
+    clusters: &mut [u8],
+    glyphs: &mut [u8],
+) -> Stored
+    requires counts { (units < 2147483648) × (count < 2147483648) × (at.units + units ≤ max_units) }
+    requires room { (at.clusters < length clusters.old / 8) × (at.glyphs < length glyphs.old / 16) }
+    ensures value { result ≡ opened at units count }
+    ensures clusters { clusters.new ≡ sets clusters.old (8 * at.clusters) (cluster_places (cluster units count)) }
+    ensures glyphs { glyphs.new ≡ sets glyphs.old (16 * at.glyphs) (glyph_places glyph) }
 {
-    match i {
-        Index::Named(n) => u32::from(n),
-        Index::Font => 0xffff_ffff,
+    let cluster = ClusterNumbers {
+        units: units as i32,
+        glyphs: count as i32,
+    };
+    cluster.put_at(clusters, at.clusters);
+    GlyphNumbers::from(glyph).put_at(glyphs, at.glyphs);
+    Stored {
+        clusters: at.clusters + 1,
+        glyphs: at.glyphs + 1,
+        units: at.units + units,
+        lack: count.saturating_sub(1),
     }
 }
 
-fn advance_bits(a: Advance) -> u32
-    ensures { result ≡ bits_of (advance_number a) }
+// Stores a further glyph of the last cluster.
+fn add_glyph(at: Stored, glyph: Glyph, glyphs: &mut [u8]) -> Stored
+    requires { (0 < at.lack) × (at.glyphs < length glyphs.old / 16) }
+    ensures value { result ≡ added at }
+    ensures glyphs { glyphs.new ≡ sets glyphs.old (16 * at.glyphs) (glyph_places glyph) }
 {
-    match a {
-        Advance::Given(n) => n,
-        Advance::Own => 0xffff_ffff,
+    GlyphNumbers::from(glyph).put_at(glyphs, at.glyphs);
+    Stored {
+        glyphs: at.glyphs + 1,
+        lack: at.lack - 1,
+        ..at
     }
 }
 
-// Glyph k's 16 bytes.
-fn put_glyph(out: &mut [u8], k: usize, g: Glyph)
-    requires { 16 * k + 15 < length out.old }
-    ensures { out.new ≡ sets out.old (16 * k) (glyph_places g) }
+// Stores what entry x says in a text of `count` units: the cluster that it opens, if none is open, and its glyph.
+fn put_entry(count: usize, at: Stored, x: Item, clusters: &mut [u8], glyphs: &mut [u8]) -> Stored
+    requires { Storable count at x (length clusters.old) (length glyphs.old) }
+    ensures value { result ≡ behind count at x }
+    ensures clusters { clusters.new ≡ sets clusters.old (8 * at.clusters) (cluster_opened count at x) }
+    ensures glyphs { glyphs.new ≡ sets glyphs.old (16 * at.glyphs) (glyph_places x.glyph) }
 {
-    let index = g.index;
-    let advance = g.advance;
-    let at = 4 * k;
-    wire::put_bits(out, at, index_bits(index));
-    wire::put_bits(out, at + 1, advance_bits(advance));
-    let u = g.u;
-    wire::put_number(out, at + 2, u);
-    let v = g.v;
-    wire::put_number(out, at + 3, v);
-}
-
-// Cluster n's 8 bytes, where the entry opens one.
-fn put_cluster(out: &mut [u8], lack: usize, n: usize, a: usize, b: usize)
-    requires a_bound { lack ≡ 0 → (a < 2147483648) × (b < 2147483648) }
-    requires room { 8 * n + length (cluster_bytes (opened_here lack a b)) ≤ length out.old }
-    ensures { out.new ≡ sets out.old (8 * n) (cluster_bytes (opened_here lack a b)) }
-{
-    if lack == 0 {
-        let at = 2 * n;
-        wire::put_bits(out, at, a as u32);
-        wire::put_bits(out, at + 1, b as u32);
+    if at.lack != 0 {
+        return add_glyph(at, x.glyph, glyphs);
     }
+    // In a text of no units a cluster has none.
+    let units = if count == 0 { 0 } else { x.units };
+    open_cluster(at, units, x.glyphs, x.glyph, clusters, glyphs)
 }
 
 // How many units the tail's cluster at unit j has.
@@ -74,126 +105,65 @@ fn tail_units(units: &[u8], j: usize) -> usize
     if units::is_pair_at(units, j) { 2 } else { 1 }
 }
 
-// The tail of these units, from cluster n and glyph k on.
-fn fill_tail(units: &[u8], n: usize, k: usize, clusters: &mut [u8], glyphs: &mut [u8])
-    requires { let t = tail (halves units.now) in
-        (8 * (n + length t.clusters) ≤ length clusters.old) × (16 * (k + length t.glyphs) ≤ length glyphs.old) }
-    ensures clusters_after { clusters.new ≡ sets clusters.old (8 * n) (cluster_bytes (tail (halves units.now)).clusters) }
-    ensures glyphs_after { glyphs.new ≡ sets glyphs.old (16 * k) (glyph_bytes (tail (halves units.now)).glyphs) }
+// Stores the tail: the units of the run that no cluster has yet, each with a glyph of the font's.
+fn fill_tail(units: &[u8], at: Stored, clusters: &mut [u8], glyphs: &mut [u8])
+    requires units { (at.units ≤ length (halves units.now)) × (length (halves units.now) ≤ max_units) }
+    requires room { let t = tail (drop at.units (halves units.now)) in
+        (8 * (at.clusters + length t.clusters) ≤ length clusters.old) × (16 * (at.glyphs + length t.glyphs) ≤ length glyphs.old) }
+    ensures clusters_after { clusters.new ≡ sets clusters.old (8 * at.clusters) (cluster_bytes (tail (drop at.units (halves units.now))).clusters) }
+    ensures glyphs_after { glyphs.new ≡ sets glyphs.old (16 * at.glyphs) (glyph_bytes (tail (drop at.units (halves units.now))).glyphs) }
 {
     let count = wire::unit_count(units);
-    let mut j = 0;
-    let mut c = n;
-    let mut g = k;
-    while j < count {
-        let a = tail_units(units, j);
-        put_cluster(clusters, 0, c, a, 1);
-        put_glyph(
-            glyphs,
-            g,
-            Glyph {
-                index: Index::Font,
-                advance: Advance::Own,
-                u: 0,
-                v: 0,
-            },
-        );
-        j += a;
-        c += 1;
-        g += 1;
+    let mut at = at;
+    while at.units < count {
+        let taken = tail_units(units, at.units);
+        at = open_cluster(at, taken, 1, FONT, clusters, glyphs);
     }
 }
 
-// The units that an entry takes in a text of `count` units: its own where it opens a cluster and there are any.
-fn taken(count: usize, lack: usize, units: usize) -> usize
-    ensures { result ≡ taken_by count lack units }
+// Stores the run of these units and indices, which are accepted.
+fn fill(text: TextUnits, indices: &[u8], units: &mut [u8], clusters: &mut [u8], glyphs: &mut [u8])
+    requires { Fillable (units_of text.passage) indices.now (length units.old) (length clusters.old) (length glyphs.old) }
+    ensures units { units.new ≡ units_after (run_from (units_of text.entry.passage) indices.now) units.old }
+    ensures clusters { clusters.new ≡ clusters_after (run_from (units_of text.entry.passage) indices.now) clusters.old }
+    ensures glyphs { glyphs.new ≡ glyphs_after (run_from (units_of text.entry.passage) indices.now) glyphs.old }
 {
-    if lack != 0 {
-        return 0;
-    }
-    if count == 0 { 0 } else { units }
-}
-
-// The cluster that entry x opens, if any, and its glyph; returns the cursor behind it.
-fn put_entry(
-    count: usize,
-    at: Cursor,
-    x: entry::Item,
-    clusters: &mut [u8],
-    glyphs: &mut [u8],
-) -> Cursor
-    requires { Storable count at x (length clusters.old) (length glyphs.old) }
-    ensures value { result ≡ advanced at 0 (taken_by count at.lack x.units) x.glyphs (at.place + x.used + 1) }
-    ensures clusters { let a = taken_by count at.lack x.units in
-        clusters.new ≡ sets clusters.old (8 * at.clusters) (cluster_bytes (opened_here at.lack a x.glyphs)) }
-    ensures glyphs { glyphs.new ≡ sets glyphs.old (16 * at.entry) (glyph_places x.glyph) }
-{
-    let a = taken(count, at.lack, x.units);
-    let b = x.glyphs;
-    let g = x.glyph;
-    put_cluster(clusters, at.lack, at.clusters, a, b);
-    put_glyph(glyphs, at.entry, g);
-    survey::advance(at, 0, a, b, at.place + x.used + 1)
-}
-
-// The run of an accepted label of `count` units, which start at a byte of the text.
-fn fill(
-    text: &[u8],
-    start: usize,
-    indices: &[u8],
-    count: usize,
-    units: &mut [u8],
-    clusters: &mut [u8],
-    glyphs: &mut [u8],
-)
-    requires { Fillable text.now start indices.now count (length units.old) (length clusters.old) (length glyphs.old) }
-    ensures units { units.new ≡ units_after (read_label text.now indices.now) units.old }
-    ensures clusters { clusters.new ≡ clusters_after (read_label text.now indices.now) clusters.old }
-    ensures glyphs { glyphs.new ≡ glyphs_after (read_label text.now indices.now) glyphs.old }
-{
-    text::fill_units(text, start, units);
-    // This pass stores the clusters and the glyphs and does not look at the text again: the cursor's byte stays 0.
-    let mut at = survey::first_cursor(indices, 0);
-    while at.place <= indices.len() {
-        let place = at.place;
-        let digits = number::digits_at(indices, place, 0);
-        if entry::is_index(indices, place, digits) {
-            at = put_entry(count, at, entry::index_item(digits), clusters, glyphs);
-        } else {
-            match entry::read_entry(&indices[place..], digits, at.entry) {
-                Ok(x) => {
-                    at = put_entry(count, at, x, clusters, glyphs);
-                }
-                // An accepted label has no such entry.
-                Err(_) => unreachable!(),
-            }
+    text.passage.fill_units(units);
+    let mut at = Stored {
+        clusters: 0,
+        glyphs: 0,
+        units: 0,
+        lack: 0,
+    };
+    for entry in Entries::new(indices) {
+        match entry {
+            Ok(x) => at = put_entry(text.count, at, x, clusters, glyphs),
+            // An accepted label has no such entry.
+            Err(_) => unreachable!(),
         }
     }
-    let from = 2 * at.unit;
-    let end = 2 * count;
-    fill_tail(&units[from..end], at.clusters, at.entry, clusters, glyphs);
+    fill_tail(&units[..2 * text.count], at, clusters, glyphs);
 }
 
 // The reading of a label: 1 to 18 in order, or its run is stored.
 pub fn read(
-    text: &[u8],
-    indices: &[u8],
+    label: Label,
     units: &mut [u8],
     clusters: &mut [u8],
     glyphs: &mut [u8],
 ) -> Result<Reading, Refusal>
     ensures result { let room = room_of units.old clusters.old glyphs.old in
-        reading_outcome result ≡ counted (read_into room text.now indices.now) }
+        reading_outcome result ≡ counted (read_into room label.entry.text.now label.entry.indices.now) }
     ensures rounded { let room = room_of units.old clusters.old glyphs.old in
-        reading_rounded result ≡ beside (rounded_in indices.now) (read_into room text.now indices.now) }
+        reading_rounded result ≡ beside (rounded_in label.entry.indices.now) (read_into room label.entry.text.now label.entry.indices.now) }
     ensures units { let room = room_of units.old clusters.old glyphs.old in
-        units.new ≡ units_after (read_into room text.now indices.now) units.old }
+        units.new ≡ units_after (read_into room label.entry.text.now label.entry.indices.now) units.old }
     ensures clusters { let room = room_of units.old clusters.old glyphs.old in
-        clusters.new ≡ clusters_after (read_into room text.now indices.now) clusters.old }
+        clusters.new ≡ clusters_after (read_into room label.entry.text.now label.entry.indices.now) clusters.old }
     ensures glyphs { let room = room_of units.old clusters.old glyphs.old in
-        glyphs.new ≡ glyphs_after (read_into room text.now indices.now) glyphs.old }
+        glyphs.new ≡ glyphs_after (read_into room label.entry.text.now label.entry.indices.now) glyphs.old }
 {
-    let found = survey::survey(text, indices)?;
+    let found = survey::survey(label)?;
     let counts = found.reading.counts;
     if units.len() / 2 < counts.units {
         return Err(Cause::UnitRoom.at(counts.units));
@@ -204,14 +174,6 @@ pub fn read(
     if glyphs.len() / 16 < counts.glyphs {
         return Err(Cause::GlyphRoom.at(counts.glyphs));
     }
-    fill(
-        text,
-        found.start,
-        indices,
-        counts.units,
-        units,
-        clusters,
-        glyphs,
-    );
+    fill(found.units, label.indices, units, clusters, glyphs);
     Ok(found.reading)
 }

@@ -1,140 +1,94 @@
--- `reader::fill`: the loop keeps `Filled`: the walk stands at the cursor, and the parts before it are stored; an entry of either kind goes on by one law
--- (`fills`), and behind the last the tail completes the run. Assumes nothing.
-use Prim.Native.Nat.{ℕ, ◌+◌, ◌-◌, ◌*◌, ◌≤◌, ◌<◌}
-use native.Mathlib.Omega.{arith}
-use mathlib.Core.Path.{◌≡◌, sym, ◌∙◌, ap}
-use mathlib.Core.List.{List}
-use lib.ListN.{length, take, drop}
-use lib.Seq.{sets}
+-- `reader::fill`: before the first entry all parts are left (`all_left`), an entry goes on by `fill_turn`, and behind the last the tail is left (`fill_end`).
+-- Assumes nothing.
+use Rattle.std.proofs.Common.{◌≡◌, sym, ap, ◌∙◌, ◌∷◌, ◌*◌, ◌≤◌, arith, length, take, drop, length-take-le}
+use Rattle.label.specs.Entry.{entries}
 use Rattle.label.specs.Run.{tail}
-use Rattle.label.specs.Checks.{read}
-use Rattle.label.specs.Wire.{from_halves, from_words}
+use Rattle.label.specs.Steps.{run_from}
 use Rattle.label.specs.Fetched.{halves}
-use Rattle.label.specs.Places.{flat_clusters, flat_glyphs}
-use Rattle.label.specs.Calls.{filled, clusters_after, glyphs_after}
-use Rattle.label.specs.declared.Cursor.{Cursor}
-use Rattle.text.specs.Moves.{units_from}
-use Rattle.entry.specs.declared.Item.{Item}
-use Rattle.label.specs.Outcome.{ok}
-use Rattle.survey.specs.Steps.{entry_at}
-use Rattle.reader.specs.Stores.{cluster_bytes, glyph_bytes, Fillable}
-use Rattle.reader.proofs.Calls.{filling, units_are, clusters_room, glyphs_room, units_filled, clusters_filled, glyphs_filled}
-use Rattle.reader.proofs.Filling.{Filled, Fills, place_behind, fill_never, fills, end_clusters, end_glyphs, clusters_end, glyphs_end}
-use Rattle.reader.proofs.Stores.{stored_start}
-use Rattle.reader.proofs.Tails.{units_left}
-use Rattle.survey.proofs.Walking.{nothing, stands_start, ready_start, read_here}
-use Rattle.reader.proofs.fill.Goals.{After-index_item}
+use Rattle.label.specs.Calls.{clusters_after, glyphs_after}
+use Rattle.text.specs.Moves.{units}
+use Rattle.entry.specs.Results.{results_left}
+use Rattle.reader.proofs.Calls.{parts, walked, few, units_room, units_filled, all_left}
+use Rattle.reader.proofs.Filling.{Turn, fill_turn, fill_never, fill_end}
+use Rattle.reader.proofs.Storing.{Storing}
+use Rattle.reader.proofs.Tails.{units_stored}
+use Rattle.reader.proofs.fill.Goals.{In-Ok, In-None, After-fill_units}
 use Rattle.reader.proofs.fill.Goals as goal
 
-module _ {t s c₀ g₀ cs gs : List ℕ} {b m u : ℕ} {c : Cursor} (p : Fillable t b s m u (length c₀) (length g₀))
-    (l : Filled (units_from t b) s c₀ g₀ cs gs c) where
-  -- entry x at the cursor can be stored, and then the walk stands behind it
-  taking : c.place ≤ length s → (x : Item) → entry_at s c ≡ ok x → Fills (units_from t b) s c₀ g₀ cs gs c m x
-  taking h x e =
-      let f = filling p in
-      fills _ _ f.all f.walked _ _ _ _ _ l h (clusters_room p) (glyphs_room p) _ (units_are p) x e
+-- there is room for the units, and they stand there
+room : (c : After-fill_units) → 2 * c.args.text.count ≤ length c.fill_units.new.out
+room c = omega (arith, units_room c.requires, c.args.text.counted, c.fill_units.auto.out)
 
-  -- the units left, where all were stored
-  left : (old out : List ℕ) → out ≡ filled (from_halves (units_from t b)) old
-      → halves (take (2 * m - 2 * c.unit) (drop (2 * c.unit) out)) ≡ drop c.unit (units_from t b)
-  left old out e = units_left _ old _ _ c.unit (units_are p) (omega (arith, l.ready.inside, units_are p)) e
+stands : (c : After-fill_units) → halves (take (2 * c.args.text.count) c.fill_units.new.out) ≡ units c.args.text.passage
+stands c = units_stored (units c.args.text.passage) c.args.units.now c.args.text.counted c.fill_units.ensures
 
-  -- behind the last entry, where the units `rest` are left: there is room for their tail, and with it the buffers hold the run
-  module _ (h : length s < c.place) {rest : List ℕ} (er : rest ≡ drop c.unit (units_from t b)) where
-    tail_room : (8 * (c.clusters + length (tail rest).clusters) ≤ length c₀) × (16 * (c.entry + length (tail rest).glyphs) ≤ length g₀)
-    tail_room =
-        let f = filling p in (
-          omega (arith, end_clusters _ _ f.all f.walked _ _ _ l.stands l.ready h _ er, clusters_room p),
-          omega (arith, end_glyphs _ _ f.all f.walked _ _ _ l.stands l.ready h _ er, glyphs_room p),
-        )
+-- the entry that a turn takes
+turn : (c : In-Ok) → let o = run_from (units c.args.text.passage) c.args.indices.now in
+    Turn (clusters_after o c.args.clusters.now) (glyphs_after o c.args.glyphs.now) (units c.args.text.passage) (results_left c.next.new.self)
+    c.loop-entry.clusters c.loop-entry.glyphs c.loop-entry.at c.args.text.count c.in-Ok.x
+turn c =
+    fill_turn c.loop-entry.invariant c.args.text.count c.args.text.counted (omega (arith, c.args.text.counted, c.args.text.few)) c.in-Ok.x
+    (results_left c.next.new.self) (c.in-Some.ensures.steps ∙ ap (λ y. y ∷ results_left c.next.new.self) c.in-Ok.is)
 
-    run_clusters : {out : List ℕ} → out ≡ sets cs (8 * c.clusters) (cluster_bytes (tail rest).clusters) → out ≡ clusters_after (read t s) c₀
-    run_clusters e =
-        let f = filling p in
-        clusters_filled p c₀ (clusters_end _ _ f.all f.walked _ _ _ l.stands l.ready h _ er _ _ _ l.clusters e (clusters_room p))
+-- behind the last one the tail is left
+left : (c : In-None) → let o = run_from (units c.args.text.passage) c.args.indices.now in
+    let l = c.loop-entry in
+    Storing (clusters_after o c.args.clusters.now) (glyphs_after o c.args.glyphs.now) (tail (drop l.at.units (units c.args.text.passage)))
+    l.clusters l.glyphs l.at.clusters l.at.glyphs
+left c = fill_end c.loop-entry.invariant c.in-None.ensures.steps.0
 
-    run_glyphs : {out : List ℕ} → out ≡ sets gs (16 * c.entry) (glyph_bytes (tail rest).glyphs) → out ≡ glyphs_after (read t s) g₀
-    run_glyphs e =
-        let f = filling p in
-        glyphs_filled p g₀ (glyphs_end _ _ f.all f.walked _ _ _ l.stands l.ready h _ er _ _ _ l.glyphs e (glyphs_room p))
+pub fill_units-requires : goal.fill_units-requires
+fill_units-requires c = units_room c.requires
 
--- an index alone is the entry at the cursor
-alone : (c : After-index_item) → entry_at c.args.indices.now c.loop-at.at ≡ ok c.index_item.result
-alone c = (c.is_index.ensures.alone c.if-is_index.true).1 c.loop-at.at.entry ∙ ap ok (sym c.index_item.ensures)
-
-pub fill_units-requires-clause-text_value : goal.fill_units-requires-clause-text_value
-fill_units-requires-clause-text_value c = (filling c.requires).text.decodes
-
-pub fill_units-requires-clause-from_in_bounds : goal.fill_units-requires-clause-from_in_bounds
-fill_units-requires-clause-from_in_bounds c = omega (arith, (filling c.requires).text.count, c.requires.units_room)
-
-pub loop-at-init : goal.loop-at-init
-unfolding flat_clusters flat_glyphs from_words cluster_bytes glyph_bytes
-loop-at-init c =
-    let f = filling c.requires in
-    let e = c.first_cursor-at.ensures in
+pub loop-entry-init : goal.loop-entry-init
+loop-entry-init c =
     record {
-      pre = nothing;
-      lack = 0;
-      stands = stands_start _ _ _ _ e;
-      ready = ready_start _ _ _ _ e (omega (arith, f.text.count, f.text.few)) f.few_bytes;
-      clusters = stored_start _;
-      glyphs = stored_start _;
+      entries = entries c.args.indices.now;
+      results = rw c.into_iter-entry-iterator.ensures.into_iter_gives c.new-entry-items.ensures;
+      opener = 0;
+      parts = parts c.requires;
+      walked = walked c.requires;
+      storing = all_left c.args.clusters.now c.args.glyphs.now c.requires;
+      inside = omega arith;
+      few = omega (arith, few c.requires);
     }
 
 pub put_entry-at-requires : goal.put_entry-at-requires
-put_entry-at-requires c =
-    let x = alone (goal.at.put_entry-at-requires c).After-index_item in
-    (taking c.requires c.loop-at.invariant c.loop-at-test.true _ x).fits
+put_entry-at-requires c = (turn (goal.at.put_entry-at-requires c).In-Ok).fits
 
-pub loop-at-smaller-then-is_index : goal.loop-at-smaller-then-is_index
-loop-at-smaller-then-is_index c = omega (arith, place_behind _ _ _ _ _ _ c.put_entry-at.ensures.value, c.loop-at-test.true)
-
-pub loop-at-preserved-then-is_index : goal.loop-at-preserved-then-is_index
-loop-at-preserved-then-is_index c =
-    let x = alone (goal.at.loop-at-preserved-then-is_index c).After-index_item in
-    let e = c.put_entry-at.ensures in
-    (taking c.requires c.loop-at.invariant c.loop-at-test.true _ x).then _ _ _ e.value e.clusters e.glyphs
-
-pub put_entry-at-requires-in-Ok : goal.put_entry-at-requires-in-Ok
-put_entry-at-requires-in-Ok c =
-    let x = read_here _ c.loop-at.at _ c.read_entry.ensures _ c.in-Ok.is in
-    (taking c.requires c.loop-at.invariant c.loop-at-test.true _ x).fits
-
-pub loop-at-smaller : goal.loop-at-smaller
-loop-at-smaller c = omega (arith, place_behind _ _ _ _ _ _ c.put_entry-at-in-Ok.ensures.value, c.loop-at-test.true)
-
-pub loop-at-preserved : goal.loop-at-preserved
-loop-at-preserved c =
-    let x = read_here _ c.loop-at.at _ c.read_entry.ensures _ c.in-Ok.is in
-    let e = c.put_entry-at-in-Ok.ensures in
-    (taking c.requires c.loop-at.invariant c.loop-at-test.true _ x).then _ _ _ e.value e.clusters e.glyphs
+pub loop-entry-preserved : goal.loop-entry-preserved
+loop-entry-preserved c = let e = c.put_entry-at.ensures in (turn (goal.at.loop-entry-preserved c).In-Ok).then e.value e.clusters e.glyphs
 
 pub unreachable-requires : goal.unreachable-requires
 unreachable-requires c =
-    let f = filling c.requires in
-    let i = c.loop-at.invariant in
-    let x = read_here _ c.loop-at.at _ c.read_entry.ensures _ c.in-Err.is in
-    fill_never _ _ f.all f.walked _ _ _ i.stands i.ready c.loop-at-test.true _ _ x
+    fill_never c.loop-entry.invariant c.in-Err.field-0 (results_left c.next.new.self)
+    (c.in-Some.ensures.steps ∙ ap (λ y. y ∷ results_left c.next.new.self) c.in-Err.is)
 
-pub slice_bounds-fill_tail-count : goal.slice_bounds-fill_tail-count
-slice_bounds-fill_tail-count c = omega (arith, c.loop-at.invariant.ready.inside, units_are c.requires)
+pub slice_bounds-fill_tail-end : goal.slice_bounds-fill_tail-end
+slice_bounds-fill_tail-end c = room (goal.at.slice_bounds-fill_tail-end c).After-fill_units
 
-pub slice_bounds-fill_tail-start : goal.slice_bounds-fill_tail-start
-slice_bounds-fill_tail-start c = omega (arith, c.loop-at.invariant.ready.inside, units_are c.requires)
+pub slice_bounds-fill_tail-end-2 : goal.slice_bounds-fill_tail-end-2
+slice_bounds-fill_tail-end-2 c = sym (length-take-le _ _ (room (goal.at.slice_bounds-fill_tail-end-2 c).After-fill_units))
 
-pub fill_tail-requires : goal.fill_tail-requires
-fill_tail-requires c =
-    let i = c.loop-at.invariant in
-    let r = tail_room c.requires i c.loop-at-test.false (left c.requires i _ _ c.fill_units.ensures) in
-    (omega (arith, r.0, i.clusters.same), omega (arith, r.1, i.glyphs.same))
+pub fill_tail-requires-clause-units : goal.fill_tail-requires-clause-units
+fill_tail-requires-clause-units c =
+    rw (stands (goal.at.fill_tail-requires-clause-units c).After-fill_units)
+    (c.loop-entry.invariant.inside, omega (arith, c.args.text.counted, c.args.text.few))
 
-pub returns : goal.returns
-returns c =
-    let i = c.loop-at.invariant in
-    let e = left c.requires i _ _ c.fill_units.ensures in
-    record {
-      units = units_filled c.requires _ c.fill_units.ensures;
-      clusters = run_clusters c.requires i c.loop-at-test.false e c.fill_tail.ensures.clusters_after;
-      glyphs = run_glyphs c.requires i c.loop-at-test.false e c.fill_tail.ensures.glyphs_after;
-    }
+pub fill_tail-requires-clause-room : goal.fill_tail-requires-clause-room
+fill_tail-requires-clause-room c =
+    let l = left (goal.at.fill_tail-requires-clause-room c).In-None in
+    rw (stands (goal.at.fill_tail-requires-clause-room c).After-fill_units) (l.clusters_room, l.glyphs_room)
+
+pub returns-clause-units : goal.returns-clause-units
+returns-clause-units c = units_filled c.requires _ c.fill_units.ensures
+
+pub returns-clause-clusters : goal.returns-clause-clusters
+returns-clause-clusters c =
+    rw (stands (goal.at.returns-clause-clusters c).After-fill_units) at c.fill_tail.ensures.clusters_after
+    ∙ (left (goal.at.returns-clause-clusters c).In-None).clusters
+
+pub returns-clause-glyphs : goal.returns-clause-glyphs
+returns-clause-glyphs c =
+    rw (stands (goal.at.returns-clause-glyphs c).After-fill_units) at c.fill_tail.ensures.glyphs_after
+    ∙ (left (goal.at.returns-clause-glyphs c).In-None).glyphs

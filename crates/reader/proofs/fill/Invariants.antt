@@ -1,13 +1,13 @@
--- `reader::fill`: the loop keeps `Filled`: the walk stands at the cursor, and the parts before it are stored; an entry of either kind goes on by one law
--- (`fills`), and behind the last the tail completes the run. Assumes nothing.
-use Prim.Native.Nat.{◌+◌, ◌-◌}
-use lib.ListN.{length}
-use Rattle.text.specs.Moves.{units_from}
+-- `reader::fill`: the loop keeps `Filled`: the parts of the entries that are left are still to store, and with them the buffers hold the run. Assumes nothing.
+use Rattle.label.specs.Steps.{run_from}
+use Rattle.label.specs.Calls.{clusters_after, glyphs_after}
+use Rattle.text.specs.Moves.{units}
+use Rattle.entry.specs.Results.{results_left}
 use Rattle.reader.proofs.Filling.{Filled}
 use Rattle.reader.proofs.fill.Given as goal
 
-abbrev pub invariant-loop-at : goal.invariant-loop-at
-invariant-loop-at l = Filled (units_from l.text l.start) l.indices l.initial.clusters l.initial.glyphs l.clusters l.glyphs l.at
-
-abbrev pub decreases-loop-at : goal.decreases-loop-at
-decreases-loop-at l = length l.indices + 1 - l.at.place
+abbrev pub invariant-loop-entry : goal.invariant-loop-entry
+invariant-loop-entry l =
+    let o = run_from (units l.text.passage) l.indices in
+    Filled (clusters_after o l.initial.clusters) (glyphs_after o l.initial.glyphs) (units l.text.passage) (results_left l.entry-iterator) l.clusters l.glyphs
+    l.at

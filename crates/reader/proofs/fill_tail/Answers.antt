@@ -1,40 +1,23 @@
--- `reader::fill_tail`: the loop keeps `Storing`: what is left, stored from here on, gives the whole tail stored where it begins; a turn stores one cluster and
--- its glyph. Assumes nothing.
-use Rattle.reader.proofs.Tails.{Room, storing_room, storing_next, storing_end}
-use Rattle.reader.proofs.Stores.{opened_yes, room_pair}
-use lib.Seq.{sets}
-use lib.ListN.{length}
-use mathlib.Core.Path.{refl, ◌∙◌, ap}
-use native.Mathlib.Omega.{arith}
-use Prim.Native.Nat.{◌*◌, ◌<◌}
+-- `reader::fill_tail`: a turn stores the tail's next cluster and its glyph (`tail_turn`, `tail_next`); where none is left, all is stored (`tail_stored`).
+-- Assumes nothing.
+use Rattle.std.proofs.Common.{◌<◌, arith, length}
 use Rattle.label.specs.Fetched.{halves}
-use Rattle.reader.proofs.fill_tail.Goals.{After-tail_units-a}
+use Rattle.reader.proofs.Tails.{tail_turn, tail_next, tail_stored}
 use Rattle.reader.proofs.fill_tail.Goals as goal
 
--- the next cluster, whose units `tail_units` gives, is inside the units, and there is room for it
-inside : (c : After-tail_units-a) → c.loop-j.j < length (halves c.args.units.now)
-inside c = omega (arith, c.loop-j-test.true, c.unit_count-count.ensures.value)
+pub open_cluster-at-requires-clause-room : goal.open_cluster-at-requires-clause-room
+open_cluster-at-requires-clause-room c =
+    let h : c.loop-at.at.units < length (halves c.args.units.now) = omega (arith, c.loop-at-test.true, c.unit_count-count.ensures.value) in
+    (tail_turn c.loop-at.invariant h c.tail_units-taken.ensures).room
 
-room : (c : After-tail_units-a)
-    → (let l = c.loop-j in Room (halves c.args.units.now) l.clusters l.glyphs l.j l.c l.g c.tail_units-a.result)
-room c = storing_room _ _ _ _ _ _ _ _ _ _ c.loop-j.invariant (inside c) _ c.tail_units-a.ensures
+pub loop-at-preserved : goal.loop-at-preserved
+loop-at-preserved c =
+    let h : c.loop-at.at.units < length (halves c.args.units.now) = omega (arith, c.loop-at-test.true, c.unit_count-count.ensures.value) in
+    let e = c.open_cluster-at.ensures in
+    tail_next c.loop-at.invariant h c.tail_units-taken.ensures e.value e.clusters e.glyphs
 
-pub put_cluster-requires-clause-room : goal.put_cluster-requires-clause-room
-put_cluster-requires-clause-room c =
-    let r = room (goal.at.put_cluster-requires-clause-room c).After-tail_units-a in
-    room_pair 0 c.loop-j.c c.tail_units-a.result 1 _ refl r.clusters
+pub returns-clause-clusters_after : goal.returns-clause-clusters_after
+returns-clause-clusters_after c = (tail_stored c.loop-at.invariant (omega (arith, c.loop-at-test.false, c.unit_count-count.ensures.value))).0
 
-pub put_glyph-requires : goal.put_glyph-requires
-put_glyph-requires c = omega (arith, (room (goal.at.put_glyph-requires c).After-tail_units-a).glyphs)
-
-pub loop-j-preserved : goal.loop-j-preserved
-loop-j-preserved c =
-    let l = c.loop-j in
-    storing_next _ _ _ _ _ _ _ _ _ _ l.invariant (inside (goal.at.loop-j-preserved c).After-tail_units-a) _ c.tail_units-a.ensures _ _
-    (c.put_cluster.ensures ∙ ap (sets l.clusters (8 * l.c)) (opened_yes 0 c.tail_units-a.result 1 refl))
-    c.put_glyph.ensures
-
-pub returns : goal.returns
-returns c =
-    let e = storing_end _ _ _ _ _ _ _ _ _ _ c.loop-j.invariant (omega (arith, c.loop-j-test.false, c.unit_count-count.ensures.value)) in
-    record { clusters_after = e.0; glyphs_after = e.1 }
+pub returns-clause-glyphs_after : goal.returns-clause-glyphs_after
+returns-clause-glyphs_after c = (tail_stored c.loop-at.invariant (omega (arith, c.loop-at-test.false, c.unit_count-count.ensures.value))).1
