@@ -140,7 +140,7 @@ fn relabel_in(
     ensures text { first.new ≡ text_line (relabel_read label.entry.text.now label.entry.indices.now) first.old }
     ensures indices { second.new ≡ indices_line (relabel_read label.entry.text.now label.entry.indices.now) second.old }
 {
-    let reading = reader::read(label.text, label.indices, units, clusters, glyphs)?;
+    let reading = reader::read(label, units, clusters, glyphs)?;
     let buffers = Run {
         units,
         clusters,
