@@ -4,7 +4,7 @@ use Rattle.label.proofs.Steps.{walk_end}
 use Rattle.label.specs.Outcome.{Outcome, ok, no}
 use Rattle.label.specs.Bytes.{empty}
 use Rattle.label.specs.Entry.{Entry, entries}
-use Rattle.label.specs.Run.{Parts, tail, State, start_state, opens, takes, next}
+use Rattle.label.specs.Run.{Parts, State, start_state, opens, takes, next}
 use Rattle.label.specs.Steps.{entry, placed, step, walk}
 use Rattle.label.specs.Checks.{place_checks}
 use Rattle.label.specs.Sound.{glyph_fits}
@@ -236,12 +236,6 @@ step_no bare st s n p h = rw h
 module _ (us s : List ℕ) (pre : Parts) (lack : ℕ) (c : Cursor) (st : Stands us s pre lack c []) (rd : Ready us s c []) where
   pub open_end : eqb lack 0 ≡ eqb c.lack 0
   open_end = same_open c.entry lack c.lack (omega (arith, rd.number, rd.few_bytes)) st.near
-
-  pub ends_open : (c.lack ≡ 0 → ⊥) → walk (empty us) (start_state us) (entries s) ≡ no 14 c.opener
-  ends_open h = st.so_far ∙ rw (walk_end (empty us) (state_of us c lack), open_end, ne_eqb c.lack 0 h)
-
-  pub ends_shut : c.lack ≡ 0 → walk (empty us) (start_state us) (entries s) ≡ ok (joined pre (tail (drop c.unit us)))
-  ends_shut h = st.so_far ∙ rw (walk_end (empty us) (state_of us c lack), open_end, eq-eqb c.lack 0 h)
 
   -- what is left, by the count that the code holds
   pub ends_as : walk (empty us) (start_state us) (entries s) ≡ after pre (walk (empty us) (state_of us c c.lack) [])

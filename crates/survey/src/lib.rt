@@ -23,7 +23,7 @@ use walk::Walk;
 
 // The cursor behind an entry that opens a cluster or goes on with one: it takes `units` units and has `glyphs` in its map.
 #[tactic(auto, unfolding(crate::specs::Steps::advanced))]
-pub fn advance(at: Cursor, units: usize, glyphs: usize) -> Cursor
+fn advance(at: Cursor, units: usize, glyphs: usize) -> Cursor
     requires { (at.entry ≤ max_indices_bytes) × (at.unit + units ≤ max_units) × (at.clusters ≤ at.entry) }
     ensures value { result ≡ advanced at units glyphs }
     ensures bounds { (result.entry ≡ at.entry + 1) × (result.unit ≡ at.unit + units) × (result.clusters ≤ result.entry) }
