@@ -1,9 +1,9 @@
 // Showing a fault: the part of a label that a refusal speaks of, as a place and as the caller's own bytes.
 #![tactic(auto)]
 
-ghost use Rattle.std.specs.Prelude.{◌≡◌, length, position};
+ghost use Rattle.std.specs.Prelude.{◌≡◌, length};
 ghost use Rattle.label.specs.Fault.{of_text, of_entry, fault_part, part_bytes, part_ptr};
-ghost use Rattle.entry.specs.Items.{is_semi, here};
+ghost use Rattle.entry.specs.Items.{here};
 ghost use Rattle.faults.specs.Faults.{text_shown, entry_shown};
 
 use label::{Label, Part, Source};
@@ -23,19 +23,11 @@ fn text_from(text: &[u8], start: usize) -> Option<Part>
     }
 }
 
-// Where the first `;` stands.
-fn semicolon(indices: &[u8]) -> Option<usize>
-    ensures { result ≡ position is_semi indices.now }
-{
-    indices.iter().position(|b| *b == b';')
-}
-
 // How long the entry is that the indices begin with: it ends at a `;` or where they do.
-#[tactic(auto, using(crate::proofs::Faults::length_here))]
 fn entry_length(indices: &[u8]) -> usize
     ensures { result ≡ length (here indices.now) }
 {
-    semicolon(indices).unwrap_or(indices.len())
+    octets::position_of(indices, b';').unwrap_or(indices.len())
 }
 
 // Entry k of the indices, where there is one: no bytes are no entries, and behind each `;` is one more. The entries are counted by their `;` and not read,
@@ -48,7 +40,7 @@ fn find_entry(indices: &[u8], k: usize) -> Option<Part>
     }
     let mut start = 0;
     for _ in 0..k {
-        start += semicolon(&indices[start..])? + 1;
+        start += octets::position_of(&indices[start..], b';')? + 1;
     }
     Some(Part {
         source: Source::Indices,

@@ -189,7 +189,7 @@ pub extern "C" fn glyph_label_read(
     ensures { ReadCall text.now indices.now units.old clusters.old glyphs.old result
         units.new clusters.new glyphs.new }
 {
-    reading_answer(reader::read(text, indices, units, clusters, glyphs))
+    reading_answer(reader::read(Label { text, indices }, units, clusters, glyphs))
 }
 
 // Writes a run handed in as bytes: its normal writing into two lent buffers, where none of 19 to 21 holds.
@@ -248,7 +248,7 @@ pub extern "C" fn glyph_label_units_of(
         clusters,
         glyphs,
     };
-    stretch_answer(picks::units_of(run, first, end))
+    stretch_answer(picks::units_of(run, Stretch { first, end }))
 }
 
 // The glyphs of all clusters touched by code units `first` up to and without `end`.
@@ -267,7 +267,7 @@ pub extern "C" fn glyph_label_glyphs_of(
         clusters,
         glyphs,
     };
-    stretch_answer(picks::glyphs_of(run, first, end))
+    stretch_answer(picks::glyphs_of(run, Stretch { first, end }))
 }
 
 // One raw attribute value resolved into `out`, where neither 23 nor 24 holds.

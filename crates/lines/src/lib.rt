@@ -1,7 +1,7 @@
 // A label on two lines, read and written again: what the programs `relabel` and `trials` print.
 #![tactic(auto)]
 
-ghost use Rattle.std.specs.Prelude.{◌≡◌, ◌+◌, ◌*◌, ◌≤◌, ◌<◌, eqb, length, position};
+ghost use Rattle.std.specs.Prelude.{◌≡◌, ◌+◌, ◌*◌, ◌≤◌, ◌<◌, length};
 ghost use Rattle.label.specs.Limits.{max_text_bytes, max_indices_bytes, max_units, max_glyphs, max_line_bytes};
 ghost use Rattle.label.specs.Relabel.{line, relabel_read};
 ghost use Rattle.label.specs.Calls.{outcome_of, lengths, text_after, indices_after, outputs};
@@ -26,20 +26,12 @@ struct Line<'a> {
     rest: &'a [u8],
 }
 
-// Where the first line feed stands: a function of its own, whose contract is one equation. A larger one knows of the library's search only what each call of
-// the closure gave.
-fn line_feed(input: &[u8]) -> Option<usize>
-    ensures { result ≡ position (λ b. eqb b 10) input.now }
-{
-    input.iter().position(|b| *b == b'\n')
-}
-
 // The first line: a line feed ends it and is no part of it.
 fn first_line(input: &[u8]) -> Line<'_>
     ensures bytes { result.bytes.now ≡ (line input.now).before }
     ensures rest { result.rest.now ≡ (line input.now).after }
 {
-    match line_feed(input) {
+    match octets::position_of(input, b'\n') {
         Some(end) => Line {
             bytes: &input[..end],
             rest: &input[end + 1..],
@@ -140,7 +132,7 @@ fn relabel_in(
     ensures text { first.new ≡ text_line (relabel_read label.entry.text.now label.entry.indices.now) first.old }
     ensures indices { second.new ≡ indices_line (relabel_read label.entry.text.now label.entry.indices.now) second.old }
 {
-    let reading = reader::read(label.text, label.indices, units, clusters, glyphs)?;
+    let reading = reader::read(label, units, clusters, glyphs)?;
     let buffers = Run {
         units,
         clusters,

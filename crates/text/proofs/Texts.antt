@@ -4,7 +4,7 @@ use Rattle.label.proofs.Steps.{decode_char, decode_none, four_five, text_steps}
 use Prim.Native.Nat.{ℕ, suc, ◌-◌, ◌≤◌, ◌<◌}
 use native.Mathlib.Omega.{arith}
 use mathlib.Core.Path.{◌≡◌, refl, sym, ◌∙◌, ap, subst}
-use mathlib.Core.Bool.{Bool, true, false, cond, false≢true}
+use mathlib.Core.Bool.{true, false, false≢true}
 use mathlib.Core.List.{List, [], ◌∷◌, ◌++◌}
 use borrow.Author.Tests.{ne_eqb, eqb-true, le-leb, lt-leb, leb-true, leb-false}
 use lib.Dec.{eqb, leb}
@@ -17,7 +17,6 @@ use Rattle.label.specs.Cause.{cause_number}
 use Rattle.label.proofs.Basics.{and_l, and_r, cases, bind_ok, need_ok}
 use Rattle.label.proofs.Utf8.{laws, scalar_of, read_at, utf8_one}
 use Rattle.label.proofs.Run.{ok_path}
-use Rattle.label.proofs.Sound.{TextIs, text_ok}
 use Rattle.utf8.proofs.Rows.{starts_one}
 use Rattle.std.specs.Prelude.{nat_eq}
 use Rattle.std.specs.List.{starts_with}
@@ -118,22 +117,6 @@ from_marked (b ∷ d ∷ bs) all m h =
     let x = one 0 b (d ∷ bs) all (omega arith) h in
     let y = one 1 d bs x.others (omega arith) x.next in
     y.next ∙ ap ok (sym (ap (drop 2) (x.is ∙ ap (λ (us : List ℕ). b ∷ us) y.is)))
-
--- label's definition drops two units; they are the two bytes
-pub text_from : (t us : List ℕ) → text_units t ≡ ok us → decode 0 (units_start t) (drop (units_start t) t) ≡ ok us
-unfolding units_start
-text_from t us h =
-    let x : TextIs t us = text_ok t us h in
-    let e : marked x.all ≡ marked t = marks t x.all x.decoded in
-    cases (marked t)
-    (λ m. rw m (from_marked t x.all m x.decoded ∙ ap ok (sym (cond_true (drop 2 x.all) x.all (e ∙ m)) ∙ x.is)))
-    (λ m. rw m (x.decoded ∙ ap ok (sym (cond_false (drop 2 x.all) x.all (e ∙ m)) ∙ x.is)))
-  where
-    cond_true : (a b : List ℕ) {t : Bool} → t ≡ true → cond t a b ≡ a
-    cond_true a b e = rw e
-
-    cond_false : (a b : List ℕ) {t : Bool} → t ≡ false → cond t a b ≡ b
-    cond_false a b e = rw e
 
 -- ── the code's tests of the first bytes ──
 

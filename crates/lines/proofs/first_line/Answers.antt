@@ -4,15 +4,15 @@ use Rattle.lines.proofs.Cuts.{cut_by}
 use Rattle.lines.proofs.first_line.Goals as goal
 
 pub returns-in-Some-clause-bytes : goal.returns-in-Some-clause-bytes
-returns-in-Some-clause-bytes c = sym (cut_by (λ b. eqb b 10) c.args.input.now _ (sym c.in-Some.is ∙ c.line_feed.ensures)).0
+returns-in-Some-clause-bytes c = sym (cut_by (λ b. eqb b 10) c.args.input.now _ (sym c.in-Some.is ∙ c.position_of.ensures)).0
 
 pub returns-in-Some-clause-rest : goal.returns-in-Some-clause-rest
 returns-in-Some-clause-rest c =
     take_all _ _ (omega (arith, length-drop (c.in-Some.end + 1) c.args.input.now))
-    ∙ sym (cut_by (λ b. eqb b 10) c.args.input.now _ (sym c.in-Some.is ∙ c.line_feed.ensures)).1
+    ∙ sym (cut_by (λ b. eqb b 10) c.args.input.now _ (sym c.in-Some.is ∙ c.position_of.ensures)).1
 
 pub returns-in-None-clause-bytes : goal.returns-in-None-clause-bytes
-returns-in-None-clause-bytes c = sym (cut_by (λ b. eqb b 10) c.args.input.now _ (sym c.in-None.is ∙ c.line_feed.ensures)).0
+returns-in-None-clause-bytes c = sym (cut_by (λ b. eqb b 10) c.args.input.now _ (sym c.in-None.is ∙ c.position_of.ensures)).0
 
 pub returns-in-None-clause-rest : goal.returns-in-None-clause-rest
-returns-in-None-clause-rest c = sym (cut_by (λ b. eqb b 10) c.args.input.now _ (sym c.in-None.is ∙ c.line_feed.ensures)).1
+returns-in-None-clause-rest c = sym (cut_by (λ b. eqb b 10) c.args.input.now _ (sym c.in-None.is ∙ c.position_of.ensures)).1
