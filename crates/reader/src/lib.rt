@@ -96,7 +96,7 @@ fn put_entry(count: usize, at: Stored, x: Item, clusters: &mut [u8], glyphs: &mu
     open_cluster(at, units, x.glyphs, x.glyph, clusters, glyphs)
 }
 
-// How many units the tail's cluster at unit j has.
+// How many units the tail's cluster at unit j has; by that number, as `units::is_pair_at` takes it.
 fn tail_units(units: &[u8], j: usize) -> usize
     requires { j ≤ length units.now / 2 }
     ensures { result ≡ cond (is_pair (drop j (halves units.now))) 2 1 }

@@ -25,7 +25,7 @@ fn record_of(numbers: GlyphNumbers) -> Glyph
 }
 
 // Stores the records of the glyphs at the start of `out`.
-// Of a list that a walk goes over by a zip with its `iter_mut` nothing is known afterwards, so each glyph is taken inside the loop.
+// A `zip` with `out.iter_mut()` tells nothing of `out` afterwards, so each glyph is taken inside the loop.
 #[tactic(auto, using(crate::proofs::Filled::fills), unfolding(crate::specs::Records::all_fit))]
 fn fill(out: &mut [Glyph], glyphs: Glyphs)
     requires room { length (glyphs_left glyphs) ≤ length out.old }
@@ -42,7 +42,6 @@ fn fill(out: &mut [Glyph], glyphs: Glyphs)
 }
 
 // Lists the glyphs of a run in `out`: 19 where the run is not sound, 18 where `out` is too short. The records behind stay, and a refusal changes none.
-
 #[tactic(auto, using(crate::proofs::Listed::listing))]
 pub fn list_records(run: Run, out: &mut [Glyph]) -> Result<usize, Refusal>
     ensures result { let p = as_places run.entry in

@@ -163,7 +163,7 @@ impl<'a> Walk<'a> {
 
 // ── the first pass ──
 
-// The counts, of rounded fields too, or 15.
+// The counts, of rounded fields too, or 15. The count of rounded fields has a clause of its own, as the outcome of which the definitions speak has none.
 fn limit(counts: Counts, rounded: usize) -> Result<Reading, Refusal>
     ensures result_value { reading_outcome result ≡ counts_within counts.units counts.clusters counts.glyphs }
     ensures rounded { reading_rounded result ≡ beside rounded (reading_outcome result) }

@@ -25,7 +25,7 @@ pub fn is_low(u: u16) -> bool
 
 // ── the units of a run ──
 
-// Whether the two units at j are the halves of one pair.
+// Whether the two units at j are the halves of one pair; by the number of the first, as `wire::unit_at` takes it.
 pub fn is_pair_at(us: &[u8], j: usize) -> bool
     ensures { result ≡ is_pair (drop j (halves us.now)) }
 {

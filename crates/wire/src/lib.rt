@@ -28,7 +28,8 @@ pub fn unit_count(s: &[u8]) -> usize
 
 // ── fetched ──
 
-// A unit, or 0 past the end: that is no half and no `{`, so who looks at the unit behind another needs no case for the end.
+// A unit by its number, or 0 past the end: that is no half and no `{`, so who looks at the unit behind another needs no case for the end. The bytes go whole
+// beside the number, as those from a unit on would be cut at twice its number in each caller.
 pub fn unit_at(s: &[u8], j: usize) -> u16
     ensures { result ≡ get_or (halves s.now) j 0 }
 {
@@ -282,6 +283,7 @@ impl<'a> Iterator for Entries<'a> {
 }
 
 // ── stored ──
+// Each by its number in a buffer that has room: an `octets::Output` would test for room and count at each byte.
 
 pub fn put_unit(out: &mut [u8], j: usize, u: u16)
     requires { j < length out.old / 2 }
