@@ -63,7 +63,7 @@ may_open_is true us c g gs = grind arith
 may_open_is false us c g gs = grind arith
 
 -- a cluster that opens takes no more units than there are
-pub opens_within : (us : List ℕ) (at : ℕ) (c : ClusterNumbers) (n : GlyphNumbers) → at ≤ length us → opens_at us at c n ≡ true → at + nat c.units ≤ length us
+opens_within : (us : List ℕ) (at : ℕ) (c : ClusterNumbers) (n : GlyphNumbers) → at ≤ length us → opens_at us at c n ≡ true → at + nat c.units ≤ length us
 unfolding opens_at
 opens_within us at c n h e = cases (empty us) (λ t. let f = rw t at e in grind (arith, nat_tests))
     (λ t. let f = rw (t, length-drop) at e in grind (arith, nat_tests))
@@ -83,6 +83,10 @@ stood : (us : List ℕ) (w : Walk) (c : ClusterNumbers) (g : GlyphNumbers) → m
     → opens_at us w.units c g ≡ true
 unfolding may_stand
 stood us w c g h = grind arith
+
+pub stood_within : (us : List ℕ) (w : Walk) (c : ClusterNumbers) (g : GlyphNumbers) → w.units ≤ length us
+    → may_stand us w (record { cluster = Some c; glyph = g }) ≡ true → w.units + nat c.units ≤ length us
+stood_within us w c g h e = opens_within us w.units c g h (stood us w c g e)
 
 empty_drop : {A : Type 0} (l : List A) (i : ℕ) → i ≤ length l → empty (drop i l) ≡ eqb i (length l)
 empty_drop l i h = empty_is (drop i l) ∙ rw length-drop (grind (arith, nat_tests))
@@ -154,6 +158,6 @@ few_entries zero [] (g ∷ gs) = omega arith
 few_entries zero (c ∷ cs) (g ∷ gs) = omega (arith, few_entries (nat c.glyphs - 1) cs gs)
 
 -- for `grind`, at a step of the walk, and at its start and its end
-pub ruleset steps = (opens_within, halves_length)
+pub ruleset steps = (halves_length)
 
-pub ruleset whole = (starts, few_entries, glyphs_in_length, halves_length, clusters_length, glyphs_length, nat_tests)
+pub ruleset whole = (starts, stood_within, few_entries, glyphs_in_length, halves_length, clusters_length, glyphs_length, nat_tests)

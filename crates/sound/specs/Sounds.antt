@@ -1,6 +1,6 @@
 -- The soundness test as the code takes it: one walk over clusters and glyphs, the tail's glyphs tested as they come.
 -- Assumes nothing.
-use Rattle.std.specs.Prelude.{ℕ, ◌+◌, ◌*◌, ◌≤◌, Bool, not, ◌&&◌, ◌||◌, List, [], ◌∷◌, ℤ, length, eqb, Option, Some, None}
+use Rattle.std.specs.Prelude.{ℕ, ◌+◌, Bool, not, ◌&&◌, ◌||◌, List, [], ◌∷◌, ℤ, length, eqb, Option, Some, None}
 use Rattle.label.specs.Bytes.{empty}
 use Rattle.label.specs.Run.{named}
 use Rattle.label.specs.Sound.{nat, whole_clusters, whole_glyphs, clusters_of, glyphs_of, is_font, fits}
@@ -45,11 +45,6 @@ behind w x = opened w x.glyph x.cluster
 unfoldable pub walked : List ℕ → ℕ → ℕ → Walk → List EntryNumbers → Bool
 walked us m n w [] = eqb w.units (length us) && eqb w.clusters m && eqb w.glyphs n
 walked us m n w (x ∷ l) = may_stand us w x && walked us m n (behind w x) l
-
--- the walk has used up no more units than there are, and its clusters have no more glyphs each than 31 bits hold
-pub record Within (us : List ℕ) (w : Walk) : Type 0 where
-  pub units : w.units ≤ length us
-  pub glyphs : w.glyphs ≤ w.clusters * 0x8000_0000
 
 -- the units of all these clusters
 unfoldable pub unit_sum : List Cluster → ℕ

@@ -1,18 +1,18 @@
 // Whether the bytes of three buffers are a sound run: one that some accepted label reads as.
 #![tactic(auto)]
 
-ghost use Rattle.std.specs.Prelude.{◌≡◌, ◌+◌, ◌<◌, ◌≤◌, length, true, false, IsTrue, MatchOption};
+ghost use Rattle.std.specs.Prelude.{◌≡◌, ◌+◌, ◌*◌, ◌<◌, ◌≤◌, length, IsTrue, Some};
 ghost use Rattle.label.specs.Fetched.{halves, words};
-ghost use Rattle.label.specs.Limits.{max_glyphs};
+ghost use Rattle.label.specs.Limits.{max_units, max_glyphs};
 ghost use Rattle.label.specs.Outcome.{need};
-ghost use Rattle.label.specs.Sound.{glyphs_of, sound};
+ghost use Rattle.label.specs.Sound.{nat, glyphs_of, sound};
 ghost use Rattle.label.specs.Calls.{outcome_of};
 ghost use Rattle.rules.specs.Rules.{whole_run};
-ghost use Rattle.sound.specs.Sounds.{Within, may_stand, behind, walked, well_run};
+ghost use Rattle.sound.specs.Sounds.{may_stand, opened, walked, well_run};
 ghost use Rattle.wire.specs.Numbers.{as_places};
 
 use label::{Cause, Refusal};
-use wire::{EntryNumbers, Run};
+use wire::{ClusterNumbers, EntryNumbers, GlyphNumbers, Run};
 
 // ── the run ──
 
@@ -26,38 +26,45 @@ struct Walk {
     tail: bool,
 }
 
-// The walk behind an entry, where its glyph may stand there, and so may its cluster where it opens one.
+impl Walk {
+    // The walk behind a cluster that opens, with its first glyph.
+    fn behind(self, cluster: ClusterNumbers, glyph: GlyphNumbers) -> Walk
+        requires units { self.units + nat cluster.units ≤ max_units }
+        requires glyphs { (self.clusters < max_glyphs) × (self.glyphs ≤ self.clusters * 0x8000_0000) }
+        ensures value { result ≡ opened self glyph (Some cluster) }
+        ensures bounds { result.glyphs ≤ result.clusters * 0x8000_0000 }
+    {
+        Walk {
+            units: self.units + cluster.unit_count(),
+            clusters: self.clusters + 1,
+            glyphs: self.glyphs + cluster.glyph_count(),
+            tail: self.tail || rules::owes_tail(cluster, glyph),
+        }
+    }
+}
+
+// Whether an entry's glyph may stand where the walk stands, and its cluster where it opens one.
 #[tactic(auto, using(crate::proofs::Walks::steps), unfolding(crate::specs::Sounds::may_stand))]
-fn step(run: Run, walk: Walk, entry: EntryNumbers) -> Option<Walk>
-    requires within { Within (halves run.units.now) walk }
-    requires few { walk.clusters < max_glyphs }
-    ensures { let us = halves run.entry.units.now in
-        MatchOption result (may_stand us walk entry ≡ false)
-        (λ next. Within us next × (next.clusters ≤ walk.clusters + 1) × (may_stand us walk entry ≡ true) × (next ≡ behind walk entry)) }
+fn may_stand(run: Run, walk: Walk, entry: EntryNumbers) -> bool
+    requires { walk.units ≤ length (halves run.units.now) }
+    ensures { result ≡ may_stand (halves run.entry.units.now) walk entry }
 {
     let glyph = entry.glyph;
     if !rules::glyph_ok(glyph) || walk.tail && !glyph.is_font() {
-        return None;
+        return false;
     }
-    let Some(cluster) = entry.cluster else {
-        return glyph.is_named().then_some(walk);
-    };
-    if !rules::opens_at(run, walk.units, cluster, glyph) {
-        return None;
+    match entry.cluster {
+        Some(cluster) => rules::opens_at(run, walk.units, cluster, glyph),
+        None => glyph.is_named(),
     }
-    Some(Walk {
-        units: walk.units + cluster.unit_count(),
-        clusters: walk.clusters + 1,
-        glyphs: walk.glyphs + cluster.glyph_count(),
-        tail: walk.tail || rules::owes_tail(cluster, glyph),
-    })
 }
 
 // One walk over the glyphs and the clusters: the numbers are in range, and the clusters use up the units and the glyphs.
 #[tactic(auto, using(crate::proofs::Walks::whole), unfolding(crate::specs::Sounds::walked))]
 fn well_run(run: Run) -> bool
     requires whole { IsTrue (whole_run (length run.units.now) (length run.clusters.now) (length run.glyphs.now)) }
-    requires few { length (glyphs_of (words run.glyphs.now)) ≤ max_glyphs }
+    requires units { length (halves run.units.now) ≤ max_units }
+    requires glyphs { length (glyphs_of (words run.glyphs.now)) ≤ max_glyphs }
     ensures { result ≡ well_run (halves run.entry.units.now) (words run.entry.clusters.now) (words run.entry.glyphs.now) }
 {
     let mut walk = Walk {
@@ -67,10 +74,12 @@ fn well_run(run: Run) -> bool
         tail: false,
     };
     for entry in run.entries() {
-        let Some(next) = step(run, walk, entry) else {
+        if !may_stand(run, walk, entry) {
             return false;
-        };
-        walk = next;
+        }
+        if let Some(cluster) = entry.cluster {
+            walk = walk.behind(cluster, entry.glyph);
+        }
     }
     walk.units == run.unit_count()
         && walk.clusters == run.cluster_count()

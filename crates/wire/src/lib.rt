@@ -70,19 +70,19 @@ impl ClusterNumbers {
         }
     }
 
-    // 0 for a negative one
+    // 0 for a negative one; `usize::try_from` takes more instructions for each cluster.
     pub fn unit_count(self) -> usize
         ensures value { result ≡ nat_of self.units }
         ensures bounds { result < 2147483648 }
     {
-        usize::try_from(self.units).unwrap_or(0)
+        self.units.max(0) as usize
     }
 
     pub fn glyph_count(self) -> usize
         ensures value { result ≡ nat_of self.glyphs }
         ensures bounds { result < 2147483648 }
     {
-        usize::try_from(self.glyphs).unwrap_or(0)
+        self.glyphs.max(0) as usize
     }
 }
 
