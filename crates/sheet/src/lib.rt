@@ -96,10 +96,7 @@ fn put_answers(records: Records, answers: &mut [u8])
     requires { Accepted records.rest.now (list_room answers.old) }
     ensures { answers.new ≡ numbers_after (answers_of records.entry.rest.now) answers.old }
 {
-    let mut list = Output {
-        bytes: answers,
-        at: 0,
-    };
+    let mut list = Output::on(answers);
     for label in records {
         let Some(label) = label else { unreachable!() };
         let [number, place] = answer_to(label);

@@ -1,6 +1,6 @@
 -- `sheet::put_answers`: each step is a law of Storing; what the list gains stands in the slice that it lends on.
 -- Assumes nothing.
-use Rattle.std.proofs.Common.{◌∙◌, refl, rules, arith}
+use Rattle.std.proofs.Common.{◌∙◌, rules, arith}
 use Rattle.sheet.specs.Records.{label_of}
 use Rattle.octets.proofs.Outputs.{gains_as}
 use Rattle.sheet.proofs.Storing.{stored_start, stored_next, stored_end, not_cut, numbers}
@@ -20,4 +20,8 @@ loop-label-preserved c =
     (gains_as (c.to_le_bytes-in-loop-label.ensures ∙ n.place) c.put_bytes-in-loop-label.ensures)
 
 pub returns : goal.returns
-returns c = let e = stored_end c.loop-label.invariant c.in-None.ensures.steps c.requires refl (omega arith) in search rules
+returns c =
+    let o = c.on-list.ensures in
+    let e = stored_end c.loop-label.invariant c.in-None.ensures.steps (rw o.bytes c.requires) o.start (rw o.bytes (omega arith)) in
+    let k = rw o.bytes at e in
+    search rules
