@@ -14,8 +14,8 @@ use Rattle.std.specs.declared.char.DecodeUtf16Error.{DecodeUtf16Error}
 use Rattle.label.specs.Text.{is_high, is_low, xml_char}
 use Rattle.label.specs.Sound.{proper_units}
 use Rattle.label.proofs.Basics.{cases}
-use Rattle.units.specs.Units.{units_left}
-use Rattle.units.specs.declared.Units.{Units}
+use Rattle.wire.specs.Walks.{units_left}
+use Rattle.wire.specs.declared.Units.{Units}
 
 -- the unit that was looked at, if any, and those behind it
 abbrev pub ahead : Option (Option ℕ) → List ℕ → List ℕ

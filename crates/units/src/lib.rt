@@ -1,12 +1,12 @@
 // Code units, by themselves and where they stand in a run's bytes: the halves of pairs, and whether they are well-formed XML characters.
 #![tactic(auto)]
 
-ghost use Rattle.std.specs.Prelude.{◌≡◌, false, ◌/◌, ◌≤◌, length, drop};
+ghost use Rattle.std.specs.Prelude.{◌≡◌, false, drop};
 ghost use Rattle.label.specs.Text.{is_high, is_low, is_pair};
 ghost use Rattle.label.specs.Fetched.{halves};
 ghost use Rattle.label.specs.Sound.{proper_units};
-ghost use Rattle.std.specs.Iterator.{YieldsFirst, item_count};
-ghost use Rattle.units.specs.Units.{units_left};
+
+use wire::Units;
 
 // ── a unit in hand ──
 
@@ -32,32 +32,11 @@ pub fn is_pair_at(us: &[u8], j: usize) -> bool
     is_high(wire::unit_at(us, j)) && is_low(wire::unit_at(us, j + 1))
 }
 
-// The units in these bytes, one by one. A byte behind them that is no whole unit is none.
-#[derive(Clone, Copy)]
-struct Units<'a> {
-    rest: &'a [u8],
-}
-
-impl Iterator for Units<'_> {
-    type Item = u16;
-
-    ghost next_gives = { YieldsFirst units_left };
-
-    ghost remaining = { item_count units_left };
-
-    #[tactic(auto, using(crate::proofs::Proper::steps))]
-    fn next(&mut self) -> Option<u16> {
-        let (unit, rest) = self.rest.split_first_chunk::<2>()?;
-        self.rest = rest;
-        Some(u16::from_le_bytes(*unit))
-    }
-}
-
 // The units are well-formed XML characters.
 pub fn proper_units(us: &[u8]) -> bool
     ensures { result ≡ proper_units false (halves us.now) }
 {
-    for c in char::decode_utf16(Units { rest: us }) {
+    for c in char::decode_utf16(Units::of(us)) {
         let Ok(c) = c else { return false };
         if !utf8::is_xml(u32::from(c)) {
             return false;

@@ -1,8 +1,8 @@
--- A step of a walk over a run's clusters, its glyphs or its entries, and what the definitions make of those that a walk gives.
+-- A step of a walk over a run's units, its clusters, its glyphs or its entries, and what the definitions make of those that a walk gives.
 -- Assumes nothing.
-use Rattle.std.proofs.Common.{◌≡◌, ℕ, ◌<◌, ◌≤◌, List, [], ◌∷◌, ℤ, length, drop, take, map, refl, sym, ap, ◌∙◌, arith}
+use Rattle.std.proofs.Common.{◌≡◌, ℕ, ◌+◌, ◌*◌, ◌<◌, ◌≤◌, List, [], ◌∷◌, ℤ, length, get_or, drop, take, map, refl, sym, ap, ◌∙◌, arith}
 use Rattle.std.proofs.lemmas.List.{length-map}
-use Rattle.label.specs.Fetched.{words}
+use Rattle.label.specs.Fetched.{halves, words}
 use Rattle.label.specs.Sound.{clusters_of, glyphs_of}
 use Rattle.wire.specs.Numbers.{as_cluster, as_glyph, cluster_numbers, glyph_numbers}
 use Rattle.wire.specs.Walks.{clusters_in, glyphs_in, entries_in}
@@ -10,6 +10,20 @@ use Rattle.wire.specs.declared.GlyphNumbers.{GlyphNumbers}
 use Rattle.wire.proofs.Fetched.{words_length, words_drop, words_take}
 
 -- ── bytes ──
+
+-- fewer than 2 bytes are no unit
+pub no_unit : (s : List ℕ) → length s < 2 → halves s ≡ []
+unfolding halves
+no_unit [] h = refl
+no_unit (a ∷ []) h = refl
+no_unit (a ∷ b ∷ s) h = absurd (omega arith)
+
+-- 2 bytes are the first
+pub first_unit : (s : List ℕ) → 2 ≤ length s → halves s ≡ (get_or s 0 0 + 256 * get_or s 1 0) ∷ halves (drop 2 s)
+unfolding halves
+first_unit [] h = absurd (omega arith)
+first_unit (a ∷ []) h = absurd (omega arith)
+first_unit (a ∷ b ∷ s) h = refl
 
 few_clusters : (z : List ℤ) → length z < 2 → clusters_in z ≡ []
 unfolding clusters_in
@@ -62,7 +76,7 @@ no_entry [] = refl
 no_entry (g ∷ gs) = refl
 
 -- for `grind`, at a step
-pub ruleset steps = (no_cluster, first_cluster, no_glyph, first_glyph)
+pub ruleset steps = (no_unit, first_unit, no_cluster, first_cluster, no_glyph, first_glyph)
 
 -- ── what they stand for ──
 

@@ -1,7 +1,7 @@
--- The walks over a run: its clusters, its glyphs, and the glyphs with the clusters that they open.
+-- The walks over a run: its units, its clusters, its glyphs, and the glyphs with the clusters that they open.
 -- Assumes nothing.
 use Rattle.std.specs.Prelude.{ℕ, zero, suc, ◌-◌, List, [], ◌∷◌, ℤ, Some, None}
-use Rattle.label.specs.Fetched.{words}
+use Rattle.label.specs.Fetched.{halves, words}
 use Rattle.label.specs.Sound.{nat}
 use Rattle.wire.specs.declared.ClusterNumbers.{ClusterNumbers}
 use Rattle.wire.specs.declared.Clusters.{Clusters}
@@ -9,6 +9,7 @@ use Rattle.wire.specs.declared.Entries.{Entries}
 use Rattle.wire.specs.declared.EntryNumbers.{EntryNumbers}
 use Rattle.wire.specs.declared.GlyphNumbers.{GlyphNumbers}
 use Rattle.wire.specs.declared.Glyphs.{Glyphs}
+use Rattle.wire.specs.declared.Units.{Units}
 
 -- the clusters of these numbers, two each; `clusters_of` are what they stand for (law `clusters_are`)
 unfoldable pub clusters_in : List ℤ → List ClusterNumbers
@@ -32,6 +33,9 @@ entries_in zero [] (g ∷ gs) = []
 entries_in zero (c ∷ cs) (g ∷ gs) = record { cluster = Some c; glyph = g } ∷ entries_in (nat c.glyphs - 1) cs gs
 
 -- those that a walk has left
+abbrev pub units_left : Units → List ℕ
+units_left w = halves w.rest.now
+
 abbrev pub clusters_left : Clusters → List ClusterNumbers
 clusters_left w = clusters_in (words w.rest.now)
 

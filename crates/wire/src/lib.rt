@@ -12,7 +12,7 @@ ghost use Rattle.label.specs.Sound.{nat as nat_of, clusters_of, glyphs_of, is_fo
 ghost use Rattle.octets.specs.Puts.{puts};
 ghost use Rattle.wire.specs.Numbers.{as_cluster, as_glyph, glyph_numbers, cluster_numbers};
 ghost use Rattle.wire.specs.Stores.{cluster_stored, glyph_stored, glyph_places};
-ghost use Rattle.wire.specs.Walks.{clusters_in, glyphs_in, entries_in, clusters_left, glyphs_left, entries_left};
+ghost use Rattle.wire.specs.Walks.{clusters_in, glyphs_in, entries_in, units_left, clusters_left, glyphs_left, entries_left};
 
 use label::{Advance, Cluster, Glyph, Index};
 
@@ -197,6 +197,35 @@ impl<'a> Run<'a> {
 }
 
 // ── walks over a run ──
+
+// The units in these bytes, one by one. A byte behind them that is no whole unit is none.
+#[derive(Clone, Copy)]
+pub struct Units<'a> {
+    rest: &'a [u8],
+}
+
+impl<'a> Units<'a> {
+    pub fn of(bytes: &'a [u8]) -> Units<'a>
+        ensures { units_left result ≡ halves bytes.now }
+    {
+        Units { rest: bytes }
+    }
+}
+
+impl<'a> Iterator for Units<'a> {
+    type Item = u16;
+
+    ghost next_gives = { YieldsFirst units_left };
+
+    ghost remaining = { item_count units_left };
+
+    #[tactic(auto, using(crate::proofs::Walks::steps))]
+    fn next(&mut self) -> Option<u16> {
+        let (unit, rest) = self.rest.split_first_chunk::<2>()?;
+        self.rest = rest;
+        Some(u16::from_le_bytes(*unit))
+    }
+}
 
 // The clusters in these bytes, one by one. Bytes behind them that are no whole cluster are none.
 #[derive(Clone, Copy)]

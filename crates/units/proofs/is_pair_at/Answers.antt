@@ -3,7 +3,7 @@
 use Rattle.std.proofs.Common.{arith, rules}
 use Rattle.label.specs.Fetched.{halves}
 use Rattle.wire.proofs.Fetched.{halves_length}
-use Rattle.units.proofs.Proper.{high_inside}
+use Rattle.units.proofs.Units.{high_inside}
 use Rattle.units.proofs.is_pair_at.Goals as goal
 
 pub overflow_add-j : goal.overflow_add-j

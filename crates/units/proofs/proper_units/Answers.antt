@@ -9,7 +9,7 @@ use Rattle.units.proofs.proper_units.Goals as goal
 pub loop-c-init : goal.loop-c-init
 loop-c-init c =
     let d = c.decode_utf16-c-items.ensures in
-    rw c.into_iter-c-iterator.ensures.into_iter_gives (ap (proper_units false) (at_start _ d.source d.peeked))
+    rw c.into_iter-c-iterator.ensures.into_iter_gives (ap (proper_units false) (sym c.of.ensures ∙ at_start _ d.source d.peeked))
 
 pub returns-in_default : goal.returns-in_default
 returns-in_default c = sym (c.loop-c.invariant ∙ at_half _ _ c.in-Some.ensures.steps c.in_default.is)

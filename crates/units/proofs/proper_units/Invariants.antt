@@ -1,3 +1,5 @@
+-- `units::proper_units`: judging the units that the walk has left gives the whole answer.
+-- Assumes nothing.
 use Rattle.std.proofs.Common.{◌≡◌, false}
 use Rattle.label.specs.Fetched.{halves}
 use Rattle.label.specs.Sound.{proper_units}
