@@ -1,4 +1,4 @@
-// One entry of the indices, read in one pass over its bytes.
+// The entries of the indices, each read in one pass over its bytes.
 #![tactic(auto)]
 
 ghost use Rattle.std.specs.Prelude.{◌≡◌, true, false, ◌&&◌, ◌+◌, ◌≤◌, leb, ltb, length, drop, IfSome, IfOk};
@@ -357,7 +357,7 @@ fn index_item(d: Digits) -> Item
 // The entry that s begins with, entry number k: an index alone, or one that is read by its parts. It is inlined with the step of the walk, for the speed of
 // indices alone.
 #[inline(always)]
-fn read_entry(s: &[u8], k: usize) -> Result<Item, Refusal>
+pub fn read_entry(s: &[u8], k: usize) -> Result<Item, Refusal>
     ensures value { result ≡ entry_here k s.now }
     ensures bounds { IfOk result (λ x. x.used ≤ length s.now) }
 {

@@ -265,7 +265,7 @@ impl fmt::Display for Refusal {
     ghost output = { λ x. Some (refusal_text x) };
 
     fn fmt<W: fmt::Write>(&self, f: &mut fmt::Formatter<W>) -> fmt::Result {
-        // A number behind a reference is known to fit its type only where it is read, and `write!` lends it on.
+        // `write!` takes a reference, behind which a number is not known to fit its type: it is read here.
         let place = self.place;
         write!(f, "{} {place}", self.cause.number())
     }

@@ -91,7 +91,7 @@ impl<'a> Iterator for Labels<'a> {
 }
 
 // Writes the run whose counts these are from the bytes at the front of three buffers: 2 a unit, 8 a cluster and 16 a glyph. The two outputs are no struct, as
-// each has a clause of its own that says what it holds afterwards; so have the buffers below.
+// each has a clause of its own that says what it holds afterwards.
 fn write_places(
     n: Counts,
     buffers: Run,
@@ -116,7 +116,7 @@ fn write_places(
     Ok(Relabelled { read: n, written })
 }
 
-// A label whose indices line is not too long, read into buffers that hold every run.
+// A label whose indices line is not too long, read into buffers that hold every run. They go one by one to `reader::read`, which has a clause for each.
 fn relabel_in(
     label: Label,
     units: &mut [u8],

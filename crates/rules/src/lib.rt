@@ -65,7 +65,7 @@ pub fn glyph_ok(glyph: GlyphNumbers) -> bool
 }
 
 // ── a cluster with its first glyph ──
-// The two go side by side, as they stand in two buffers: a struct of both would be made at these calls alone.
+// The two go side by side: `wire::EntryNumbers` has a cluster only where the glyph opens one, and here it does.
 
 // Whether all glyphs behind the first have to be wholly the font's: the cluster is not 1:1 and its glyph names no index, so it is a pair of the tail.
 pub fn owes_tail(cluster: ClusterNumbers, glyph: GlyphNumbers) -> bool

@@ -23,7 +23,7 @@ use walk::Walk;
 
 // The cursor behind an entry that opens a cluster or goes on with one: it takes `units` units and has `glyphs` in its map.
 #[tactic(auto, unfolding(crate::specs::Steps::advanced))]
-fn advance(at: Cursor, units: usize, glyphs: usize) -> Cursor
+pub fn advance(at: Cursor, units: usize, glyphs: usize) -> Cursor
     requires { (at.entry ≤ max_indices_bytes) × (at.unit + units ≤ max_units) × (at.clusters ≤ at.entry) }
     ensures value { result ≡ advanced at units glyphs }
     ensures bounds { (result.entry ≡ at.entry + 1) × (result.unit ≡ at.unit + units) × (result.clusters ≤ result.entry) }
@@ -119,7 +119,7 @@ impl<'a> Walk<'a> {
         }
     }
 
-    // An entry's checks 10 to 13. There is one, so no more than the indices have bytes were taken before it.
+    // An entry's checks 10 to 13. Each entry before this one has its `;`, so there are no more of them than bytes of the indices, which is what is required.
     fn take_entry(self, x: entry::Item) -> Result<Walk<'a>, Refusal>
         requires { self.at.entry ≤ max_indices_bytes }
         ensures { Turns self.entry x result }

@@ -1,5 +1,4 @@
-// A run's numbers where they stand, in its bytes: a unit is 2 bytes and every other number 4, two's complement, low byte first. Only the functions that
-// fetch and store know of bytes.
+// A run's numbers where they stand, in its bytes: a unit is 2 bytes and every other number 4, two's complement, low byte first.
 #![tactic(auto)]
 
 ghost use Rattle.std.specs.Prelude.{◌≡◌, ◌*◌, ◌/◌, ◌%◌, ◌<◌, length, get_or, pos, [], ◌∷◌};
@@ -41,7 +40,7 @@ pub fn unit_at(s: &[u8], j: usize) -> u16
 }
 
 // Number k: two's complement, low byte first.
-fn number(s: &[u8], k: usize) -> i32
+pub fn number(s: &[u8], k: usize) -> i32
     requires { k < length (words s.now) }
     ensures { result ≡ get_or (words s.now) k (pos 0) }
 {
@@ -322,7 +321,7 @@ pub fn put_unit(out: &mut [u8], j: usize, u: u16)
     out[i..i + 2].copy_from_slice(&u.to_le_bytes());
 }
 
-fn put_number(out: &mut [u8], k: usize, v: i32)
+pub fn put_number(out: &mut [u8], k: usize, v: i32)
     requires { k < length out.old / 4 }
     ensures { out.new ≡ puts out.old (4 * k) (four_bytes (bits_of v)) }
 {
