@@ -20,7 +20,8 @@ use number::{Digits, Thousandths};
 
 // What an entry says: whether it has a map, the map's two counts (1 and 1 without one; cut at 10^18), its glyph record, how many bytes it has, and how
 // many of its fields were rounded.
-// The two counts stand beside the flag because an entry without a map has both: its users count with them whatever the flag says.
+// The two counts stand beside the flag because an entry without a map has both: its users count with them whatever the flag says. They are copied out of the
+// map, which has bytes of its own, as they are the entry's for its users.
 #[derive(Clone, Copy)]
 pub struct Item {
     pub mapped: bool,
@@ -49,7 +50,8 @@ fn ends_field(s: &[u8]) -> bool
 
 // ── the index part ──
 
-// The map at the start of an entry, of no bytes where there is none, which is 1:1.
+// The map at the start of an entry, of no bytes where there is none, which is 1:1. Each part says how many bytes it has, as the definitions do; that they are
+// among those it was read from is a clause, as a part does not hold these.
 #[derive(Clone, Copy)]
 struct MapPart {
     used: usize,
@@ -188,7 +190,7 @@ fn rounded_of(number: Option<Signed>) -> usize
 
 // ── the glyph record ──
 
-// The index that these digits name, where it is within the limit.
+// The index that these digits name, where it is within the limit; by the limit's name, though `u16::try_from` refuses the same numbers.
 fn index_of(digits: Option<u64>) -> Option<Index>
     ensures { result ≡ index_within digits }
 {

@@ -63,7 +63,8 @@ fn is_of_entry(number: u32) -> bool
     matches!(number, 7..=12 | 14)
 }
 
-// The part of the label that a refusal speaks of, or the empty start of the text. A caller in C may hand over any number, so it is no `Cause`.
+// The part of the label that a refusal speaks of, or the empty start of the text, which document 01 gives where it speaks of none. A caller in C may hand over
+// any number, so it is no `Cause`.
 #[tactic(auto, unfolding(label::specs::Fault::fault_part, crate::specs::Faults::entry_shown))]
 pub fn find_part(label: Label, number: u32, place: usize) -> Part
     ensures { result ≡ fault_part label.entry.text.now label.entry.indices.now number place }

@@ -15,8 +15,8 @@ use wire::Run;
 
 // ── answers ──
 
-// What was read: how many units, clusters and glyphs, and how many given fields were rounded. In each answer `number` is 0, or a refusal's number, and
-// then `place` is its place and all else 0.
+// What was read: how many units, clusters and glyphs, and how many given fields were rounded. In each of four answers `number` is 0, or a refusal's number,
+// and then `place` is its place and all else 0: flat structs, as C has no enum with values.
 #[repr(C)]
 #[derive(Clone, Copy)]
 pub struct GlyphLabelReading {

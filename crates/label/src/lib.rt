@@ -9,7 +9,7 @@ ghost use Rattle.label.specs.Calls.{refusal};
 
 use std::fmt;
 
-// The limits type.
+// The limits, as constants of one type, which makes the cursor too: a form that document 01 names.
 #[derive(Clone, Copy)]
 pub struct Limits;
 
@@ -106,7 +106,7 @@ pub struct Cursor {
     pub clusters: usize,
 }
 
-// A glyph index: named by the label, or chosen by the font.
+// A glyph index: named by the label, or chosen by the font. Document 01 names this enum's form, and that of the next.
 #[derive(Clone, Copy)]
 pub enum Index {
     Named(u16),

@@ -26,7 +26,7 @@ struct Line<'a> {
     rest: &'a [u8],
 }
 
-// The first line: a line feed ends it and is no part of it.
+// The first line: a line feed ends it and is no part of it. std's `splitn(2, ..)` would give the same two parts by an iterator.
 fn first_line(input: &[u8]) -> Line<'_>
     ensures bytes { result.bytes.now ≡ (line input.now).before }
     ensures rest { result.rest.now ≡ (line input.now).after }
@@ -151,6 +151,7 @@ pub fn relabel(label: Label, first: &mut [u8], second: &mut [u8]) -> Result<Rela
     if Limits::LINE_BYTES < label.indices.len() {
         return Err(Cause::TooManyBytes.at(0));
     }
+    // There is no heap: arrays that hold every run, of which the counts say how much is filled.
     let mut units = [0u8; 2 * Limits::UNITS];
     let mut clusters = [0u8; 8 * Limits::GLYPHS];
     let mut glyphs = [0u8; 16 * Limits::GLYPHS];

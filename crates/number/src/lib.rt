@@ -117,7 +117,8 @@ fn shifted(m: u64, up: usize, down: usize) -> Option<Thousandths>
 
 // ── numbers ──
 
-// The digits before any exponent: the bytes used, the count of digits, their value, and the count behind the point.
+// The digits before any exponent: the bytes used, the count of digits, their value, and the count behind the point. Each part says how many bytes it has, as
+// the definitions do; that they are among those it was read from is a clause, as a part does not hold these.
 #[derive(Clone, Copy)]
 struct Mantissa {
     used: usize,

@@ -32,7 +32,8 @@ impl<'a> Output<'a> {
         Output { bytes, at: 0 }
     }
 
-    // An output that stores nothing and counts.
+    // An output that stores nothing and counts. Who counts makes one, stores into it and reads `at`: three lines, where a function for all would take the
+    // storing as a closure and its promise with it.
     pub fn counting() -> Output<'a>
         ensures bytes { result.bytes.now ≡ [] }
         ensures start { result.at ≡ 0 }
@@ -51,6 +52,7 @@ impl<'a> Output<'a> {
         self.at = at.saturating_add(1);
     }
 
+    // Byte by byte: those that find room are stored, and all are counted.
     pub fn put_bytes(&mut self, s: &[u8])
         ensures { Gains self.old s.now self.new }
     {

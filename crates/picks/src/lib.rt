@@ -75,6 +75,7 @@ fn touched(run: Run, way: Way, picked: Stretch) -> Stretch
 }
 
 // ── the calls ──
+// A run and what is picked of it go side by side: a struct of both would be made in the two calls alone.
 
 #[tactic(auto, using(crate::proofs::Picks::picking))]
 fn pick(run: Run, way: Way, picked: Stretch) -> Result<Stretch, Refusal>

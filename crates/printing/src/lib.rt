@@ -57,7 +57,7 @@ fn print_refusal<W: Write>(out: &mut W, x: Refusal) -> io::Result<()>
     writeln!(out, "no {x}")
 }
 
-// The first n bytes, or all where there are fewer.
+// The first n bytes, or all where there are fewer: how much of an array of fixed size is written, as there is no heap.
 fn part(s: &[u8], n: usize) -> &[u8]
     ensures { result.now ≡ take n s.now }
 {
@@ -77,6 +77,7 @@ fn print_run<W: Write>(out: &mut W, counts: Counts, normal: Label) -> io::Result
 pub fn print_label<W: Write>(out: &mut W, label: Label) -> io::Result<()>
     ensures { Prints result (W.contents out.old) (W.contents out.new) (printed (relabel_read label.entry.text.now label.entry.indices.now)) }
 {
+    // There is no heap: arrays that hold every writing.
     let mut out_text = [0u8; Limits::TEXT_BYTES];
     let mut out_indices = [0u8; Limits::INDICES_BYTES];
     match lines::relabel(label, &mut out_text, &mut out_indices) {

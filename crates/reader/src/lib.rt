@@ -1,4 +1,4 @@
-// The reading of a label into lent buffers: the crate `survey` judges 1 to 15 of document 01's checks and counts, and a second pass here fills the buffers.
+// The reading of a label into lent buffers: the crate `survey` judges 1 to 15 and counts, and a second pass here fills the buffers.
 // Nothing is stored before 18 has been judged.
 #![tactic(auto)]
 
@@ -20,7 +20,8 @@ use label::{Advance, Cause, Glyph, Index, Label, Reading, Refusal};
 use text::TextUnits;
 use wire::{ClusterNumbers, GlyphNumbers};
 
-// How much of a run is stored: its clusters, its glyphs and the units of its clusters; and how many glyphs the last cluster still lacks.
+// How much of a run is stored: its clusters, its glyphs and the units of its clusters; and how many glyphs the last cluster still lacks. No `label::Cursor`:
+// the tail goes on with it, behind the entries, and only a refusal asks for an opener.
 #[derive(Clone, Copy)]
 struct Stored {
     clusters: usize,
@@ -38,7 +39,8 @@ const FONT: Glyph = Glyph {
 };
 
 // Stores a cluster of `units` units and `count` glyphs, and its first glyph.
-// The buffers are lent one by one, here and below, and not as a struct: each has a clause of its own that says what it holds afterwards.
+// The buffers go side by side with what is stored, here and below: C lends them one by one, `add_glyph` stores in one of them, and the definitions say of each
+// by itself what it holds afterwards.
 fn open_cluster(
     at: Stored,
     units: usize,
@@ -114,7 +116,7 @@ fn fill_tail(units: &[u8], at: Stored, clusters: &mut [u8], glyphs: &mut [u8])
 {
     let count = wire::unit_count(units);
     let mut at = at;
-    // A cluster has one unit or two: the next is where what is stored ends.
+    // A cluster has one unit or two: the next is where what is stored ends. `char::decode_utf16` would spell characters for their lengths alone.
     while at.units < count {
         let taken = tail_units(units, at.units);
         at = open_cluster(at, taken, 1, FONT, clusters, glyphs);
@@ -142,6 +144,7 @@ fn fill(text: TextUnits, indices: &[u8], units: &mut [u8], clusters: &mut [u8], 
             Err(_) => unreachable!(),
         }
     }
+    // The lent buffer may be longer than the run.
     fill_tail(&units[..2 * text.count], at, clusters, glyphs);
 }
 
@@ -164,6 +167,7 @@ pub fn read(
         glyphs.new ≡ glyphs_after (read_into room label.entry.text.now label.entry.indices.now) glyphs.old }
 {
     let found = survey::survey(label)?;
+    // Each of the three tests asks for one of the counts.
     let counts = found.reading.counts;
     if units.len() / 2 < counts.units {
         return Err(Cause::UnitRoom.at(counts.units));

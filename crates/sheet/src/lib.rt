@@ -81,7 +81,7 @@ fn count_labels(records: Records) -> Result<usize, Refusal>
 
 // ── answers ──
 
-// The answer to a label: the number and the place of its refusal, 0 and 0 where it is accepted. No run is stored.
+// The answer to a label: the number and the place of its refusal, 0 and 0 where it is accepted, as the answer list for C has it. No run is stored.
 fn answer_to(label: Label) -> [i32; 2]
     ensures { result ≡ answer (label_of label.entry) }
 {

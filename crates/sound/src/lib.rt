@@ -49,11 +49,11 @@ fn may_stand(run: Run, walk: Walk, entry: EntryNumbers) -> bool
     requires { walk.units ≤ length (halves run.units.now) }
     ensures { result ≡ may_stand (halves run.entry.units.now) walk entry }
 {
-    let glyph = entry.glyph;
+    let EntryNumbers { cluster, glyph } = entry;
     if !rules::glyph_ok(glyph) || walk.tail && !glyph.is_font() {
         return false;
     }
-    match entry.cluster {
+    match cluster {
         Some(cluster) => rules::opens_at(run, walk.units, cluster, glyph),
         None => glyph.is_named(),
     }

@@ -1,4 +1,4 @@
-// The first pass over a label's text and indices: it judges 1 to 15 of document 01's checks and counts; nothing is stored.
+// The first pass over a label's text and indices: it judges 1 to 15 and counts; nothing is stored.
 #![tactic(auto)]
 
 ghost use Rattle.std.specs.Prelude.{◌+◌, ◌≤◌, ◌≡◌, [], not, ◌&&◌, eqb, leb, length, IfOk};
@@ -22,6 +22,7 @@ use walk::Walk;
 // ── one entry ──
 
 // The cursor behind an entry that opens a cluster or goes on with one: it takes `units` units and has `glyphs` in its map.
+// Its two counts are no `label::Cluster` before they are judged. This is of a cursor by itself: what a walk knows of its own is required here.
 #[tactic(auto, unfolding(crate::specs::Steps::advanced))]
 pub fn advance(at: Cursor, units: usize, glyphs: usize) -> Cursor
     requires { (at.entry ≤ max_indices_bytes) × (at.unit + units ≤ max_units) × (at.clusters ≤ at.entry) }

@@ -35,7 +35,7 @@ fn refused(fault: CharFault, place: usize) -> Refusal
     }
 }
 
-// The characters from byte `at` on, up to the first that is refused, which is the last.
+// The characters from byte `at` on, up to the first that is refused, which is the last. The place stands beside the text, as refusals name it.
 #[derive(Drop)]
 struct Characters<'a> {
     text: &'a [u8],
@@ -52,6 +52,7 @@ impl<'a> Iterator for Characters<'a> {
     #[inline(always)]
     #[tactic(auto, using(crate::proofs::Walk::steps))]
     fn next(&mut self) -> Option<Result<Char, Refusal>> {
+        // where the step begins, which a refusal names when the walk stands elsewhere
         let place = self.at;
         if self.text.len() <= place {
             return None;
@@ -99,7 +100,7 @@ fn count_units(text: &[u8]) -> Result<usize, Refusal>
     Ok(n)
 }
 
-// The byte where the units of a text's run start, which is behind `{}`, or 4.
+// The byte where the units of a text's run start, behind `{}` where the text begins with that, or 4.
 #[tactic(auto, using(crate::proofs::Texts::starts), unfolding(crate::specs::Texts::start_read))]
 fn start_of(text: &[u8]) -> Result<usize, Refusal>
     ensures { outcome_of result ≡ start_read text.now }
@@ -178,7 +179,7 @@ impl<'a> Passage<'a> {
     {
         let mut rest = characters_from(self.text, self.at);
         let mut left = count;
-        // A `for` reads one character more than the units ask for.
+        // The place behind the last character is asked for afterwards, and there may be none to pass: so it is no `for`.
         while left != 0 {
             let c = match rest.next() {
                 Some(Ok(c)) => c,

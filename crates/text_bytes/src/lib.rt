@@ -19,7 +19,7 @@ fn put_tail(out: &mut Output, c: u32)
     out.put_byte((0x80 + c % 64) as u8);
 }
 
-// A character's bytes. A lone half has some too, which is no `char` for `encode_utf8`.
+// A character's bytes, by its number: what `pair_of` gives where no low half follows may be above every `char`, so `encode_utf8` does not take it.
 pub fn put_char(out: &mut Output, c: u32)
     requires { c < 2097152 }
     ensures gains { Gains out.old (utf8 c) out.new }

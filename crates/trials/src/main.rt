@@ -20,6 +20,7 @@ fn print_labels<W: Write>(out: &mut W, input: &[u8]) -> io::Result<()>
 }
 
 fn main(rt: HostRuntime) -> io::Result<()> {
+    // There is no heap: so much input is read.
     let mut input = [0u8; 1_048_576];
     let n = printing::read_full(&mut rt.stdin(), &mut input)?;
     print_labels(&mut rt.stdout(), &input[..n])

@@ -1,4 +1,5 @@
 // A run's numbers where they stand, in its bytes: a unit is 2 bytes and every other number 4, two's complement, low byte first.
+// So a cluster is 8 bytes and a glyph 16: who cuts or measures a buffer elsewhere writes these numbers out, as C does.
 #![tactic(auto)]
 
 ghost use Rattle.std.specs.Prelude.{◌≡◌, ◌*◌, ◌/◌, ◌%◌, ◌<◌, length, get_or, pos, [], ◌∷◌};
@@ -39,7 +40,7 @@ pub fn unit_at(s: &[u8], j: usize) -> u16
     }
 }
 
-// Number k: two's complement, low byte first.
+// Number k: two's complement, low byte first. By its number, as units are fetched.
 pub fn number(s: &[u8], k: usize) -> i32
     requires { k < length (words s.now) }
     ensures { result ≡ get_or (words s.now) k (pos 0) }
@@ -50,7 +51,7 @@ pub fn number(s: &[u8], k: usize) -> i32
 
 // ── the numbers of a cluster and of a glyph ──
 
-// How many units and how many glyphs a cluster has.
+// How many units and how many glyphs a cluster has. Any numbers: a run handed in may hold such as no `Cluster` has.
 #[derive(Clone, Copy)]
 pub struct ClusterNumbers {
     pub units: i32,
@@ -69,7 +70,7 @@ impl ClusterNumbers {
         }
     }
 
-    // 0 for a negative one; `usize::try_from` takes more instructions for each cluster.
+    // 0 for a negative one: who asks for at least one needs no case for it. `usize::try_from` takes more instructions for each cluster.
     pub fn unit_count(self) -> usize
         ensures value { result ≡ nat_of self.units }
         ensures bounds { result < 2147483648 }
@@ -91,13 +92,14 @@ impl From<ClusterNumbers> for Cluster {
 
     fn from(numbers: ClusterNumbers) -> Cluster {
         Cluster {
-            units: u32::try_from(numbers.units).unwrap_or(0),
-            glyphs: u32::try_from(numbers.glyphs).unwrap_or(0),
+            units: numbers.units.max(0) as u32,
+            glyphs: numbers.glyphs.max(0) as u32,
         }
     }
 }
 
-// A glyph's index, −1 for the font; its advance, −1 for the font's own; and its two offsets.
+// A glyph's index, −1 for the font; its advance, −1 for the font's own; and its two offsets. Any numbers: a run handed in may hold such as no `Glyph` has, so
+// the choices stand here as they do in its bytes.
 #[derive(Clone, Copy)]
 pub struct GlyphNumbers {
     pub index: i32,
@@ -196,6 +198,7 @@ impl<'a> Run<'a> {
 }
 
 // ── walks over a run ──
+// Three over chunks of 2, 8 and 16 bytes: one over the size would take a trait with a law for what a chunk says, which is longer than the three.
 
 // The units in these bytes, one by one. A byte behind them that is no whole unit is none.
 #[derive(Clone, Copy)]
@@ -311,7 +314,8 @@ impl<'a> Iterator for Entries<'a> {
 }
 
 // ── stored ──
-// Each by its number in a buffer that has room: an `octets::Output` would test for room and count at each byte.
+// Each by its number in a buffer that has room: by an `octets::Output`, which tests for room and counts at each byte, letters take three times as long. Units
+// and numbers have a function each, as one over their size would have a product of two unknowns in each bound.
 
 pub fn put_unit(out: &mut [u8], j: usize, u: u16)
     requires { j < length out.old / 2 }

@@ -76,7 +76,7 @@ fn indices_length(run: Run) -> usize
 // ── the call ──
 
 // The writing of a run as it is asked for, where the run is sound and both outputs have room. Indices have no byte to escape. The outputs are two parameters,
-// as each has a clause of its own that says what it holds afterwards.
+// as each has a clause of its own that says what it holds afterwards, and C lends two.
 #[tactic(auto, using(label::proofs::Steps::write_steps))]
 pub fn write_as(
     escape: bool,
