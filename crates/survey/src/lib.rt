@@ -7,7 +7,7 @@ ghost use Rattle.label.specs.Outcome.{ok};
 ghost use Rattle.label.specs.Run.{named, tail};
 ghost use Rattle.label.specs.Checks.{read as read_label};
 ghost use Rattle.label.specs.Steps.{walk, run_from};
-ghost use Rattle.label.specs.Calls.{reading_outcome, reading_rounded, counted};
+ghost use Rattle.label.specs.Calls.{outcome_of, reading_outcome, reading_rounded, counted};
 ghost use Rattle.label.specs.Requests.RoundedCount.{rounded as rounded_in, beside};
 ghost use Rattle.text.specs.Moves.{units, Moves};
 ghost use Rattle.survey.specs.Steps.{bare, state_at, advanced, Opens, Turns, counts_within, counted_from, Starts, reading_of};
@@ -136,10 +136,9 @@ impl<'a> Walk<'a> {
         }
     }
 
-    // The tail behind the entries: 15. It gives no fields, so the count of rounded ones is that of the entries.
-    fn count_tail(self, rounded: usize) -> Result<Reading, Refusal>
-        ensures result_value { let w = self.entry in reading_outcome result ≡ counted_from w.count w.at.clusters w.at.entry (ok (tail (units w.ahead))) }
-        ensures rounded { reading_rounded result ≡ beside rounded (reading_outcome result) }
+    // The counts with the tail behind the entries: 15.
+    fn count_tail(self) -> Result<Counts, Refusal>
+        ensures { let w = self.entry in outcome_of result ≡ counted_from w.count w.at.clusters w.at.entry (ok (tail (units w.ahead))) }
     {
         let rest = self.ahead.count_tail();
         let counts = Counts {
@@ -147,32 +146,30 @@ impl<'a> Walk<'a> {
             clusters: self.at.clusters + rest,
             glyphs: self.at.entry + rest,
         };
-        limit(counts, rounded)
+        limit(counts)
     }
 
     // The end of the entries: 14, and the tail.
-    fn close(self, rounded: usize) -> Result<Reading, Refusal>
-        ensures result_value { let w = self.entry in reading_outcome result ≡ counted_from w.count w.at.clusters w.at.entry (walk (bare w) (state_at w) []) }
-        ensures rounded { reading_rounded result ≡ beside rounded (reading_outcome result) }
+    fn close(self) -> Result<Counts, Refusal>
+        ensures { let w = self.entry in outcome_of result ≡ counted_from w.count w.at.clusters w.at.entry (walk (bare w) (state_at w) []) }
     {
         if self.at.lack != 0 {
             return Err(Cause::MissingGlyphs.at(self.at.opener));
         }
-        self.count_tail(rounded)
+        self.count_tail()
     }
 }
 
 // ── the first pass ──
 
-// The counts, of rounded fields too, or 15. The count of rounded fields has a clause of its own, as the outcome of which the definitions speak has none.
-fn limit(counts: Counts, rounded: usize) -> Result<Reading, Refusal>
-    ensures result_value { reading_outcome result ≡ counts_within counts.units counts.clusters counts.glyphs }
-    ensures rounded { reading_rounded result ≡ beside rounded (reading_outcome result) }
+// The counts, or 15.
+fn limit(counts: Counts) -> Result<Counts, Refusal>
+    ensures { outcome_of result ≡ counts_within counts.units counts.clusters counts.glyphs }
 {
     if Limits::GLYPHS < counts.glyphs {
         return Err(Cause::TooManyGlyphs.at(0));
     }
-    Ok(Reading { counts, rounded })
+    Ok(counts)
 }
 
 // Whether a label has neither units nor indices.
@@ -198,7 +195,10 @@ fn survey_run(run: TextUnits<'_>, indices: &[u8]) -> Result<Reading, Refusal>
         walk = walk.take_entry(x)?;
         rounded += x.rounded;
     }
-    walk.close(rounded)
+    Ok(Reading {
+        counts: walk.close()?,
+        rounded,
+    })
 }
 
 // What 1 to 15 say of a label that none of them refuses, and the units of its run.

@@ -1,9 +1,7 @@
 -- `survey::survey_run`: the loop keeps `Underway`; an entry that is taken, one that is refused and the end are a law of Surveying each. Assumes nothing.
-use Prim.Native.Nat.{ℕ, ◌+◌}
+use Prim.Native.Nat.{◌+◌}
 use native.Mathlib.Omega.{arith}
 use Rattle.std.proofs.Common.{◌≡◌, ◌∷◌, [], sym, ◌∙◌, ap, subst, rules, Ok, Err}
-use Rattle.label.specs.Calls.{reading_outcome}
-use Rattle.label.specs.Requests.RoundedCount.{beside}
 use Rattle.entry.specs.Results.{results_left}
 use Rattle.text.specs.Moves.{units}
 use Rattle.survey.specs.Steps.{Turns}
@@ -70,10 +68,14 @@ overflow_add-rounded c =
 pub loop-item-preserved : goal.loop-item-preserved
 loop-item-preserved c = taken (goal.at.loop-item-preserved c).In_ok-walk
 
+pub returns-in_err-close-clause-result_value : goal.returns-in_err-close-clause-result_value
+returns-in_err-close-clause-result_value c =
+    let e = c.in_err-close.field-0.0 in
+    let r : c.from_residual-in_err-close.result ≡ Err e = search rules in
+    rw r (c.in_err-close.ensures ∙ ends (none_left (goal.at.returns-in_err-close-clause-result_value c).In-None))
+
 pub returns-clause-result_value : goal.returns-clause-result_value
-returns-clause-result_value c = c.close.ensures.result_value ∙ ends (none_left (goal.at.returns-clause-result_value c).In-None)
+returns-clause-result_value c = c.in_ok-close.ensures ∙ ends (none_left (goal.at.returns-clause-result_value c).In-None)
 
 pub returns-clause-rounded : goal.returns-clause-rounded
-returns-clause-rounded c =
-    c.close.ensures.rounded
-    ∙ ap (λ (n : ℕ). beside n (reading_outcome c.close.result)) (rounded_all (none_left (goal.at.returns-clause-rounded c).In-None))
+returns-clause-rounded c = rounded_all (none_left (goal.at.returns-clause-rounded c).In-None)

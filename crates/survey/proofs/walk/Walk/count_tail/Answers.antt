@@ -12,5 +12,5 @@ overflow_add-counts c = omega (arith, tail_few (units c.args.self.ahead))
 pub overflow_add-counts-2 : goal.overflow_add-counts-2
 overflow_add-counts-2 c = omega (arith, tail_few (units c.args.self.ahead))
 
-pub returns-clause-result_value : goal.returns-clause-result_value
-returns-clause-result_value c = c.limit.ensures.result_value ∙ tail_counted _ _ _ _ _ c.count_tail-rest.ensures
+pub returns : goal.returns
+returns c = c.limit.ensures ∙ tail_counted _ _ _ _ _ c.count_tail-rest.ensures
