@@ -3,6 +3,8 @@
 use Rattle.std.proofs.Common.{◌≡◌, refl, sym, ap, ◌∙◌, subst, true, false, ◌/◌, List, [], ◌∷◌, ℕ, ◌+◌, ◌*◌, ◌≤◌, ◌<◌, arith, length, take, drop}
 use lib.ListN.{length-drop, drop_of_length-le}
 use lib.Seq.{sets, drop-drop, take_at}
+use Rattle.std.specs.List.{between}
+use Rattle.std.proofs.lemmas.Slice.{between_to_end}
 use Rattle.label.specs.Text.{is_high, is_pair}
 use Rattle.label.specs.Run.{Parts, font_glyph, cluster, add_glyph, tail}
 use Rattle.label.specs.Wire.{from_halves}
@@ -12,6 +14,7 @@ use Rattle.label.proofs.Wire.{length_halves, halves_back}
 use Rattle.label.proofs.Basics.{and_r, cases, clash}
 use Rattle.label.proofs.Tails.{wide, tail_nil, tail_first}
 use Rattle.wire.specs.Stores.{glyph_places}
+use Rattle.wire.proofs.Fetched.{halves_drop}
 use Rattle.reader.specs.declared.Stored.{Stored}
 use Rattle.reader.specs.Stores.{cluster_places, opened}
 use Rattle.reader.proofs.Storing.{Storing, storing_opened, opened_room, storing_end}
@@ -21,6 +24,10 @@ wide_inside : (us : List ℕ) → 1 ≤ length us → wide us ≤ length us
 wide_inside [] h = absurd (omega arith)
 wide_inside (u ∷ []) h = cases (is_pair (u ∷ [])) (λ p. clash false (and_r (is_high u) false p) refl) (λ p. rw p (omega arith))
 wide_inside (u ∷ v ∷ us) h = cases (is_pair (u ∷ v ∷ us)) (λ p. rw p (omega arith)) (λ p. rw p (omega arith))
+
+-- whether the units from one on, in their bytes, begin with a pair
+pub pair_at : (s : List ℕ) (j : ℕ) → is_pair (halves (between (2 * j) (length s) s)) ≡ is_pair (drop j (halves s))
+pair_at s j = ap (λ (t : List ℕ). is_pair (halves t)) (between_to_end s (2 * j) (length s) (omega arith)) ∙ ap is_pair (sym (halves_drop j s))
 
 -- the tail behind the units that have clusters is still to store
 pub record TailLeft (cw gw us cs gs : List ℕ) (at : Stored) : Type 0 where

@@ -2,10 +2,9 @@
 // Nothing is stored before 18 has been judged.
 #![tactic(auto)]
 
-ghost use Rattle.std.specs.Prelude.{◌+◌, ◌*◌, ◌/◌, ◌≤◌, ◌<◌, ◌≡◌, cond, length, drop};
+ghost use Rattle.std.specs.Prelude.{◌+◌, ◌*◌, ◌/◌, ◌≤◌, ◌<◌, ◌≡◌, length, drop};
 ghost use Rattle.std.proofs.lemmas.List.Edits.{sets};
 ghost use Rattle.label.specs.Limits.{max_units};
-ghost use Rattle.label.specs.Text.{is_pair};
 ghost use Rattle.label.specs.Run.{cluster, tail};
 ghost use Rattle.label.specs.Steps.{run_from};
 ghost use Rattle.label.specs.Fetched.{halves};
@@ -98,14 +97,6 @@ fn put_entry(count: usize, at: Stored, x: Item, clusters: &mut [u8], glyphs: &mu
     open_cluster(at, units, x.glyphs, x.glyph, clusters, glyphs)
 }
 
-// How many units the tail's cluster at unit j has; by that number, as `units::is_pair_at` takes it.
-fn tail_units(units: &[u8], j: usize) -> usize
-    requires { j ≤ length units.now / 2 }
-    ensures { result ≡ cond (is_pair (drop j (halves units.now))) 2 1 }
-{
-    if units::is_pair_at(units, j) { 2 } else { 1 }
-}
-
 // Stores the tail: the units of the run that no cluster has yet, each with a glyph of the font's.
 fn fill_tail(units: &[u8], at: Stored, clusters: &mut [u8], glyphs: &mut [u8])
     requires units { (at.units ≤ length (halves units.now)) × (length (halves units.now) ≤ max_units) }
@@ -118,7 +109,8 @@ fn fill_tail(units: &[u8], at: Stored, clusters: &mut [u8], glyphs: &mut [u8])
     let mut at = at;
     // A cluster has one unit or two: the next is where what is stored ends. `char::decode_utf16` would spell characters for their lengths alone.
     while at.units < count {
-        let taken = tail_units(units, at.units);
+        let left = &units[2 * at.units..];
+        let taken = if units::begins_with_pair(left) { 2 } else { 1 };
         at = open_cluster(at, taken, 1, FONT, clusters, glyphs);
     }
 }

@@ -92,7 +92,7 @@ fn stands(cluster: ClusterNumbers, units: &[u8]) -> bool
 fn is_tail_pair(cluster: ClusterNumbers, glyph: GlyphNumbers, units: &[u8]) -> bool
     ensures { result ≡ tail_pair (halves units.now) (as_cluster cluster) (as_glyph glyph ∷ []) }
 {
-    cluster.units == 2 && cluster.glyphs == 1 && units::is_pair_at(units, 0) && glyph.is_font()
+    cluster.units == 2 && cluster.glyphs == 1 && units::begins_with_pair(units) && glyph.is_font()
 }
 
 // Whether the cluster may stand from unit `at` on, as far as its first glyph tells. In a run without units a cluster has none.

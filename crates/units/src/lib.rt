@@ -1,7 +1,7 @@
 // Code units, by themselves and where they stand in a run's bytes: the halves of pairs, and whether they are well-formed XML characters.
 #![tactic(auto)]
 
-ghost use Rattle.std.specs.Prelude.{◌≡◌, false, drop};
+ghost use Rattle.std.specs.Prelude.{◌≡◌, false};
 ghost use Rattle.label.specs.Text.{is_high, is_low, is_pair};
 ghost use Rattle.label.specs.Fetched.{halves};
 ghost use Rattle.label.specs.Sound.{proper_units};
@@ -25,11 +25,11 @@ pub fn is_low(u: u16) -> bool
 
 // ── the units of a run ──
 
-// Whether the two units at j are the halves of one pair; by the number of the first, as `wire::unit_at` takes it.
-pub fn is_pair_at(us: &[u8], j: usize) -> bool
-    ensures { result ≡ is_pair (drop j (halves us.now)) }
+// Whether the first two are the halves of one pair.
+pub fn begins_with_pair(us: &[u8]) -> bool
+    ensures { result ≡ is_pair (halves us.now) }
 {
-    is_high(wire::unit_at(us, j)) && is_low(wire::unit_at(us, j + 1))
+    is_high(wire::unit_at(us, 0)) && is_low(wire::unit_at(us, 1))
 }
 
 // The units are well-formed XML characters.
