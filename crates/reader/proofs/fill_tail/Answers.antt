@@ -23,7 +23,7 @@ pub open_cluster-at-requires-clause-counts : goal.open_cluster-at-requires-claus
 open_cluster-at-requires-clause-counts c =
     let j = (goal.at.open_cluster-at-requires-clause-counts c).Joined-begins_with_pair in
     let t = tail_turn c.loop-at.invariant (more j) (taken_is j) in
-    (omega (arith, t.few), omega arith, omega (arith, t.inside, c.requires.units.1))
+    omega (arith, t.few, t.inside, c.requires.units.1)
 
 pub open_cluster-at-requires-clause-room : goal.open_cluster-at-requires-clause-room
 open_cluster-at-requires-clause-room c =
