@@ -190,7 +190,7 @@ fn rounded_of(number: Option<Signed>) -> usize
 
 // ── the glyph record ──
 
-// The index that these digits name, where it is within the limit; by the limit's name, though `u16::try_from` refuses the same numbers.
+// The index that these digits name, where it is within the limit: `u16::try_from` would refuse the same numbers without naming the limit.
 fn index_of(digits: Option<u64>) -> Option<Index>
     ensures { result ≡ index_within digits }
 {

@@ -22,8 +22,8 @@ fn put_digit(out: &mut Output, n: u32)
     out.put_byte(b'0' + n as u8);
 }
 
-// A number, without leading zeros: all digits but the last, then the last. Of the kit's libraries only `std` is used, whose `write!` gives a Result: its
-// error, which no store here gives, would be an arm in every caller.
+// A number, without leading zeros: all digits but the last, then the last.
+// `write!` of std, the one library that is used, gives a Result: its error, which no store here gives, would be an arm in every caller.
 fn put_decimal(out: &mut Output, n: u32)
     ensures { Gains out.old (decimal n) out.new }
 {
@@ -35,7 +35,7 @@ fn put_decimal(out: &mut Output, n: u32)
     put_digit(out, n % 10);
 }
 
-// The digits behind the point, without trailing zeros.
+// The digits behind the point, without trailing zeros: by `%`, as the definition has it, here and in `put_value`.
 fn put_fraction(out: &mut Output, f: u32)
     requires { f < 1000 }
     ensures { Gains out.old (fraction f) out.new }
@@ -62,7 +62,7 @@ fn put_whole(out: &mut Output, whole: u32)
     put_decimal(out, whole);
 }
 
-// A value in thousandths, before its sign.
+// A value in thousandths, without a sign.
 fn put_value(out: &mut Output, n: u32)
     ensures { Gains out.old (value_bytes n) out.new }
 {
@@ -127,7 +127,7 @@ fn put_map(out: &mut Output, cluster: Cluster)
     out.put_byte(b')');
 }
 
-// An index with the map of the cluster that it opens; nothing for one that the font chooses.
+// An index with the map of its cluster; nothing for one that the font chooses.
 #[tactic(auto, using(octets::proofs::Outputs::nothing), unfolding(label::specs::Write::index_bytes))]
 fn put_index(out: &mut Output, cluster: Cluster, n: i32)
     ensures { Gains out.old (index_bytes cluster.units cluster.glyphs (number_index n)) out.new }
@@ -159,7 +159,7 @@ fn put_fields(out: &mut Output, advance: i32, u: i32, v: i32)
     put_offset(out, v);
 }
 
-// The entry of a glyph, which opens a cluster.
+// The entry of a glyph, with the cluster that it is written with.
 pub fn put_entry(out: &mut Output, cluster: Cluster, g: GlyphNumbers)
     ensures gains { Gains out.old (entry_by value_bytes cluster.units cluster.glyphs (as_glyph g)) out.new }
     ensures bounds { length (entry_by value_bytes cluster.units cluster.glyphs (as_glyph g)) ≤ 80 }

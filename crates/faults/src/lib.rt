@@ -49,14 +49,14 @@ fn find_entry(indices: &[u8], k: usize) -> Option<Part>
     })
 }
 
-// The place of a refusal with this number is a byte of the text.
+// Whether the place of a refusal with this number is a byte of the text: a number and no `Cause`, as at `find_part`.
 fn is_of_text(number: u32) -> bool
     ensures { result ≡ of_text number }
 {
     matches!(number, 2..=4)
 }
 
-// It is an entry.
+// Whether it is an entry of the indices.
 fn is_of_entry(number: u32) -> bool
     ensures { result ≡ of_entry number }
 {
@@ -64,7 +64,7 @@ fn is_of_entry(number: u32) -> bool
 }
 
 // The part of the label that a refusal speaks of, or the empty start of the text, which document 01 gives where it speaks of none. A caller in C may hand over
-// any number, so it is no `Cause`.
+// any number, so it is no `Cause`: `Cause::try_from` would refuse some, and all that is asked is in which of two ranges the number is.
 #[tactic(auto, unfolding(label::specs::Fault::fault_part, crate::specs::Faults::entry_shown))]
 pub fn find_part(label: Label, number: u32, place: usize) -> Part
     ensures { result ≡ fault_part label.entry.text.now label.entry.indices.now number place }

@@ -57,7 +57,7 @@ pub struct GlyphLabelStretch {
     pub end: u32,
 }
 
-// A part of the text (0) or of the indices (1).
+// A part of the text (`in_indices` is 0) or of the indices (1): a number, which the header gives C for the enum `Source`.
 #[repr(C)]
 #[derive(Clone, Copy)]
 pub struct GlyphLabelPart {
@@ -169,7 +169,7 @@ impl From<Part> for GlyphLabelPart {
 
 // A run is three arguments in C. Each call names them in a `Run` where it needs one: a function that did so would take the same three.
 
-// Which calls, structs and answers these are.
+// The version of these calls, their structs and their answers.
 #[unsafe(no_mangle)]
 pub extern "C" fn glyph_label_version() -> u32
     ensures { result ≡ version }

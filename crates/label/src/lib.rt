@@ -97,6 +97,7 @@ pub struct LimitValues {
 // Where the walk over the entries stands: the number of the next entry; the units used; the glyphs that the open cluster lacks and the entry that opened
 // it; the clusters so far.
 // What is lacked is a count, so 0 says by itself that no cluster is open; the entry that opened one is looked at only where it lacks glyphs.
+// It holds numbers and no slices: `Limits::fresh_cursor` makes it before there is a label, a form that document 01 names.
 #[derive(Clone, Copy)]
 pub struct Cursor {
     pub entry: usize,
@@ -136,6 +137,7 @@ pub struct Cluster {
 }
 
 // Why a label, a run or a file is refused: the causes of both documents' tables in the order of their numbers, in the documents' words.
+// Callers may compare them.
 #[derive(Clone, Copy, PartialEq, Eq)]
 pub enum Cause {
     // text above 16,384 bytes or indices above 262,144
@@ -202,7 +204,8 @@ impl Cause {
         self as u32
     }
 
-    // The refusal with this cause at this place.
+    // The refusal with this cause at this place. Each call tests for room by an `if` of its own: a function for it would take the cause, what is lent and what
+    // is needed, and say no less.
     pub fn at(self, place: usize) -> Refusal
         ensures { result ≡ refusal self place }
     {
@@ -219,7 +222,7 @@ impl TryFrom<u32> for Cause {
 
     ghost try_from_gives = { CauseOf };
 
-    // std derives no way back from a number, so the numbers stand once more, one arm each.
+    // For callers that have a refusal's number: nothing here calls this. std derives no way back from a number, so the numbers stand once more.
     fn try_from(number: u32) -> Result<Cause, UnknownCause> {
         match number {
             1 => Ok(Cause::TooManyBytes),

@@ -43,6 +43,23 @@ fn show<W: Write>(out: &mut W, run: Run, records: &mut [Glyph; 4]) -> io::Result
     Ok(())
 }
 
+// The bytes of a run: five units; a line for each cluster of a unit and a glyph; and a line for each glyph's index, advance, u and v.
+const UNITS: &[u8] = b"A\0B\0C\0D\0E\0";
+
+const CLUSTERS: &[u8] = b"\
+    \x01\0\0\0\x01\0\0\0\
+    \x01\0\0\0\x01\0\0\0\
+    \x01\0\0\0\x01\0\0\0\
+    \x01\0\0\0\x01\0\0\0\
+    \x01\0\0\0\x01\0\0\0";
+
+const GLYPHS: &[u8] = b"\
+    \xff\xff\xff\xff\xff\xff\xff\xff\0\0\0\0\0\0\0\0\
+    \xc0\0\0\0\xcc\xd8\0\0\x06\xff\xff\xff\xe8\x03\0\0\
+    \xff\xff\xff\xff\0\0\0\0\0\0\0\0\0\0\0\0\
+    \xff\xff\xff\xff\xff\xff\xff\xff\0\0\0\0\0\0\0\0\
+    \xff\xff\xff\xff\xff\xff\xff\xff\0\0\0\0\0\0\0\0";
+
 fn main(rt: HostRuntime) -> io::Result<()> {
     let blank = Glyph {
         index: Index::Named(0),
@@ -50,33 +67,19 @@ fn main(rt: HostRuntime) -> io::Result<()> {
         u: 0,
         v: 0,
     };
-    // The bytes of a run: five units; a line for each cluster of a unit and a glyph; and a line for each glyph's index, advance, u and v.
-    let units: &[u8] = b"A\0B\0C\0D\0E\0";
-    let clusters: &[u8] = b"\
-        \x01\0\0\0\x01\0\0\0\
-        \x01\0\0\0\x01\0\0\0\
-        \x01\0\0\0\x01\0\0\0\
-        \x01\0\0\0\x01\0\0\0\
-        \x01\0\0\0\x01\0\0\0";
-    let glyphs: &[u8] = b"\
-        \xff\xff\xff\xff\xff\xff\xff\xff\0\0\0\0\0\0\0\0\
-        \xc0\0\0\0\xcc\xd8\0\0\x06\xff\xff\xff\xe8\x03\0\0\
-        \xff\xff\xff\xff\0\0\0\0\0\0\0\0\0\0\0\0\
-        \xff\xff\xff\xff\xff\xff\xff\xff\0\0\0\0\0\0\0\0\
-        \xff\xff\xff\xff\xff\xff\xff\xff\0\0\0\0\0\0\0\0";
     let mut out = rt.stdout();
     let whole = Run {
-        units,
-        clusters,
-        glyphs,
+        units: UNITS,
+        clusters: CLUSTERS,
+        glyphs: GLYPHS,
     };
     let three = Run {
-        units: &units[..6],
-        clusters: &clusters[..24],
-        glyphs: &glyphs[..48],
+        units: &UNITS[..6],
+        clusters: &CLUSTERS[..24],
+        glyphs: &GLYPHS[..48],
     };
     let unsound = Run {
-        units: &units[..4],
+        units: &UNITS[..4],
         ..three
     };
     let mut records = [blank; 4];

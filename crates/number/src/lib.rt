@@ -175,7 +175,7 @@ pub fn sign_length(s: &[u8]) -> usize
     usize::from(matches!(s.first(), Some(b'+' | b'-')))
 }
 
-// The exponent, where it is well formed. None is read as 0 of no digits, as the value needs no case for it.
+// The exponent, where it is well formed. A missing one is read as 0 of no digits, so the value needs no case for it.
 fn exponent_of(s: &[u8]) -> Option<Exponent>
     ensures value { let x = exponent_of s.now in result ≡ then_some x.ok (cut_exponent x) }
     ensures bounds { IfSome result (λ x. x.used ≤ length s.now) }

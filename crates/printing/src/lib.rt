@@ -1,5 +1,5 @@
-// What the programs share: a read of their whole input; and the printing of what comes of a label: `ok`, its counts and its two normal lines; or `no`, the
-// refusal's number and place.
+// What the programs share: a read of their input into lent memory; and the printing of what comes of a label: `ok`, its counts and its two normal lines; or
+// `no`, the refusal's number and place.
 #![tactic(auto)]
 
 ghost use Rattle.std.specs.Prelude.{◌≡◌, ◌≤◌, ◌<◌, length, take, IfOk};
@@ -14,13 +14,13 @@ use label::{Counts, Label, Limits, Refusal};
 use std::io;
 use std::io::{Read, Write};
 
-// Reads until buf is full or the input ends, and returns how many bytes it put at the start of buf.
+// Reads until buf is full or the input ends, and gives how many bytes it put at its start: lent memory, as for std's `read`, as there is no heap.
 pub fn read_full<R: Read>(input: &mut R, buf: &mut [u8]) -> io::Result<usize>
     ensures bound { IfOk result (λ n. n ≤ length buf.new) }
     ensures bytes { IfOk result (λ n. Consumes (R.remaining input.old) (R.remaining input.new) (take n buf.new)) }
     ensures end { IfOk result (λ n. n < length buf.new → IsAtEnd (R.remaining input.new)) }
 {
-    // How far a turn comes is what the read gives, so the place is counted on by that.
+    // Each read gives as many bytes as it likes, so the place is counted on by that and no range gives it.
     let mut done = 0;
     while done < buf.len() {
         let n = input.read(&mut buf[done..])?;

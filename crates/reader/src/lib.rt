@@ -19,8 +19,8 @@ use label::{Advance, Cause, Glyph, Index, Label, Reading, Refusal};
 use text::TextUnits;
 use wire::{ClusterNumbers, GlyphNumbers};
 
-// How much of a run is stored: its clusters, its glyphs and the units of its clusters; and how many glyphs the last cluster still lacks. No `label::Cursor`:
-// the tail goes on with it, behind the entries, and only a refusal asks for an opener.
+// How much of a run is stored: its clusters, its glyphs and the units of its clusters; and how many glyphs the last cluster still lacks, a count,
+// so 0 says by itself that none is open. No `label::Cursor`: the tail goes on with it, behind the entries, and only a refusal asks for an opener.
 #[derive(Clone, Copy)]
 struct Stored {
     clusters: usize,
@@ -107,7 +107,7 @@ fn fill_tail(units: &[u8], at: Stored, clusters: &mut [u8], glyphs: &mut [u8])
 {
     let count = wire::unit_count(units);
     let mut at = at;
-    // A cluster has one unit or two: the next is where what is stored ends. `char::decode_utf16` would spell characters for their lengths alone.
+    // A cluster of the tail has one unit or two, so the next begins where what is stored ends; `char::decode_utf16` would decode only for lengths.
     while at.units < count {
         let left = &units[2 * at.units..];
         let taken = if units::begins_with_pair(left) { 2 } else { 1 };

@@ -30,7 +30,7 @@ fn has_argument(rt: &impl Env) -> bool {
     !matches!(rt.arg(1, &mut []), Err(FillError::NotPresent))
 }
 
-// Whether the first argument is `--help`; one that is longer than the word is not.
+// Whether the first argument is `--help`. std's `arg` fills lent memory, as there is no heap, and refuses an argument of more than these 8 bytes.
 fn asks_for_help(rt: &impl Env) -> bool {
     let mut word = [0u8; 8];
     match rt.arg(1, &mut word) {
@@ -47,7 +47,7 @@ fn print_first<W: Write>(out: &mut W, s: &[u8]) -> io::Result<()>
     printing::print_label(out, lines.label)
 }
 
-// 65,536 bytes hold two lines of the lengths that are read, and show that a longer line is too long.
+// There is no heap: 65,536 bytes hold two lines of the lengths that are read, and show that a longer line is too long.
 fn relabel_input<R: Read, W: Write>(input: &mut R, out: &mut W) -> io::Result<()>
     ensures { IfSome (R.remaining input.old) (λ bytes.
         Prints result (W.contents out.old) (W.contents out.new) (relabel (take 65536 bytes))) }

@@ -14,7 +14,7 @@ use wire::{ClusterNumbers, GlyphNumbers, Run};
 
 // ── how many ──
 
-// Whether the bytes of a run are whole units, clusters and glyphs.
+// Whether the bytes of a run are whole units, clusters and glyphs: by `%`, as the definition has it, and not by `is_multiple_of`.
 pub fn is_whole(run: Run) -> bool
     ensures { result ≡ whole_run (length run.entry.units.now) (length run.entry.clusters.now) (length run.entry.glyphs.now) }
 {
@@ -32,7 +32,7 @@ pub fn is_limited(run: Run) -> bool
 
 // ── a glyph ──
 
-// The limits as the numbers of a run hold them.
+// The limits as `i32`, which a run's numbers are: by a cast, as `try_from` is no form for a constant.
 const INDEX: i32 = Limits::INDEX as i32;
 
 const THOUSANDTHS: i32 = Limits::THOUSANDTHS as i32;

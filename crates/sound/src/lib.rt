@@ -97,7 +97,7 @@ pub fn is_sound(run: Run) -> bool
         && well_run(run)
 }
 
-// 19 where none does.
+// Refuses a run that is not sound: 19.
 pub fn check(run: Run) -> Result<(), Refusal>
     ensures { outcome_of result ≡ need (sound (as_places run.entry)) 19 0 }
 {

@@ -22,7 +22,8 @@ use walk::Walk;
 // ── one entry ──
 
 // The cursor behind an entry that opens a cluster or goes on with one: it takes `units` units and has `glyphs` in its map.
-// Its two counts are no `label::Cluster` before they are judged. This is of a cursor by itself: what a walk knows of its own is required here.
+// Its two counts are no `label::Cluster` before they are judged. It takes a cursor and no `Walk`, as the definition
+// `advanced` does; what a `Walk` knows of its cursor is required here.
 #[tactic(auto, unfolding(crate::specs::Steps::advanced))]
 pub fn advance(at: Cursor, units: usize, glyphs: usize) -> Cursor
     requires { (at.entry ≤ max_indices_bytes) × (at.unit + units ≤ max_units) × (at.clusters ≤ at.entry) }

@@ -9,6 +9,7 @@ use label::Cursor;
 use text::Passage;
 
 // Where the walk over the entries of a run of `count` units stands: its cursor, and the units that it has not used.
+// The count is asked for beside what is ahead: in a run without units a cluster has none.
 #[derive(Clone, Copy)]
 pub struct Walk<'a> {
     pub count: usize,

@@ -135,7 +135,7 @@ pub fn survey_text(text: &[u8]) -> Result<TextUnits<'_>, Refusal>
 
 // ── storing a text's units ──
 
-// The halves of a pair: the high ten bits of what the character is above U+FFFF, and the low ten. Document 01 names shifts and masks for them.
+// The halves of a pair: the high ten bits of the character's number less 0x10000, and the low ten. Document 01 names shifts and masks for them.
 fn halves(c: u32) -> (u16, u16)
     requires { (65536 ≤ c) × (c ≤ 1114111) }
     ensures { (result.0 ≡ 55296 + (c - 65536) / 1024) × (result.1 ≡ 56320 + (c - 65536) % 1024) }
@@ -144,7 +144,7 @@ fn halves(c: u32) -> (u16, u16)
     ((v >> 10) as u16 | 0xd800, (v & 0x3ff) as u16 | 0xdc00)
 }
 
-// Stores the units of a character as units n and following; the number of the next.
+// Stores the units of a character as units n and following, and gives the number of the next.
 // The number stands beside the bytes: with an `octets::Output`, which tests for room and counts at each byte, letters take three times as long.
 #[tactic(auto, unfolding(label::specs::Text::units_of, label::specs::Wire::from_halves, octets::specs::Puts::puts))]
 fn put_char(out: &mut [u8], n: usize, c: u32) -> usize
@@ -179,7 +179,7 @@ impl<'a> Passage<'a> {
     {
         let mut rest = characters_from(self.text, self.at);
         let mut left = count;
-        // The place behind the last character is asked for afterwards, and there may be none to pass: so it is no `for`.
+        // A `for` over `rest.by_ref()` would need a case in front, for no units to pass, and one behind, for a text that ends too early: so a `while`.
         while left != 0 {
             let c = match rest.next() {
                 Some(Ok(c)) => c,

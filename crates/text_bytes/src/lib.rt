@@ -84,7 +84,7 @@ fn put_escaped(out: &mut Output, b: u8)
 }
 
 // The same as it is asked for. Only a character of one byte can be one of the six.
-// `escape` is a bool, as the definition `as_asked` has it: an enum would add its reading as one to the contract of each function that hands it on.
+// `escape` is a bool, as the definition `as_asked` has it: with an enum each contract that hands it on would have to turn it into one.
 // It is no field of the output, nor of a struct with the units: what an output gains is said of it alone, and most stores do not ask for it.
 fn put_asked(escape: bool, out: &mut Output, u: u16, v: u16)
     ensures { Gains out.old (as_asked escape (unit_bytes u v)) out.new }

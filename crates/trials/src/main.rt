@@ -1,4 +1,4 @@
-// Reads labels, each on two lines, till the end of the input, and prints for each what `relabel` prints.
+// Reads labels, each on two lines, from the first 1,048,576 bytes of the input, and prints for each what `relabel` prints.
 #![tactic(auto)]
 
 ghost use Rattle.std.specs.Prelude.{length};
@@ -20,7 +20,7 @@ fn print_labels<W: Write>(out: &mut W, input: &[u8]) -> io::Result<()>
 }
 
 fn main(rt: HostRuntime) -> io::Result<()> {
-    // There is no heap: so much input is read.
+    // There is no heap, so at most this much of the input is read.
     let mut input = [0u8; 1_048_576];
     let n = printing::read_full(&mut rt.stdin(), &mut input)?;
     print_labels(&mut rt.stdout(), &input[..n])

@@ -32,7 +32,7 @@ pub fn begins_with_pair(us: &[u8]) -> bool
     is_high(wire::unit_at(us, 0)) && is_low(wire::unit_at(us, 1))
 }
 
-// The units are well-formed XML characters.
+// Whether the units are well-formed XML characters.
 pub fn proper_units(us: &[u8]) -> bool
     ensures { result ≡ proper_units false (halves us.now) }
 {

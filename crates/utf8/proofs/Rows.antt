@@ -52,7 +52,7 @@ pub by_row : (k b : ℕ) → InFirst (nth table k) b → behind (drop 1 (nth tab
 unfolding lead
 by_row k b h = sym (chosen_nth table 0 k b rising (in_first_holds (nth table k) b h))
 
--- no row is chosen between 7F and C2, and above F4
+-- no row is chosen between 7F and C2, and above F4; the documents name this law, and no other cites it
 pub by_none : (b : ℕ) → 0x7f < b → (0xc2 ≤ b → 0xf4 < b) → None ≡ lead b
 unfolding lead chosen table
 by_none b h k = grind (arith, common_steps)

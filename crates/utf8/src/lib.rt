@@ -53,14 +53,14 @@ fn row_of(b: u8) -> Option<Trailing>
     }
 }
 
-// Each is from 80 to BF, as a third and a fourth byte are.
+// Whether each is from 80 to BF, as a third and a fourth byte are.
 fn are_trailing(bytes: &[u8]) -> bool
     ensures { result ≡ list_all (within 0x80 0xbf) bytes.now }
 {
     bytes.iter().all(|b| matches!(*b, 0x80..=0xbf))
 }
 
-// The bytes are those of a row behind its first: the second byte is from its lo to its hi, the others from 80 to BF.
+// Whether the bytes are those of a row behind its first: the second byte is from its lo to its hi, the others from 80 to BF.
 #[tactic(auto, using(crate::proofs::Rows::trail_none))]
 fn fits_row(bytes: &[u8], row: Trailing) -> bool
     ensures { result ≡ trail (length bytes.now) row.lo row.hi bytes.now }

@@ -1,5 +1,5 @@
 // A run's numbers where they stand, in its bytes: a unit is 2 bytes and every other number 4, two's complement, low byte first.
-// So a cluster is 8 bytes and a glyph 16: who cuts or measures a buffer elsewhere writes these numbers out, as C does.
+// So a cluster is 8 bytes and a glyph 16: who cuts or measures a buffer elsewhere writes 2, 8 and 16 out, as callers in C do.
 #![tactic(auto)]
 
 ghost use Rattle.std.specs.Prelude.{◌≡◌, ◌*◌, ◌/◌, ◌%◌, ◌<◌, length, get_or, pos, [], ◌∷◌};
@@ -86,7 +86,7 @@ impl ClusterNumbers {
     }
 }
 
-// The cluster that has these numbers, 0 for a negative one.
+// The cluster that has these numbers; 0 for a negative one, by `max` for the reason at `unit_count`.
 impl From<ClusterNumbers> for Cluster {
     ghost from_gives = { λ n c. c ≡ as_cluster n };
 
@@ -98,7 +98,7 @@ impl From<ClusterNumbers> for Cluster {
     }
 }
 
-// A glyph's index, −1 for the font; its advance, −1 for the font's own; and its two offsets. Any numbers: a run handed in may hold such as no `Glyph` has, so
+// A glyph's index, -1 for the font; its advance, -1 for the font's own; and its two offsets. Any numbers: a run handed in may hold such as no `Glyph` has, so
 // the choices stand here as they do in its bytes.
 #[derive(Clone, Copy)]
 pub struct GlyphNumbers {
@@ -283,7 +283,7 @@ pub struct EntryNumbers {
 pub struct Entries<'a> {
     clusters: Clusters<'a>,
     glyphs: Glyphs<'a>,
-    // how many glyphs the open cluster lacks
+    // how many glyphs the open cluster lacks; a count, so 0 says by itself that none is open
     lack: usize,
 }
 
@@ -315,7 +315,8 @@ impl<'a> Iterator for Entries<'a> {
 
 // ── stored ──
 // Each by its number in a buffer that has room: by an `octets::Output`, which tests for room and counts at each byte, letters take three times as long. Units
-// and numbers have a function each, as one over their size would have a product of two unknowns in each bound.
+// and numbers have a function each: `as_chunks_mut`, which would store as `as_chunks` fetches, says nothing of the slice afterwards, and one function over both
+// sizes would have a product of two unknowns in each bound.
 
 pub fn put_unit(out: &mut [u8], j: usize, u: u16)
     requires { j < length out.old / 2 }
