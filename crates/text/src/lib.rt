@@ -14,7 +14,7 @@ ghost use Rattle.label.specs.Calls.{outcome_of, filled};
 ghost use Rattle.text.specs.Walk.{fault_refusal, left, Takes};
 ghost use Rattle.text.specs.Texts.{text_count, start_read};
 ghost use Rattle.text.specs.Units.{units_from, well_formed};
-ghost use Rattle.text.specs.Moves.{units, Reads, Moves};
+ghost use Rattle.text.specs.Moves.{units, Reads, MovesTo, Moves};
 
 use label::{Cause, Refusal};
 use utf8::{Char, CharFault};
@@ -172,10 +172,10 @@ pub enum MoveFault {
 }
 
 impl<'a> Passage<'a> {
-    // What stands behind the first `count` units.
+    // The byte behind the first `count` units: of the passage that begins there the place alone, for the speed of moves.
     #[tactic(auto, using(crate::proofs::Moves::moves))]
-    pub fn move_past(self, count: usize) -> Result<Passage<'a>, MoveFault>
-        ensures { Moves self.entry count result }
+    fn place_past(self, count: usize) -> Result<usize, MoveFault>
+        ensures { MovesTo self.entry count result }
     {
         let mut rest = characters_from(self.text, self.at);
         let mut left = count;
@@ -190,9 +190,18 @@ impl<'a> Passage<'a> {
                 .checked_sub(unit_count(c.code))
                 .ok_or(MoveFault::InsidePair)?;
         }
+        Ok(rest.at)
+    }
+
+    // What stands behind the first `count` units.
+    #[inline(always)]
+    pub fn move_past(self, count: usize) -> Result<Passage<'a>, MoveFault>
+        ensures { Moves self.entry count result }
+    {
+        let at = self.place_past(count)?;
         Ok(Passage {
             text: self.text,
-            at: rest.at,
+            at,
         })
     }
 

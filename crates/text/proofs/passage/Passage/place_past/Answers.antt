@@ -1,4 +1,4 @@
--- `text::Passage::move_past`: where the units to pass end inside a character, `left_inside` of Moves says it of what `?` returns. Assumes nothing.
+-- `text::Passage::place_past`: where the units to pass end inside a character, `left_inside` of Moves says it of what `?` returns. Assumes nothing.
 use Rattle.std.proofs.Common.{arith, ◌≡◌, ◌-◌, ◌<◌, ◌∷◌, Ok}
 use Rattle.std.proofs.lemmas.Grind.{common_steps}
 use Rattle.std.proofs.lemmas.Result.{err_from_is_err_and}
@@ -6,7 +6,7 @@ use Rattle.text.specs.Moves.{units}
 use Rattle.text.specs.Walk.{left}
 use Rattle.text.specs.declared.MoveFault.TheVariants.{InsidePair}
 use Rattle.text.proofs.Moves.{Left, left_inside}
-use Rattle.text.proofs.passage.Passage.move_past.Goals as goal
+use Rattle.text.proofs.passage.Passage.place_past.Goals as goal
 
 pub returns-in_err-left : goal.returns-in_err-left
 returns-in_err-left c =
