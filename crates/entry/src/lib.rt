@@ -341,7 +341,7 @@ fn is_index(e: EntryBytes) -> bool
 }
 
 // What these digits alone say.
-fn index_item(d: Digits) -> Item
+pub fn index_item(d: Digits) -> Item
     requires { d.value ≤ max_index }
     ensures { result ≡ index_item d }
 {

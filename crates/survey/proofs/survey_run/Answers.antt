@@ -48,9 +48,10 @@ took_index c =
     let e = Index c.in-Index.index c.in-Index.used in
     let took : c.take_index.result ≡ Ok c.in_ok-walk-in-Index.walk = search rules in
     let u = subst (Underway _ _ _ _) c.in-Some.ensures.steps c.loop-entry.invariant in
-    subst (λ n. Underway (units c.args.run.passage) c.args.indices.now c.in_ok-walk-in-Index.walk n (results_left c.next.new.self)) (add-zero c.loop-entry.rounded)
+    subst (λ n. Underway (units c.args.run.passage) c.args.indices.now c.in_ok-walk-in-Index.walk n (results_left c.next.new.self))
+    (add-zero c.loop-entry.rounded)
     (goes_on _ _ u (item_said e) c.in_ok-walk-in-Index.walk (said _ _ e c.in_ok-entry.was c.in-Index.is)
-        (subst (Turns _ (item_said e)) took (c.take_index.ensures c.in-Index.index c.in-Index.used)))
+    (subst (Turns _ (item_said e)) took (c.take_index.ensures c.in-Index.index c.in-Index.used)))
 
 took_full : (c : In_ok-walk-in-Full) → Underway (units c.args.run.passage) c.args.indices.now c.in_ok-walk-in-Full.walk
     (c.loop-entry.rounded + c.in-Full.x.rounded) (results_left c.next.new.self)
@@ -79,7 +80,7 @@ returns-in_err-walk-in-Index-clause-result_value c =
     let no : c.take_index.result ≡ Err e = search rules in
     let r : c.from_residual-in_err-walk-in-Index.result ≡ Err e = search rules in
     rw r (stops _ _ (left (goal.at.returns-in_err-walk-in-Index-clause-result_value c).In-Some) (item_said i) e (said _ _ i c.in_ok-entry.was c.in-Index.is)
-        (subst (Turns _ (item_said i)) no (c.take_index.ensures c.in-Index.index c.in-Index.used)))
+    (subst (Turns _ (item_said i)) no (c.take_index.ensures c.in-Index.index c.in-Index.used)))
 
 pub loop-entry-preserved-in-Index : goal.loop-entry-preserved-in-Index
 loop-entry-preserved-in-Index c = took_index (goal.at.loop-entry-preserved-in-Index c).In_ok-walk-in-Index
@@ -91,7 +92,7 @@ returns-in_err-walk-in-Full-clause-result_value c =
     let no : c.take_entry.result ≡ Err e = search rules in
     let r : c.from_residual-in_err-walk-in-Full.result ≡ Err e = search rules in
     rw r (stops _ _ (left (goal.at.returns-in_err-walk-in-Full-clause-result_value c).In-Some) x e (said _ _ (Full x) c.in_ok-entry.was c.in-Full.is)
-        (subst (Turns _ x) no c.take_entry.ensures))
+    (subst (Turns _ x) no c.take_entry.ensures))
 
 pub overflow_add-rounded : goal.overflow_add-rounded
 overflow_add-rounded c =
