@@ -204,7 +204,8 @@ fn survey_run(run: TextUnits<'_>, indices: &[u8]) -> Result<Reading, Refusal>
     let mut walk = Walk::new(run);
     let mut rounded = 0;
     for entry in Entries::new(indices) {
-        match entry? {
+        let entry = entry?;
+        match entry {
             ReadEntry::Index { .. } => walk = walk.take_index()?,
             ReadEntry::Full(x) => {
                 walk = walk.take_entry(x)?;
