@@ -1,12 +1,16 @@
--- Bytes stored from a place on: one store, one behind another, none; `sets_append`, by induction, carries them.
+-- Bytes stored from a place on: one store, one behind another, none, and bytes copied; `sets_append`, by induction, carries them.
 -- Assumes nothing.
 use mathlib.Core.Path.{◌≡◌, refl, sym, ap, ◌∙◌}
 use mathlib.Core.List.{List, [], ◌∷◌, ◌++◌}
 use Prim.Native.Nat.{ℕ, suc, ◌+◌, ◌≤◌}
 use native.Mathlib.Nat.{add-zero}
 use native.Mathlib.Omega.{arith}
-use lib.ListN.{length, drop, set, length-append}
+use lib.ListN.{length, take, drop, set, length-append}
 use lib.Seq.{sets, sets-eq, set_out}
+use borrow.Rule.Slice.PartMut.{put_mid}
+use Rattle.std.proofs.Common.{append_assoc}
+use Rattle.std.proofs.lemmas.List.Edits.{paste_all}
+use Rattle.std.proofs.lemmas.Slice.{put_mid-paste}
 use Rattle.octets.specs.Puts.{puts, Put}
 
 -- stores one behind the other
@@ -48,3 +52,10 @@ put_room {l} {n} {w} {r} f h = f.is ∙ sets-eq w l 0 (omega arith) ∙ ap (λ (
   where
     zero_plus : (k : ℕ) → 0 + k ≡ k
     zero_plus k = omega arith
+
+-- the n bytes w copied over those at a place
+pub copied : (at n : ℕ) (out s w : List ℕ) → s ≡ w → n ≡ length w → at + length w ≤ length out → put_mid at n out s ≡ puts out at w
+unfolding puts
+copied at n out s w e f h =
+    let same : n ≡ n = omega arith in
+    put_mid-paste at n out s w n e same f ∙ paste_all out at w n f ∙ rw f (sym (sets-eq w out at h ∙ append_assoc (take at out) w (drop (at + length w) out)))

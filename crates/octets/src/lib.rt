@@ -52,10 +52,16 @@ impl<'a> Output<'a> {
         self.at = at.saturating_add(1);
     }
 
-    // Byte by byte: those that find room are stored, and all are counted.
+    // All at once where all find room, for speed; else byte by byte: those that find room are stored, and all are counted.
     pub fn put_bytes(&mut self, s: &[u8])
         ensures { Gains self.old s.now self.new }
     {
+        let at = self.at;
+        if at <= self.bytes.len() && s.len() <= self.bytes.len() - at {
+            self.bytes[at..at + s.len()].copy_from_slice(s);
+            self.at = at + s.len();
+            return;
+        }
         for b in s {
             self.put_byte(*b);
         }
