@@ -12,7 +12,7 @@ ghost use Rattle.label.specs.Steps.{decode};
 ghost use Rattle.label.specs.Wire.{from_halves};
 ghost use Rattle.label.specs.Calls.{outcome_of, filled};
 ghost use Rattle.text.specs.Walk.{fault_refusal, left, Takes};
-ghost use Rattle.text.specs.Texts.{text_count, start_read};
+ghost use Rattle.text.specs.Texts.{IsPlain, text_count, start_read};
 ghost use Rattle.text.specs.Units.{units_from, well_formed};
 ghost use Rattle.text.specs.Moves.{units, Reads, MovesTo, Moves};
 
@@ -87,14 +87,28 @@ fn unit_count(code: u32) -> usize
     if code <= 0xffff { 1 } else { 2 }
 }
 
-// How many units the text has, `{}` included, or 2 or 3 with its place.
+// How many bytes of U+0020 to U+007F the text begins with.
+fn plain_length(text: &[u8]) -> usize
+    ensures { IsPlain text.now result }
+{
+    for (count, b) in text.iter().enumerate() {
+        if !matches!(b, 0x20..=0x7f) {
+            return count;
+        }
+    }
+    text.len()
+}
+
+// How many units the text has, `{}` included, or 2 or 3 with its place. Each plain byte in front is a character of one unit: most texts have no others, so
+// these are counted by themselves, for speed.
 #[tactic(auto, using(crate::proofs::Counts::counted_all, crate::proofs::Walk::no_more))]
 fn count_units(text: &[u8]) -> Result<usize, Refusal>
     requires { length text.now ≤ max_text_bytes }
     ensures { outcome_of result ≡ text_count (decode 0 0 text.now) }
 {
-    let mut n = 0;
-    for c in characters_from(text, 0) {
+    let plain = plain_length(text);
+    let mut n = plain;
+    for c in characters_from(text, plain) {
         n += unit_count(c?.code);
     }
     Ok(n)
