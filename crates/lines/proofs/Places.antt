@@ -12,7 +12,7 @@ use Rattle.lines.specs.Labels.{line_end, line_behind, two_lines, place_ptr}
 use Rattle.lines.proofs.Cuts.{cut_by}
 
 -- what stands before a cut is taken from the front
-front : (t : ℕ → Bool) (s : List ℕ) → take (length (cut t s).before) s ≡ (cut t s).before
+pub front : (t : ℕ → Bool) (s : List ℕ) → take (length (cut t s).before) s ≡ (cut t s).before
 unfolding cut
 front t [] = refl
 front t (b ∷ bs) = cases (t b) (λ h. rw h) (λ h. rw h (ap (λ (l : List ℕ). b ∷ l) (front t bs)))
@@ -30,7 +30,7 @@ past_next n b bs =
     (λ h. rw (h, le-ltb (suc n) (length (b ∷ bs)) (omega (arith, ltb-false n (length bs) h))))
 
 -- and what stands behind it is dropped up to there
-behind : (t : ℕ → Bool) (s : List ℕ) → drop (past (length (cut t s).before) s) s ≡ (cut t s).after
+pub behind : (t : ℕ → Bool) (s : List ℕ) → drop (past (length (cut t s).before) s) s ≡ (cut t s).after
 unfolding cut
 behind t [] = refl
 behind t (b ∷ bs) =
@@ -42,7 +42,7 @@ inside : (t : ℕ → Bool) (s : List ℕ) → length (cut t s).before ≤ lengt
 inside t s = omega (arith, ap length (front t s), length-take (length (cut t s).before) s)
 
 -- it is the same from a place on
-past_from : (s : List ℕ) (a m : ℕ) → a ≤ length s → past m (drop a s) + a ≡ past (a + m) s
+past_from : (s : List ℕ) (a m : ℕ) → a ≤ length s → a + past m (drop a s) ≡ past (a + m) s
 past_from s a m h =
     let n : length (drop a s) ≡ length s - a = length-drop a s in
     cases (ltb m (length (drop a s)))
@@ -66,11 +66,11 @@ starts_inside s =
     (λ k. rw k n))
 
 -- where what follows a line starts, from that line on and from the input's start
-follows : (s r : List ℕ) (a : ℕ) → drop a s ≡ r → a ≤ length s → line_behind r (line_end r 0) + a ≡ line_behind s (line_end s a)
+follows : (s r : List ℕ) (a : ℕ) → drop a s ≡ r → a ≤ length s → a + line_behind r (line_end r 0) ≡ line_behind s (line_end s a)
 unfolding line_end line_behind
 follows s r a e h = rw (← e, zero-add (length (line (drop a s)).before)) (past_from s a (length (line (drop a s)).before) h)
 
-next_from : (s : List ℕ) → line_behind (line s).after (line_end (line s).after 0) + (two_lines s 0).start ≡ (two_lines s 0).next
+pub next_from : (s : List ℕ) → (two_lines s 0).start + line_behind (line s).after (line_end (line s).after 0) ≡ (two_lines s 0).next
 unfolding two_lines
 next_from s = follows s (line s).after (two_lines s 0).start (second s) (starts_inside s)
 
