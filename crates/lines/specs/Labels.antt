@@ -45,10 +45,10 @@ pub record OwnLines (p : ℕ × ℕ) (s : List ℕ) (x : TwoLines) : Type 0 wher
   pub indices : x.label.indices.ref_ptr ≡ place_ptr p (two_lines s 0).start
   pub rest : x.rest.ref_ptr ≡ place_ptr p (two_lines s 0).next
 
--- a step over the labels: that of the first two lines, and what follows them is left; or nothing at the end of the input
+-- a step over the labels: that of the first two lines, and what follows them is left; or nothing at the end of the input, of which nothing is left then
 abbrev pub GivesLabel : Labels → Option Label → Labels → Type 0
 GivesLabel s r t =
-    MatchOption r (s.rest.now ≡ [])
+    MatchOption r ((s.rest.now ≡ []) × (t.rest.now ≡ []))
     (λ (x : Label).
     let y : TwoLines = record { label = x; rest = t.rest } in (0 < length s.rest.now) × TwoLinesOf s.rest.now y × OwnLines s.rest.ref_ptr s.rest.now y)
 
