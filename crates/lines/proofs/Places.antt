@@ -49,21 +49,30 @@ past_from s a m h =
     (λ k. rw (k, lt-ltb (a + m) (length s) (omega (arith, ltb-true m (length (drop a s)) k))) (omega arith))
     (λ k. rw (k, le-ltb (a + m) (length s) (omega (arith, ltb-false m (length (drop a s)) k))) (omega arith))
 
--- ── the second line ──
+-- ── the places of both lines ──
 
--- where it starts
+-- a line ends behind its start, and the next one starts behind that, both within the bytes
+end_inside : (s : List ℕ) (a : ℕ) → a ≤ length s → (a ≤ line_end s a) × (line_end s a ≤ length s)
+unfolding line_end
+end_inside s a h = (omega arith, omega (arith, inside (λ b. eqb b 10) (drop a s), length-drop a s))
+
+behind_inside : (s : List ℕ) (e : ℕ) → e ≤ length s → (e ≤ line_behind s e) × (line_behind s e ≤ length s)
+unfolding line_behind
+behind_inside s e h = cases (ltb e (length s)) (λ k. rw k (omega arith, omega (arith, ltb-true e (length s) k))) (λ k. rw k (omega arith, h))
+
+-- so the places come in their order
+pub in_order : (s : List ℕ) → let x = two_lines s 0 in (x.text_end ≤ x.start) × (x.start ≤ x.end) × (x.end ≤ x.next) × (x.next ≤ length s)
+unfolding two_lines
+in_order s =
+    let a = end_inside s 0 (omega arith) in
+    let b = behind_inside s (line_end s 0) a.1 in
+    let c = end_inside s (line_behind s (line_end s 0)) b.1 in
+    let d = behind_inside s (line_end s (line_behind s (line_end s 0))) c.1 in (b.0, c.0, d.0, d.1)
+
+-- where the second line starts
 pub second : (s : List ℕ) → drop (two_lines s 0).start s ≡ (line s).after
 unfolding two_lines line_end line_behind
 second s = rw (zero-add (length (line s).before)) (behind (λ b. eqb b 10) s)
-
-starts_inside : (s : List ℕ) → (two_lines s 0).start ≤ length s
-unfolding two_lines line_end line_behind
-starts_inside s =
-    let n : length (line s).before ≤ length s = inside (λ b. eqb b 10) s in
-    rw (zero-add (length (line s).before))
-    (cases (ltb (length (line s).before) (length s))
-    (λ k. rw k (omega (arith, ltb-true _ _ k)))
-    (λ k. rw k n))
 
 -- where what follows a line starts, from that line on and from the input's start
 follows : (s r : List ℕ) (a : ℕ) → drop a s ≡ r → a ≤ length s → a + line_behind r (line_end r 0) ≡ line_behind s (line_end s a)
@@ -72,7 +81,9 @@ follows s r a e h = rw (← e, zero-add (length (line (drop a s)).before)) (past
 
 pub next_from : (s : List ℕ) → (two_lines s 0).start + line_behind (line s).after (line_end (line s).after 0) ≡ (two_lines s 0).next
 unfolding two_lines
-next_from s = follows s (line s).after (two_lines s 0).start (second s) (starts_inside s)
+next_from s =
+    let within : (two_lines s 0).start ≤ length s = omega (arith, in_order s) in
+    follows s (line s).after (two_lines s 0).start (second s) within
 
 pub next_ptr : (p : ℕ × ℕ) (s : List ℕ)
     → place_ptr (place_ptr p (two_lines s 0).start) (line_behind (line s).after (line_end (line s).after 0)) ≡ place_ptr p (two_lines s 0).next

@@ -6,7 +6,7 @@ use Rattle.label.specs.Relabel.{line, relabel}
 use Rattle.lines.specs.declared.TwoLines.{TwoLines}
 use Rattle.lines.specs.Labels.{line_end, line_behind, two_lines, TwoLinesOf, OwnLines, place_ptr}
 use Rattle.lines.specs.Standing.{text_found, indices_found, rest_found, Standing}
-use Rattle.lines.proofs.Places.{front, second, behind, next_from}
+use Rattle.lines.proofs.Places.{front, second, behind, in_order, next_from}
 
 text : (s : List ℕ) → text_found s ≡ (line s).before
 unfolding two_lines line_end
@@ -51,6 +51,7 @@ standing = record {
   text = text;
   indices = indices;
   rest = rest;
+  inside = in_order;
   prints = λ s. unfold relabel in rw (text s, indices s);
   given = given;
   text_given = λ s x h. (h.text ∙ sym (text s), h.text);

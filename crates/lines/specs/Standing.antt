@@ -1,6 +1,6 @@
 -- That the two lines which the programs find are those of document 01's `relabel`. proofs/Standing.antt has a value of the record.
 -- Assumes nothing.
-use Rattle.std.specs.Prelude.{ℕ, ◌-◌, ◌≡◌, List, take, drop}
+use Rattle.std.specs.Prelude.{ℕ, ◌-◌, ◌≤◌, ◌≡◌, List, length, take, drop}
 use Rattle.label.specs.Relabel.{line, relabel_read, printed, relabel}
 use Rattle.lines.specs.declared.TwoLines.{TwoLines}
 use Rattle.lines.specs.Labels.{two_lines, TwoLinesOf, OwnLines}
@@ -21,6 +21,9 @@ pub record Standing : Type 0 where
   pub text : (s : List ℕ) → text_found s ≡ (line s).before
   pub indices : (s : List ℕ) → indices_found s ≡ (line (line s).after).before
   pub rest : (s : List ℕ) → rest_found s ≡ (line (line s).after).after
+  -- the places come in this order, and none is past the input's end
+  pub inside : (s : List ℕ)
+      → let x = two_lines s 0 in (x.text_end ≤ x.start) × (x.start ≤ x.end) × (x.end ≤ x.next) × (x.next ≤ length s)
   -- so what document 01 has printed of an input is printed of the two lines found in it
   pub prints : (s : List ℕ) → relabel s ≡ printed (relabel_read (text_found s) (indices_found s))
   -- and these are what `two_lines` may give: each input has them, wherever it stands, and no others
