@@ -99,6 +99,14 @@ fn plain_length(text: &[u8]) -> usize
     text.len()
 }
 
+// How many of these stand from a place on, at most so many.
+fn plain_stretch(text: &[u8], at: usize, most: usize) -> usize
+    ensures { (result ≤ most) × IsPlain (drop at text.now) result }
+{
+    let ahead = text.get(at..).unwrap_or(&[]);
+    plain_length(ahead.get(..most).unwrap_or(ahead))
+}
+
 // How many units the text has, `{}` included, or 2 or 3 with its place. Each plain byte in front is a character of one unit: most texts have no others, so
 // these are counted by themselves, for speed.
 #[tactic(auto, using(crate::proofs::Counts::counted_all, crate::proofs::Walk::no_more))]
@@ -191,8 +199,10 @@ impl<'a> Passage<'a> {
     fn place_past(self, count: usize) -> Result<usize, MoveFault>
         ensures { MovesTo self.entry count result }
     {
-        let mut rest = characters_from(self.text, self.at);
-        let mut left = count;
+        // The plain ones in front go by themselves, for speed, as in `count_units`.
+        let plain = plain_stretch(self.text, self.at, count);
+        let mut rest = characters_from(self.text, self.at + plain);
+        let mut left = count - plain;
         // A `for` over `rest.by_ref()` would need a case in front, for no units to pass, and one behind, for a text that ends too early: so a `while`.
         while left != 0 {
             let c = match rest.next() {
