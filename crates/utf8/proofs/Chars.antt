@@ -68,4 +68,4 @@ module _ (s : List ℕ) (i : ℕ) (r : Trailing) (e : lead (get_or s i 0) ≡ So
       rw (t, n, k) (ap (λ (m : ℕ). standing m (i + 1 + r.more)) (sym c))
 
 -- what `char_at` is proved by
-pub ruleset found = (char_plain, char_no_row, char_cut, char_whole, part_rest)
+pub ruleset found = (char_plain, char_one, char_no_row, char_cut, char_whole, part_rest)

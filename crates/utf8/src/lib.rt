@@ -152,6 +152,8 @@ pub fn char_at(s: &[u8], at: usize) -> Result<Char, CharFault>
             code: u32::from(b),
             next: at + 1,
         }),
+        // The others of the first row, of which few may stand.
+        b @ 0..=0x1f => judged(u32::from(b), at + 1),
         b => {
             let row = row_of(b).ok_or(CharFault::IllFormed)?;
             let others = follows(&s[at + 1..], row).ok_or(CharFault::IllFormed)?;
