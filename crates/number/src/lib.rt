@@ -117,8 +117,8 @@ fn shifted(m: u64, up: usize, down: usize) -> Option<Thousandths>
 // ── numbers ──
 
 // The digits before any exponent: whether they are well formed, the bytes used, the count of digits, their value, and the count behind the point. Each part
-// says how many bytes it has, as the definitions do; that they are among those it was read from is a clause, as a part does not hold these. A part that is
-// not well formed has all of this too, as the number around it has its bytes and its size, and so `ok` stands in it.
+// says how many bytes it has, as the definitions do; that they are among those it was read from is a clause, as a part does not hold these. What is not well
+// formed has bytes and digits too, as the number around it has its bytes and its size, so `ok` stands beside them.
 #[derive(Clone, Copy)]
 struct Mantissa {
     ok: bool,
