@@ -468,3 +468,7 @@ index_alone t d ed bound some l w =
       l,
       λ k. sym (rw sum at (code_read k t _ p (rw sum bound) (Named d.value) (rw (lt-ltb 0 n some, le-leb d.value max_index l)) _ refl 0 refl)),
     )
+
+-- two flags put together
+pub both_told : {i e r a b : Bool} → i ≡ a → e ≡ b → r ≡ (i && e) → r ≡ (a && b)
+both_told p q h = rw (← p, ← q) h
