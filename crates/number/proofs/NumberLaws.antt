@@ -2,7 +2,7 @@
 -- limits no cut happens.
 -- Assumes nothing.
 use mathlib.Core.Path.{◌≡◌, refl, ap, sym}
-use mathlib.Core.Bool.{Bool, true, false, cond, ◌&&◌, ◌||◌, and-false, and-true, or-false}
+use mathlib.Core.Bool.{Bool, true, false, cond, ◌&&◌}
 use mathlib.Core.List.{List, [], ◌∷◌, ◌++◌}
 use Prim.Native.Nat.{ℕ, ◌+◌, ◌-◌, ◌*◌, ◌^◌, ◌≤◌, ◌<◌, min}
 use native.Mathlib.Omega.{arith}
@@ -27,7 +27,7 @@ use Rattle.number.specs.declared.Mantissa.{Mantissa}
 use Rattle.number.specs.declared.Exponent.{Exponent}
 use Rattle.number.specs.declared.Number.{Number}
 use Rattle.number.specs.Digits.{cap, head_of, lead, digits_from}
-use Rattle.number.specs.Numbers.{sized, Mant, Expo, Numeral, pointed, plain, unraised, mantissa_of, exponent_of, sign_length, size_of, number_of, cut_mantissa, cut_exponent, formed_mantissa, formed_exponent, by_form, formed, raised_by}
+use Rattle.number.specs.Numbers.{sized, Mant, Expo, Numeral, pointed, plain, unraised, mantissa_of, exponent_of, sign_length, size_of, number_of, cut_mantissa, cut_exponent, by_form, formed, raised_by}
 use Rattle.number.proofs.DigitLaws.{head_drop, lead_yes, lead_no, digit_high, cut_from}
 use Rattle.number.proofs.ValueLaws.{ten_mono}
 
@@ -82,31 +82,6 @@ expo_small t = go (is_e (head_of t))
     go true = lead_small (drop (1 + sign_length (get_or t 1 0)) t)
     go false = lead_small []
 
-mant_formed : (t : List ℕ) → formed_mantissa (cut_mantissa (mantissa_of t)) ≡ (mantissa_of t).ok
-unfolding mantissa_of
-mant_formed t = go (eqb (get_or t (length (lead t)) 0) 46)
-  where
-    alone : (n : ℕ) → (ltb 0 n && eqb n n) ≡ ltb 0 n
-    alone n = rw (eq-eqb n n refl) (and-true (ltb 0 n))
-
-    behind : (n k b : ℕ) → b ≡ n + k → (ltb 0 k || (ltb 0 b && eqb (n + 1 + k) b)) ≡ ltb 0 k
-    behind n k b e = rw (ne_eqb (n + 1 + k) b (λ h. omega (arith, h, e)), and-false) (or-false (ltb 0 k))
-
-    go : (p : Bool) → let m : Mant = cond p (pointed (lead t) (lead (drop (length (lead t) + 1) t))) (plain (lead t)) in formed_mantissa (cut_mantissa m) ≡ m.ok
-    go true = behind (length (lead t)) (length (lead (drop (length (lead t) + 1) t))) _ (length-append (lead t) (lead (drop (length (lead t) + 1) t)))
-    go false = alone (length (lead t))
-
-expo_formed : (t : List ℕ) → formed_exponent (cut_exponent (exponent_of t)) ≡ (exponent_of t).ok
-unfolding exponent_of
-expo_formed t = go (is_e (head_of t))
-  where
-    some : (k n : ℕ) → (eqb (1 + k + n) 0 || ltb 0 n) ≡ ltb 0 n
-    some k n = rw (ne_eqb (1 + k + n) 0 (λ h. omega (arith, h)))
-
-    go : (p : Bool) → let x : Expo = cond p (raised_by (get_or t 1 0) t) unraised in formed_exponent (cut_exponent x) ≡ x.ok
-    go true = some (sign_length (get_or t 1 0)) (length (lead (drop (1 + sign_length (get_or t 1 0)) t)))
-    go false = refl
-
 mant_pointed : (t : List ℕ) → get_or t (length (lead t)) 0 ≡ 46 → mantissa_of t ≡ pointed (lead t) (lead (drop (length (lead t) + 1) t))
 unfolding mantissa_of
 mant_pointed t h = rw (eq-eqb _ _ h)
@@ -122,12 +97,12 @@ cut_append a b = rw (value_append 0 a b) (cut_from b (min (value a) cap) (value 
 module _ (t : List ℕ) (r : Digits) (e : r ≡ digits_from 0 t) where
   pub code_pointed : get_or t r.count 0 ≡ 46 → (q : Digits) → q ≡ digits_from r.value (drop (r.count + 1) t)
       → ◌≡◌ {A = Mantissa}
-      (record { used = r.count + 1 + q.count; count = r.count + q.count; value = q.value; behind = q.count })
+      (record { ok = ltb 0 q.count; used = r.count + 1 + q.count; count = r.count + q.count; value = q.value; behind = q.count })
       (cut_mantissa (mantissa_of t))
   code_pointed h q f = rw (mant_pointed t (rw (← ap (λ (d : Digits). d.count) e) h), f, e, length-append, ← cut_append)
 
   pub code_plain : (get_or t r.count 0 ≡ 46 → ⊥)
-      → ◌≡◌ {A = Mantissa} (record { used = r.count; count = r.count; value = r.value; behind = 0 }) (cut_mantissa (mantissa_of t))
+      → ◌≡◌ {A = Mantissa} (record { ok = ltb 0 r.count; used = r.count; count = r.count; value = r.value; behind = 0 }) (cut_mantissa (mantissa_of t))
   code_plain h = rw (mant_plain t (λ k. h (rw (ap (λ (d : Digits). d.count) e) k)), e)
 
 -- the exponent by its letter, and what the code makes of it
@@ -140,13 +115,13 @@ unfolding exponent_of
 expo_some t h = rw h
 
 pub code_unraised : (t : List ℕ) → is_e (head_of t) ≡ false
-    → ◌≡◌ {A = Exponent} (record { used = 0; negative = false; count = 0; value = 0 }) (cut_exponent (exponent_of t))
+    → ◌≡◌ {A = Exponent} (record { ok = true; used = 0; negative = false; count = 0; value = 0 }) (cut_exponent (exponent_of t))
 unfolding value_from
 code_unraised t h = rw (expo_none t h)
 
 pub code_raised : (t : List ℕ) → is_e (head_of t) ≡ true → (k : ℕ) → k ≡ sign_length (head_of (drop 1 t)) → (r : Digits)
     → r ≡ digits_from 0 (drop k (drop 1 t)) → (m : Bool) → m ≡ eqb (head_of (drop 1 t)) 45
-    → ◌≡◌ {A = Exponent} (record { used = 1 + k + r.count; negative = m; count = r.count; value = r.value })
+    → ◌≡◌ {A = Exponent} (record { ok = ltb 0 r.count; used = 1 + k + r.count; negative = m; count = r.count; value = r.value })
     (cut_exponent (exponent_of t))
 code_raised t h k ek r er m em = rw (expo_some t h, ← head_drop t 1, ← ek, ← em, er, drop-drop)
 
@@ -214,11 +189,11 @@ module _ (t : List ℕ) (m : Mantissa) (em : m ≡ cut_mantissa (mantissa_of t))
         ap (λ (r : Exponent). r.negative) ex,
       )))
 
-  module _ (ok : Bool) (eo : ok ≡ (formed_mantissa m && formed_exponent x)) where
+  module _ (ok : Bool) (eo : ok ≡ (m.ok && x.ok)) where
     number_told : (z : Option Thousandths) → z ≡ size_of (mantissa_of t) (exponent_of (drop m.used t))
         → by_form ok (record { used = m.used + x.used; size = z }) ≡ formed (number_of t)
     unfolding number_of
-    number_told z ez = rw (ez, eo, ex, em, mant_formed, expo_formed)
+    number_told z ez = rw (ez, eo, ex, em)
 
     pub code_over : (leb m.count 18 && leb x.count 2) ≡ false → by_form ok (record { used = m.used + x.used; size = None }) ≡ formed (number_of t)
     code_over h = number_told None (rw (size_is, h))

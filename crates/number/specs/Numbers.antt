@@ -88,17 +88,10 @@ number_of t = number_with (mantissa_of t) (exponent_of (drop (mantissa_of t).use
 
 -- what the code keeps of them: counts and values of the digits
 abbrev pub cut_mantissa : Mant → Mantissa
-cut_mantissa m = record { used = m.used; count = length m.digits; value = min (value m.digits) cap; behind = m.behind }
+cut_mantissa m = record { ok = m.ok; used = m.used; count = length m.digits; value = min (value m.digits) cap; behind = m.behind }
 
 abbrev pub cut_exponent : Expo → Exponent
-cut_exponent x = record { used = x.used; negative = x.negative; count = length x.digits; value = min (value x.digits) cap }
-
--- whether the part is well formed, by these: digits stand behind the point, or there are digits alone; there is no exponent, or it has digits
-abbrev pub formed_mantissa : Mantissa → Bool
-formed_mantissa m = ltb 0 m.behind || (ltb 0 m.count && eqb m.used m.count)
-
-abbrev pub formed_exponent : Exponent → Bool
-formed_exponent x = eqb x.used 0 || ltb 0 x.count
+cut_exponent x = record { ok = x.ok; used = x.used; negative = x.negative; count = length x.digits; value = min (value x.digits) cap }
 
 -- a number, or, where it is not well formed, what stands in its place
 abbrev pub by_form : Bool → Number → Result Number Number

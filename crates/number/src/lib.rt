@@ -6,7 +6,7 @@ ghost use Rattle.label.specs.Bytes.{is_digit};
 ghost use Rattle.label.specs.Entry.{nearest, scaled};
 ghost use Rattle.label.specs.Requests.RoundedCount.{is_whole};
 ghost use Rattle.number.specs.Digits.{cap, head_of, pushed, digits_from};
-ghost use Rattle.number.specs.Numbers.{sized, Small, mantissa_of, cut_mantissa, sign_length, exponent_of, cut_exponent, number_of, formed_mantissa, formed_exponent, by_form, formed};
+ghost use Rattle.number.specs.Numbers.{sized, Small, mantissa_of, cut_mantissa, sign_length, exponent_of, cut_exponent, number_of, by_form, formed};
 
 use label::Limits;
 
@@ -116,41 +116,26 @@ fn shifted(m: u64, up: usize, down: usize) -> Option<Thousandths>
 
 // ── numbers ──
 
-// The digits before any exponent: the bytes used, the count of digits, their value, and the count behind the point. Each part says how many bytes it has, as
-// the definitions do; that they are among those it was read from is a clause, as a part does not hold these.
+// The digits before any exponent: whether they are well formed, the bytes used, the count of digits, their value, and the count behind the point. Each part
+// says how many bytes it has, as the definitions do; that they are among those it was read from is a clause, as a part does not hold these. What is not well
+// formed has bytes and digits too, as the number around it has its bytes and its size, so `ok` stands beside them.
 #[derive(Clone, Copy)]
 struct Mantissa {
+    ok: bool,
     used: usize,
     count: usize,
     value: u64,
     behind: usize,
 }
 
-impl Mantissa {
-    // Digits stand behind the point; or there are digits alone, as many as bytes.
-    fn is_formed(self) -> bool
-        ensures { result ≡ formed_mantissa self }
-    {
-        0 < self.behind || (0 < self.count && self.used == self.count)
-    }
-}
-
 // The exponent, of no bytes where there is none.
 #[derive(Clone, Copy)]
 struct Exponent {
+    ok: bool,
     used: usize,
     negative: bool,
     count: usize,
     value: u64,
-}
-
-impl Exponent {
-    // There is none, or it has digits.
-    fn is_formed(self) -> bool
-        ensures { result ≡ formed_exponent self }
-    {
-        self.used == 0 || 0 < self.count
-    }
 }
 
 // A number, of `used` bytes; its size where that is within the limit.
@@ -160,7 +145,7 @@ pub struct Number {
     pub size: Option<Thousandths>,
 }
 
-// The digits before any exponent, well formed or not: the number around them has its bytes and its size in both cases.
+// The digits before any exponent.
 fn mantissa_of(s: &[u8]) -> Mantissa
     ensures value { result ≡ cut_mantissa (mantissa_of s.now) }
     ensures bounds { result.used ≤ length s.now }
@@ -169,6 +154,7 @@ fn mantissa_of(s: &[u8]) -> Mantissa
     if s.get(whole.count) == Some(&b'.') {
         let part = digits_of(&s[whole.count + 1..], whole.value);
         Mantissa {
+            ok: 0 < part.count,
             used: whole.count + 1 + part.count,
             count: whole.count + part.count,
             value: part.value,
@@ -176,6 +162,7 @@ fn mantissa_of(s: &[u8]) -> Mantissa
         }
     } else {
         Mantissa {
+            ok: 0 < whole.count,
             used: whole.count,
             count: whole.count,
             value: whole.value,
@@ -199,6 +186,7 @@ fn exponent_of(s: &[u8]) -> Exponent
 {
     if !matches!(s.first(), Some(b'e' | b'E')) {
         return Exponent {
+            ok: true,
             used: 0,
             negative: false,
             count: 0,
@@ -209,6 +197,7 @@ fn exponent_of(s: &[u8]) -> Exponent
     let sign = sign_length(behind);
     let digits = digits_of(&behind[sign..], 0);
     Exponent {
+        ok: 0 < digits.count,
         used: 1 + sign + digits.count,
         negative: behind.first() == Some(&b'-'),
         count: digits.count,
@@ -245,7 +234,7 @@ pub fn number_of(s: &[u8]) -> Result<Number, Number>
 {
     let m = mantissa_of(s);
     let x = exponent_of(&s[m.used..]);
-    let ok = m.is_formed() && x.is_formed();
+    let ok = m.ok && x.ok;
     let used = m.used + x.used;
     if Limits::DIGITS < m.count || Limits::EXPONENT_DIGITS < x.count {
         return formed(ok, Number { used, size: None });
