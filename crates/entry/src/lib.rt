@@ -167,7 +167,7 @@ fn field_of(s: &[u8]) -> Option<Field>
         });
     }
     let sign = number::sign_length(behind);
-    let n = number::number_of(&behind[sign..])?;
+    let n = number::number_of(&behind[sign..]).ok()?;
     Some(Field {
         used: 1 + sign + n.used,
         number: Some(Signed {
