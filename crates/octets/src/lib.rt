@@ -44,12 +44,15 @@ impl<'a> Output<'a> {
     pub fn put_byte(&mut self, b: u8)
         ensures { Gains self.old (b ∷ []) self.new }
     {
-        // A copy of the place: the field would be fetched again behind the store, one instruction in a hundred of a writing.
+        // A copy of the place: the field would be fetched again behind the store, one instruction in a hundred of a writing. Where there is room the count
+        // cannot end, so a store is not held up by the test for it.
         let at = self.at;
         if at < self.bytes.len() {
             self.bytes[at] = b;
+            self.at = at + 1;
+        } else {
+            self.at = at.saturating_add(1);
         }
-        self.at = at.saturating_add(1);
     }
 
     // All at once where all find room, for speed; else byte by byte: those that find room are stored, and all are counted.
