@@ -87,7 +87,7 @@ fn put_escaped(out: &mut Output, b: u8)
     }
 }
 
-// The same as it is asked for.
+// A byte as it is asked for.
 // `escape` is a bool, as the definition `as_asked` has it: with an enum each contract that hands it on would have to turn it into one.
 // It is no field of the output, nor of a struct with the units: what an output gains is said of it alone, and most stores do not ask for it.
 #[inline(always)]
