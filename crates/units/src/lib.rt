@@ -2,7 +2,7 @@
 #![tactic(auto)]
 
 ghost use Rattle.std.specs.Prelude.{◌≡◌, ◌/◌, ◌≤◌, false, length, drop};
-ghost use Rattle.label.specs.Text.{is_high, is_low, is_pair};
+ghost use Rattle.label.specs.Text.{is_high, is_low, is_pair, xml_char};
 ghost use Rattle.label.specs.Fetched.{halves};
 ghost use Rattle.label.specs.Sound.{proper_units};
 
@@ -32,13 +32,21 @@ pub fn begins_with_pair(us: &[u8]) -> bool
     is_high(wire::unit_at(us, 0)) && is_low(wire::unit_at(us, 1))
 }
 
+// Whether XML allows a unit as a character by itself. The range of most is asked first, for speed.
+#[tactic(auto, unfolding(label::specs::Text::xml_char))]
+fn is_single(u: u16) -> bool
+    ensures { result ≡ xml_char u }
+{
+    matches!(u, 0x20..=0xd7ff) || utf8::is_xml(u32::from(u))
+}
+
 // How many units stand in front of the first that XML does not allow as a character by itself: no half of a pair is one.
 fn single_count(us: &[u8]) -> usize
     ensures value { proper_units false (halves us.now) ≡ proper_units false (drop result (halves us.now)) }
     ensures bounds { result ≤ length us.now / 2 }
 {
     for i in 0..wire::unit_count(us) {
-        if !utf8::is_xml(u32::from(wire::unit_at(us, i))) {
+        if !is_single(wire::unit_at(us, i)) {
             return i;
         }
     }

@@ -15,7 +15,8 @@ loop-c-init c =
     let d = c.decode_utf16-c-items.ensures in
     let s = c.args.us.now in
     let n = c.single_count.result in
-    let rest : drop n (halves s) ≡ halves (between (2 * n) (length s) s) = halves_drop n s ∙ ap halves (sym (between_to_end s (2 * n) (length s) (omega arith))) in
+    let rest : drop n (halves s) ≡ halves (between (2 * n) (length s) s) =
+    halves_drop n s ∙ ap halves (sym (between_to_end s (2 * n) (length s) (omega arith))) in
     c.single_count.ensures.value
     ∙ ap (proper_units false) rest
     ∙ rw c.into_iter-c-iterator.ensures.into_iter_gives (ap (proper_units false) (sym c.of.ensures ∙ at_start _ d.source d.peeked))
