@@ -6,13 +6,17 @@ ghost use Rattle.std.specs.Iterator.{at_most};
 ghost use Rattle.label.specs.Calls.{outcome_of, filled_count, filled_after};
 ghost use Rattle.label.specs.Requests.Attribute.{numbered, is_reference, is_good, gives, further, resolve_into};
 ghost use Rattle.octets.specs.Puts.{Put};
+ghost use Rattle.octets.specs.Outputs.{Gains};
 ghost use Rattle.label.specs.Text.{xml_char};
+ghost use Rattle.label.specs.Write.{utf8};
 ghost use Rattle.attribute.specs.Pieces.{GivesChar, named, IsReference, IsPiece, GivesPiece, Stores};
 
 use label::{Cause, Refusal};
 use octets::Output;
 
 // ── references ──
+
+// For speed, both passes of `resolve` have the whole walk inlined: the first has no room, and its stores fall away.
 
 // One more digit of the base behind n, where n is not behind every character already.
 fn with_digit(n: u32, base: u32, digit: u32) -> Option<u32>
@@ -38,6 +42,7 @@ fn character_of(n: u32) -> Option<char>
 
 // The XML character whose number the digits of base ten or sixteen at the front are, which `;` ends, and how many bytes that is. No byte behind the first that
 // is no digit is looked at.
+#[inline(always)]
 fn numbered(behind: &[u8], base: u32) -> Option<(char, usize)>
     requires { (2 ≤ base) × (base ≤ 16) }
     ensures { GivesChar (numbered base) behind.now result }
@@ -54,6 +59,7 @@ fn numbered(behind: &[u8], base: u32) -> Option<(char, usize)>
 }
 
 // The character of the name at the front, one of five, which `;` ends, and how many bytes that is.
+#[inline(always)]
 #[tactic(auto, using(crate::proofs::Names::names))]
 fn predefined(behind: &[u8]) -> Option<(char, usize)>
     ensures { result ≡ named behind.now }
@@ -70,6 +76,7 @@ fn predefined(behind: &[u8]) -> Option<(char, usize)>
 
 // The character of the reference whose `&` stands before these bytes, and how many of them it has: `#x` with hexadecimal digits, `#` with decimal ones, or a
 // name.
+#[inline(always)]
 fn read_reference(behind: &[u8]) -> Option<(char, usize)>
     ensures { MatchOption result (is_reference behind.now ≡ false) (λ r. IsReference behind.now r.0 r.1) }
 {
@@ -96,6 +103,7 @@ enum Piece {
 }
 
 // The piece that starts with a byte, before those behind it, and how many bytes it has. None: the byte is a raw `<`, or begins a bad reference.
+#[inline(always)]
 #[tactic(auto, using(crate::proofs::Opened::opened))]
 fn read_piece(b: u8, behind: &[u8]) -> Option<(Piece, usize)>
     ensures { MatchOption result (is_good b behind.now ≡ false) (λ p. IsPiece b behind.now p.0 p.1) }
@@ -127,6 +135,7 @@ impl Iterator for Pieces<'_> {
 
     ghost remaining = { λ s. at_most (length s.raw.now - s.at) };
 
+    #[inline(always)]
     fn next(&mut self) -> Option<Result<Piece, Refusal>> {
         let b = *self.raw.get(self.at)?;
         let Some((piece, length)) = read_piece(b, &self.raw[self.at + 1..]) else {
@@ -139,7 +148,20 @@ impl Iterator for Pieces<'_> {
     }
 }
 
+// A character's bytes. They go through an output of its own over the same lent bytes, so that the caller's is never in memory.
+fn put_char(out: &mut Output, c: char)
+    ensures { Gains out.old (utf8 c) out.new }
+{
+    let mut own = Output {
+        bytes: out.bytes,
+        at: out.at,
+    };
+    text_bytes::put_char(&mut own, u32::from(c));
+    out.at = own.at;
+}
+
 // Stores what the raw value resolves to from the start of `out`, as far as there is room, and counts it.
+#[inline(always)]
 fn put_resolved(out: &mut [u8], raw: &[u8]) -> Result<usize, Refusal>
     ensures { Stores raw.now out.old result out.new }
 {
@@ -148,7 +170,7 @@ fn put_resolved(out: &mut [u8], raw: &[u8]) -> Result<usize, Refusal>
     for piece in pieces {
         match piece? {
             Piece::Byte(b) => output.put_byte(b),
-            Piece::Char(c) => text_bytes::put_char(&mut output, u32::from(c)),
+            Piece::Char(c) => put_char(&mut output, c),
         }
     }
     Ok(output.at)
