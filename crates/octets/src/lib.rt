@@ -49,7 +49,8 @@ impl<'a> Output<'a> {
         if at < self.bytes.len() {
             self.bytes[at] = b;
         }
-        self.at = at.saturating_add(1);
+        // `Gains` speaks of counts that 64 bits hold; `saturating_add` would take two instructions more for each byte.
+        self.at = at.wrapping_add(1);
     }
 
     // Byte by byte: those that find room are stored, and all are counted.
