@@ -16,8 +16,6 @@ use octets::Output;
 
 // ── references ──
 
-// For speed, both passes of `resolve` have the whole walk inlined: the first has no room, and its stores fall away.
-
 // One more digit of the base behind n, where n is not behind every character already.
 fn with_digit(n: u32, base: u32, digit: u32) -> Option<u32>
     requires { (base ≤ 16) × (digit ≤ 16) }
@@ -148,19 +146,8 @@ impl Iterator for Pieces<'_> {
     }
 }
 
-// A character's bytes. They go through an output of its own over the same lent bytes, so that the caller's is never in memory.
-fn put_char(out: &mut Output, c: char)
-    ensures { Gains out.old (utf8 c) out.new }
-{
-    let mut own = Output {
-        bytes: out.bytes,
-        at: out.at,
-    };
-    text_bytes::put_char(&mut own, u32::from(c));
-    out.at = own.at;
-}
-
-// Stores what the raw value resolves to from the start of `out`, as far as there is room, and counts it.
+// Stores what the raw value resolves to from the start of `out`, as far as there is room, and counts it. For speed, both passes have the whole walk inlined:
+// the first has no room, and its stores fall away.
 #[inline(always)]
 fn put_resolved(out: &mut [u8], raw: &[u8]) -> Result<usize, Refusal>
     ensures { Stores raw.now out.old result out.new }
@@ -170,7 +157,7 @@ fn put_resolved(out: &mut [u8], raw: &[u8]) -> Result<usize, Refusal>
     for piece in pieces {
         match piece? {
             Piece::Byte(b) => output.put_byte(b),
-            Piece::Char(c) => put_char(&mut output, c),
+            Piece::Char(c) => text_bytes::put_char(&mut output, u32::from(c)),
         }
     }
     Ok(output.at)

@@ -1,7 +1,8 @@
 -- `attribute::put_resolved`: start, turn and both returns are laws of Storing; what the output gains stands in the slice that it lends on.
 -- Assumes nothing.
-use Rattle.std.proofs.Common.{refl, sym, ap, rules, arith}
+use Rattle.std.proofs.Common.{refl, sym, ap, ◌∙◌, rules, arith}
 use Rattle.std.proofs.lemmas.Result.{err_from_is_err_and}
+use Rattle.label.specs.Write.{utf8}
 use Rattle.attribute.specs.Pieces.{piece_bytes}
 use Rattle.attribute.proofs.Storing.{start, end, bad, good}
 use Rattle.attribute.proofs.put_resolved.Goals as goal
@@ -18,8 +19,8 @@ pub loop-piece-preserved-in-Byte : goal.loop-piece-preserved-in-Byte
 loop-piece-preserved-in-Byte c = good c.loop-piece.invariant _ c.in-Some.ensures.steps c.in_ok-b.was (sym (ap piece_bytes c.in-Byte.is)) c.put_byte.ensures
 
 pub loop-piece-preserved : goal.loop-piece-preserved
-loop-piece-preserved c = good c.loop-piece.invariant _ c.in-Some.ensures.steps c.in_ok-b.was (sym (ap piece_bytes c.in-Char.is))
-    c.put_char.ensures
+loop-piece-preserved c = good c.loop-piece.invariant _ c.in-Some.ensures.steps c.in_ok-b.was (ap utf8 c.from.ensures ∙ sym (ap piece_bytes c.in-Char.is))
+    c.put_char.ensures.gains
 
 pub returns : goal.returns
 returns c =
