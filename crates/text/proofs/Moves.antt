@@ -140,6 +140,23 @@ module _ (s : List ℕ) (i : ℕ) (f : well_formed s i ≡ true) where
       let g : i + suc p ≡ j = omega arith in
       (rw g (left_next us p c (characters_from s j) a (suc p) n), omega (arith, one, left_fits us p c (characters_from s j) a r.1))
 
+-- each is a character
+module _ (s : List ℕ) (i : ℕ) where
+  pub plain_count : (p : ℕ) → IsPlain (drop i s) p → length (characters_from s i) ≡ p + length (characters_from s (i + p))
+  plain_count zero h = rw add-zero (omega arith)
+  plain_count (suc p) h =
+      let b = get_or s (i + p) 0 in
+      let j = i + p + 1 in
+      let c : Char = record { code = b; next = j } in
+      let less : IsPlain (drop i s) p = record { inside = omega (arith, h.inside); plain = λ k e. h.plain k (omega (arith, e)) } in
+      let w : within 32 127 b ≡ true = rw get_or-drop at (h.plain p (omega arith)) in
+      let l : i + p < length s = omega (arith, h.inside, length-drop i s) in
+      let x : char_at s (i + p) ≡ Ok c = char_plain s (i + p) (within_lo 32 127 b w) (within_hi 32 127 b w) in
+      let e : characters_from s (i + p) ≡ Ok c ∷ characters_from s j = good_first s (i + p) c l x in
+      let g : i + suc p ≡ j = omega arith in
+      let n : length (characters_from s (i + p)) ≡ 1 + length (characters_from s j) = ap length e ∙ omega arith in
+      rw g (omega (arith, plain_count p less, n))
+
 -- what `move_past` and `past_plain` are proved by
 pub ruleset moves = (left_at_none, left_none, left_next, left_fits, left_formed, done_pair, done_units)
 

@@ -264,6 +264,8 @@ impl<'a> Passage<'a> {
         requires { length (units self) ≤ max_units }
         ensures { result ≡ length (tail (units self.entry)).clusters }
     {
-        characters_from(self.text, self.at).count()
+        // The plain ones in front go by themselves here too.
+        let plain = plain_stretch(self.text, self.at, self.text.len());
+        plain + characters_from(self.text, self.at + plain).count()
     }
 }
