@@ -1,91 +1,97 @@
--- Laws of what stands up to the first `;`: `position` gives its length where there is one.
+-- Laws of what stands before the first `;`, from a later place on: what is read there is what is read of the whole.
 -- Assumes nothing.
-use Rattle.std.proofs.Common.{◌≡◌, ℕ, ◌+◌, ◌<◌, ◌==◌, false, true, ltb, suc, Bool, List, [], ◌∷◌, length, take, Some, None, refl, sym, ap, ◌∙◌, arith}
-use Rattle.std.specs.List.{position, position_or_len}
-use Rattle.std.specs.Bool.{then_some}
-use Rattle.std.specs.Option.{MatchOption}
-use Rattle.std.proofs.lemmas.Bool.Decides.{nat_tests}
-use Rattle.std.proofs.lemmas.Option.{none-some, same_Some}
-use borrow.Author.Tests.{ltb-true, lt-ltb}
+use Rattle.std.proofs.Common.{◌≡◌, ℕ, ◌+◌, ◌-◌, ◌<◌, ◌≤◌, false, ◌&&◌, eqb, List, [], ◌∷◌, length, get_or, take, drop, Option, Some, None, refl, subst, sym, ◌∙◌, arith}
+use native.Mathlib.Nat.{zero-add}
 use Rattle.label.specs.Bytes.{cut}
+use Rattle.std.proofs.Math.Seq.{take-length}
+use borrow.Author.Tests.{ne_eqb}
+use Rattle.std.specs.Option.{MatchOption}
 use Rattle.label.specs.Text.{xml_char}
-use Rattle.label.specs.Requests.Attribute.{referred, body, is_closed, is_reference}
+use Rattle.label.specs.Requests.Attribute.{numbered, predefined, referred, body, is_closed, is_reference}
 use Rattle.label.proofs.Basics.{cases}
-use Rattle.attribute.specs.Pieces.{IsReference}
-use Rattle.label.proofs.Requests.Attribute.{closed_none, closed_here, body_here, closed_further, body_further}
+use Rattle.label.proofs.Requests.Attribute.{body_here, closed_further, body_further}
+use Rattle.attribute.specs.Pieces.{IsChar, GivesChar, IsReference}
 
--- the place of the first `;`, or the length
-abbrev end : List ℕ → ℕ
-end s = position_or_len (λ b. b == 59) s
+-- what f makes of s is what g makes of t, which stands k bytes further
+pub record Reads (f : List ℕ → ℕ) (s : List ℕ) (k : ℕ) (g : List ℕ → ℕ) (t : List ℕ) : Type 0 where
+  pub closed : is_closed s ≡ is_closed t
+  pub same : f (body s) ≡ g (body t)
+  pub counts : length (body s) ≡ k + length (body t)
+  pub size : length s ≡ k + length t
 
-record Ends (s : List ℕ) : Type 0 where
-  closed : is_closed s ≡ ltb (end s) (length s)
-  front : take (end s) s ≡ body s
-  count : end s ≡ length (body s)
+module _ {f g : List ℕ → ℕ} {s t : List ℕ} {k : ℕ} (r : Reads f s k g t) where
+  pub char_on : {c n : ℕ} → IsChar g t c n → IsChar f s c (k + n)
+  char_on x =
+      record {
+        closed = r.closed ∙ x.closed;
+        character = x.character ∙ sym r.same;
+        xml = x.xml;
+        length_is = omega (arith, r.counts, x.length_is);
+        within = omega (arith, r.size, x.within);
+      }
 
-one_more : (m n : ℕ) → ltb m n ≡ ltb (suc m) (suc n)
-one_more m n = grind (arith, nat_tests)
+  pub none_on : (is_closed t && xml_char (g (body t))) ≡ false → (is_closed s && xml_char (f (body s))) ≡ false
+  none_on x = rw (r.closed, r.same) x
 
-ends : (s : List ℕ) → Ends s
+-- the first byte is no `;` where there is one before it
+first : (s : List ℕ) {b : ℕ} → 0 < b → get_or (body s) 0 0 ≡ b → get_or s 0 0 ≡ b
 unfolding body cut
-ends [] = record { closed = closed_none; front = refl; count = refl }
-ends (b ∷ s) =
-    cases (b == 59)
-    (λ e. record {
-      closed = rw (closed_here b s e, e) (sym (lt-ltb 0 (length (b ∷ s)) (omega arith)));
-      front = rw (body_here b s e, e);
-      count = rw (body_here b s e, e);
+first [] n k = k
+first (a ∷ s) {b} n k = cases (eqb a 59) (λ d. absurd (omega (arith, rw (body_here a s d) at k))) (λ d. rw (body_further a s d) at k)
+
+-- `#x` stands at the front
+pub sixteen : (s : List ℕ) → 2 ≤ length s → get_or s 0 0 ≡ 35 → get_or s 1 0 ≡ 120 → Reads referred s 2 (numbered 16) (take (length s - 2) (drop 2 s))
+unfolding referred
+sixteen [] l e f = absurd (omega arith)
+sixteen (a ∷ []) l e f = absurd (omega arith)
+sixteen (a ∷ (b ∷ t)) l e f =
+    let n : length (a ∷ (b ∷ t)) - 2 ≡ length t = omega arith in
+    rw (n, take-length t, e, f) (record {
+      closed = closed_further 35 (120 ∷ t) refl ∙ closed_further 120 t refl;
+      same = rw (body_further 35 (120 ∷ t) refl, body_further 120 t refl);
+      counts = rw (body_further 35 (120 ∷ t) refl, body_further 120 t refl) (omega arith);
+      size = omega arith;
     })
-    (λ e. let r = ends s in
-    let n : 1 + end s ≡ suc (end s) = omega arith in
+
+-- `#` does, without an `x` behind it
+pub ten : (s : List ℕ) → 1 ≤ length s → get_or s 0 0 ≡ 35 → (get_or s 1 0 ≡ 120 → ⊥) → Reads referred s 1 (numbered 10) (take (length s - 1) (drop 1 s))
+unfolding referred
+ten [] l e f = absurd (omega arith)
+ten (a ∷ t) l e f =
+    let n : length (a ∷ t) - 1 ≡ length t = omega arith in
+    rw (n, take-length t, e) (record {
+      closed = closed_further 35 t refl;
+      same = rw (body_further 35 t refl, ne_eqb (get_or (body t) 0 0) 120 (λ k. f (first t (omega arith) k)));
+      counts = rw (body_further 35 t refl) (omega arith);
+      size = omega arith;
+    })
+
+-- no `#` does
+pub name : (s : List ℕ) → (get_or s 0 0 ≡ 35 → ⊥) → Reads referred s 0 predefined s
+unfolding referred
+name s f =
     record {
-      closed = rw (closed_further b s e, e, n, r.closed) (one_more (end s) (length s));
-      front = rw (body_further b s e, e, n, r.front);
-      count = rw (body_further b s e, e, n, r.count);
-    })
+      closed = refl;
+      same = rw (ne_eqb (get_or (body s) 0 0) 35 (λ k. f (first s (omega arith) k)));
+      counts = omega arith;
+      size = omega arith;
+    }
 
--- what `position` gives
-record Found (s : List ℕ) (n : ℕ) : Type 0 where
-  closed : is_closed s ≡ true
-  front : take n s ≡ body s
-  count : n ≡ length (body s)
-  within : n < length s
-
-found : (s : List ℕ) {n : ℕ} → Some n ≡ position (λ b. b == 59) s → Found s n
-found s {n} e =
-    let r = ends s in
-    cases (ltb (end s) (length s))
-    (λ k. let q : n ≡ end s = same_Some n (end s) (rw k at e) in
-    record { closed = r.closed ∙ k; front = rw q r.front; count = q ∙ r.count; within = rw q (ltb-true (end s) (length s) k) })
-    (λ k. absurd (none-some n (sym (rw k at e))))
-
-not_found : (s : List ℕ) → None ≡ position (λ b. b == 59) s → is_closed s ≡ false
-not_found s e =
-    cases (ltb (end s) (length s)) (λ k. absurd (none-some (end s) (rw k at e))) (λ k. (ends s).closed ∙ k)
+pub named_on : (s : List ℕ) (r : Option (ℕ × ℕ)) → (get_or s 0 0 ≡ 35 → ⊥) → GivesChar predefined s r → GivesChar referred s r
+named_on s (Some p) f h = subst (λ (n : ℕ). IsChar referred s p.0 n) (zero-add p.1) (char_on (name s f) h)
+named_on s None f h = none_on (name s f) h
 
 -- ── a reference ──
 
-module _ (s : List ℕ) where
-  pub unclosed : None ≡ position (λ b. b == 59) s → is_reference s ≡ false
-  unfolding is_reference
-  unclosed e = rw (not_found s e)
+-- each of the three answers, as that of a reference
+pub whole : {s : List ℕ} {c n : ℕ} → IsChar referred s c n → IsReference s c n
+unfolding is_reference
+whole g = record { is = rw g.closed (rw g.character at g.xml); character = g.character; length_is = g.length_is; within = g.within }
 
-  module _ {n : ℕ} (e : Some n ≡ position (λ b. b == 59) s) where
-    is : is_reference s ≡ xml_char (referred (take n s))
-    unfolding is_reference
-    is = let f = found s e in rw (f.closed, f.front)
+pub none_whole : (s : List ℕ) → (is_closed s && xml_char (referred (body s))) ≡ false → is_reference s ≡ false
+unfolding is_reference
+none_whole s g = g
 
-    pub outside : xml_char (referred (take n s)) ≡ false → is_reference s ≡ false
-    outside k = is ∙ k
-
-    pub judged : {c : ℕ} (x : Bool) → c ≡ referred (take n s) → x ≡ xml_char c
-        → MatchOption (then_some {T = ℕ × ℕ} x (c, n + 1)) (is_reference s ≡ false) (λ r. IsReference s r.0 r.1)
-    judged true k h =
-        let f = found s e in
-        record {
-          is = is ∙ ap xml_char (sym k) ∙ sym h;
-          character = k ∙ ap referred f.front;
-          length_is = omega (arith, f.count);
-          within = omega (arith, f.within);
-        }
-    judged false k h = is ∙ ap xml_char (sym k) ∙ sym h
+pub name_whole : (s : List ℕ) (r : Option (ℕ × ℕ)) → GivesChar referred s r → MatchOption r (is_reference s ≡ false) (λ p. IsReference s p.0 p.1)
+name_whole s (Some p) g = whole g
+name_whole s None g = none_whole s g

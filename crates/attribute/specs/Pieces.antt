@@ -1,10 +1,11 @@
 -- A raw value as the code walks it, piece by piece, and as it stores what the pieces give.
 -- Assumes nothing.
-use Rattle.std.specs.Prelude.{ℕ, suc, ◌+◌, ◌≡◌, ◌≤◌, ◌<◌, true, false, Option, Some, None, Result, Ok, Err, MatchOption, List, [], ◌∷◌, length, get_or, drop}
+use Rattle.std.specs.Prelude.{ℕ, suc, ◌+◌, ◌≡◌, ◌≤◌, ◌<◌, true, false, cond, Option, Some, None, Result, Ok, Err, MatchOption, ◌&&◌, List, [], ◌∷◌, length, get_or, drop}
+use Rattle.label.specs.Bytes.{ascii, begins}
 use Rattle.label.specs.Outcome.{ok, no}
 use Rattle.label.specs.Text.{xml_char}
 use Rattle.label.specs.Write.{utf8}
-use Rattle.label.specs.Requests.Attribute.{referred, body, is_reference, is_good, gives, further}
+use Rattle.label.specs.Requests.Attribute.{referred, body, is_closed, is_reference, is_good, gives, further}
 use Rattle.label.specs.Steps.{resolve}
 use Rattle.label.specs.Cause.{cause_number}
 use Rattle.label.specs.Calls.{refusal}
@@ -15,9 +16,26 @@ use Rattle.attribute.specs.declared.Piece.{Piece}
 use Rattle.attribute.specs.declared.Piece.TheVariants.{Byte, Char}
 use Rattle.attribute.specs.declared.Pieces.{Pieces}
 
--- the answer for character c: it is found, or there is none, and then c is no XML character
-abbrev pub GivesChar : Option ℕ → ℕ → Type 0
-GivesChar r c = MatchOption r (xml_char c ≡ false) (λ d. d ≡ c)
+-- `;` ends bs's first n bytes, and c is the XML character that f makes of those before it
+pub record IsChar (f : List ℕ → ℕ) (bs : List ℕ) (c n : ℕ) : Type 0 where
+  pub closed : is_closed bs ≡ true
+  pub character : c ≡ f (body bs)
+  pub xml : xml_char c ≡ true
+  pub length_is : n ≡ suc (length (body bs))
+  pub within : n ≤ length bs
+
+-- the answer for f: that character is found; or there is none, and then there is no `;`, or what f makes is no XML character
+abbrev pub GivesChar : (List ℕ → ℕ) → List ℕ → Option (ℕ × ℕ) → Type 0
+GivesChar f bs r = MatchOption r ((is_closed bs && xml_char (f (body bs))) ≡ false) (λ p. IsChar f bs p.0 p.1)
+
+-- the name with its `;` that bs begins with, one of the five of document 02: its character, and how many bytes that is
+unfoldable pub named : List ℕ → Option (ℕ × ℕ)
+named bs =
+    cond (begins (ascii "amp;") bs) (Some (38, 4))
+    (cond (begins (ascii "lt;") bs) (Some (60, 3))
+    (cond (begins (ascii "gt;") bs) (Some (62, 3))
+    (cond (begins (ascii "quot;") bs) (Some (34, 5))
+    (cond (begins (ascii "apos;") bs) (Some (39, 5)) None))))
 
 -- the bytes that come out of a piece
 abbrev pub piece_bytes : Piece → List ℕ

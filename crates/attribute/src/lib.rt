@@ -1,75 +1,94 @@
 // Raw XML attribute values: references resolved and white space replaced, as XML 1.0 says.
 #![tactic(auto)]
 
-ghost use Rattle.std.specs.Prelude.{◌≡◌, ◌+◌, ◌-◌, ◌*◌, ◌^◌, ◌≤◌, ◌<◌, false, length, MatchOption, SomeIff};
+ghost use Rattle.std.specs.Prelude.{◌≡◌, ◌+◌, ◌-◌, ◌*◌, ◌≤◌, ◌<◌, true, false, length, MatchOption, SomeIff};
 ghost use Rattle.std.specs.Iterator.{at_most};
 ghost use Rattle.label.specs.Calls.{outcome_of, filled_count, filled_after};
-ghost use Rattle.label.specs.Requests.Attribute.{predefined, numbered, referred, is_reference, body, is_good, gives, further, resolve_into};
+ghost use Rattle.label.specs.Requests.Attribute.{numbered, is_reference, is_good, gives, further, resolve_into};
 ghost use Rattle.octets.specs.Puts.{Put};
-ghost use Rattle.attribute.specs.Pieces.{GivesChar, IsReference, IsPiece, GivesPiece, Stores};
+ghost use Rattle.octets.specs.Outputs.{Gains};
+ghost use Rattle.label.specs.Text.{xml_char};
+ghost use Rattle.label.specs.Write.{utf8};
+ghost use Rattle.attribute.specs.Pieces.{GivesChar, named, IsReference, IsPiece, GivesPiece, Stores};
 
 use label::{Cause, Refusal};
 use octets::Output;
 
 // ── references ──
 
-// One more digit of the base behind n, if the number is not too large for any character.
+// One more digit of the base behind n, where n is not behind every character already.
 fn with_digit(n: u32, base: u32, digit: u32) -> Option<u32>
-    ensures { SomeIff result (n * base + digit < 2 ^ 32) (n * base + digit) }
+    requires { (base ≤ 16) × (digit ≤ 16) }
+    ensures { SomeIff result (n ≤ 0x10ffff) (n * base + digit) }
 {
-    n.checked_mul(base)?.checked_add(digit)
-}
-
-// The character whose number the digits of base ten or sixteen are. None: there are none, or another byte stands among them, or no character has the number.
-fn numbered(digits: &[u8], base: u32) -> Option<char>
-    requires { (2 ≤ base) × (base ≤ 16) }
-    ensures { GivesChar result (numbered base digits.now) }
-{
-    if digits.is_empty() {
+    if u32::from(char::MAX) < n {
         return None;
     }
+    Some(n * base + digit)
+}
+
+// The XML character with a number.
+fn character_of(n: u32) -> Option<char>
+    ensures { SomeIff result (xml_char n ≡ true) n }
+{
+    if utf8::is_xml(n) {
+        char::from_u32(n)
+    } else {
+        None
+    }
+}
+
+// The XML character whose number the digits of base ten or sixteen at the front are, which `;` ends, and how many bytes that is. No byte behind the first that
+// is no digit is looked at.
+#[inline(always)]
+fn numbered(behind: &[u8], base: u32) -> Option<(char, usize)>
+    requires { (2 ≤ base) × (base ≤ 16) }
+    ensures { GivesChar (numbered base) behind.now result }
+{
     let mut n = 0;
-    for b in digits {
+    for (count, b) in behind.iter().enumerate() {
+        if *b == b';' && 0 < count {
+            return Some((character_of(n)?, count + 1));
+        }
         let digit = char::from(*b).to_digit(base)?;
         n = with_digit(n, base, digit)?;
     }
-    char::from_u32(n)
+    None
 }
 
-// The character of one of the five names.
+// The character of the name at the front, one of five, which `;` ends, and how many bytes that is.
+#[inline(always)]
 #[tactic(auto, using(crate::proofs::Names::names))]
-fn predefined(name: &[u8]) -> Option<char>
-    ensures { GivesChar result (predefined name.now) }
+fn predefined(behind: &[u8]) -> Option<(char, usize)>
+    ensures { result ≡ named behind.now }
 {
-    match name {
-        b"amp" => Some('&'),
-        b"lt" => Some('<'),
-        b"gt" => Some('>'),
-        b"quot" => Some('"'),
-        b"apos" => Some('\''),
+    match behind {
+        [b'a', b'm', b'p', b';', ..] => Some(('&', 4)),
+        [b'l', b't', b';', ..] => Some(('<', 3)),
+        [b'g', b't', b';', ..] => Some(('>', 3)),
+        [b'q', b'u', b'o', b't', b';', ..] => Some(('"', 5)),
+        [b'a', b'p', b'o', b's', b';', ..] => Some(('\'', 5)),
         _ => None,
     }
 }
 
-// The character of what stands between `&` and `;`: `#x` with hexadecimal digits, `#` with decimal ones, or a name.
-#[tactic(auto, unfolding(label::specs::Requests::Attribute::referred))]
-fn referred(body: &[u8]) -> Option<char>
-    ensures { GivesChar result (referred body.now) }
-{
-    match body {
-        [b'#', b'x', digits @ ..] => numbered(digits, 16),
-        [b'#', digits @ ..] => numbered(digits, 10),
-        name => predefined(name),
-    }
-}
-
-// The character of the reference whose `&` stands before these bytes, and how many of them it has.
+// The character of the reference whose `&` stands before these bytes, and how many of them it has: `#x` with hexadecimal digits, `#` with decimal ones, or a
+// name.
+#[inline(always)]
 fn read_reference(behind: &[u8]) -> Option<(char, usize)>
     ensures { MatchOption result (is_reference behind.now ≡ false) (λ r. IsReference behind.now r.0 r.1) }
 {
-    let end = octets::position_of(behind, b';')?;
-    let c = referred(&behind[..end])?;
-    utf8::is_xml(u32::from(c)).then_some((c, end + 1))
+    match behind {
+        [b'#', b'x', digits @ ..] => {
+            let (c, length) = numbered(digits, 16)?;
+            Some((c, 2 + length))
+        }
+        [b'#', digits @ ..] => {
+            let (c, length) = numbered(digits, 10)?;
+            Some((c, 1 + length))
+        }
+        name => predefined(name),
+    }
 }
 
 // ── raw values ──
@@ -82,6 +101,7 @@ enum Piece {
 }
 
 // The piece that starts with a byte, before those behind it, and how many bytes it has. None: the byte is a raw `<`, or begins a bad reference.
+#[inline(always)]
 #[tactic(auto, using(crate::proofs::Opened::opened))]
 fn read_piece(b: u8, behind: &[u8]) -> Option<(Piece, usize)>
     ensures { MatchOption result (is_good b behind.now ≡ false) (λ p. IsPiece b behind.now p.0 p.1) }
@@ -113,6 +133,7 @@ impl Iterator for Pieces<'_> {
 
     ghost remaining = { λ s. at_most (length s.raw.now - s.at) };
 
+    #[inline(always)]
     fn next(&mut self) -> Option<Result<Piece, Refusal>> {
         let b = *self.raw.get(self.at)?;
         let Some((piece, length)) = read_piece(b, &self.raw[self.at + 1..]) else {
@@ -125,7 +146,9 @@ impl Iterator for Pieces<'_> {
     }
 }
 
-// Stores what the raw value resolves to from the start of `out`, as far as there is room, and counts it.
+// Stores what the raw value resolves to from the start of `out`, as far as there is room, and counts it. For speed, both passes have the whole walk inlined:
+// the first has no room, and its stores fall away.
+#[inline(always)]
 fn put_resolved(out: &mut [u8], raw: &[u8]) -> Result<usize, Refusal>
     ensures { Stores raw.now out.old result out.new }
 {

@@ -3,6 +3,7 @@
 -- Assumes nothing.
 use Rattle.std.proofs.Common.{◌≡◌, refl, cond, ap, sym, ◌∙◌, Bool, true, false, not, ◌&&◌, ◌||◌, List, [], ◌∷◌, ℕ, suc, ◌+◌, ◌≤◌, ◌<◌, min, arith, leb, ltb, eqb, length, drop, get_or, pos, Option, Some, None, Ok, Err, is_some, ℤ, add_assoc, option_and_then}
 use Rattle.std.specs.Option.{option_map}
+use Rattle.std.specs.Result.{result_ok}
 use mathlib.Core.Bool.{or-true}
 use native.Mathlib.Nat.{zero-add}
 use lib.Seq.{drop-drop}
@@ -23,7 +24,7 @@ use Rattle.number.specs.Digits.{cap, head_of, ends, is_break, lead, digits_from}
 use Rattle.number.specs.Numbers.{Numeral, sign_length, number_of, formed}
 use Rattle.number.specs.declared.Thousandths.{Thousandths}
 use Rattle.number.proofs.DigitLaws.{head_drop}
-use Rattle.number.proofs.NumberLaws.{told_some, told_none}
+use Rattle.number.proofs.NumberLaws.{told_some, told_none, formed_ok}
 use Rattle.entry.specs.declared.MapPart.{MapPart}
 use Rattle.entry.specs.declared.Front.{Front}
 use Rattle.entry.specs.declared.Field.{Field}
@@ -134,13 +135,13 @@ module _ (t : List ℕ) where
       field_is : field_of t ≡ given_by (head_of (drop 1 t)) (1 + k) numeral
       field_is = rw (field_some t p, h, ← head_drop t 1, ← ek, drop-drop)
 
-      pub code_ill : None ≡ formed numeral → None ≡ told_field t
-      code_ill e = rw (field_is, told_none numeral.ok (record { used = numeral.used; size = numeral.size }) e)
+      pub code_ill : None ≡ result_ok (formed numeral) → None ≡ told_field t
+      code_ill e = rw (field_is, told_none numeral.ok (record { used = numeral.used; size = numeral.size }) (e ∙ formed_ok numeral))
 
-      pub code_given : (n : Number) → Some n ≡ formed numeral → (b : Bool) → b ≡ eqb (head_of (drop 1 t)) 45
+      pub code_given : (n : Number) → Some n ≡ result_ok (formed numeral) → (b : Bool) → b ≡ eqb (head_of (drop 1 t)) 45
           → Some (record { used = 1 + k + n.used; number = Some (record { negative = b; size = n.size }) }) ≡ told_field t
       code_given n en b eb =
-          let e = told_some numeral.ok (record { used = numeral.used; size = numeral.size }) n en in
+          let e = told_some numeral.ok (record { used = numeral.used; size = numeral.size }) n (en ∙ formed_ok numeral) in
           rw (field_is, e.0, eb, ap (λ (r : Number). r.used) e.1, ap (λ (r : Number). r.size) e.1)
 
 -- where no number is given, nothing is negative, too large or rounded
@@ -467,3 +468,7 @@ index_alone t d ed bound some l w =
       l,
       λ k. sym (rw sum at (code_read k t _ p (rw sum bound) (Named d.value) (rw (lt-ltb 0 n some, le-leb d.value max_index l)) _ refl 0 refl)),
     )
+
+-- two flags put together
+pub both_told : {i e r a b : Bool} → i ≡ a → e ≡ b → r ≡ (i && e) → r ≡ (a && b)
+both_told p q h = rw (← p, ← q) h

@@ -3,7 +3,15 @@ ghost use Rattle.std.specs.Prelude.{◌≡◌, ◌+◌, ◌≤◌, ◌<◌, leng
 ghost use Rattle.std.specs.Option.{ForSome};
 ghost use Rattle.number.specs.Digits.{digits_from};
 
+use crate::Item;
 use number::Digits;
+
+// An entry that was read: an index alone of so many bytes, as most are, or one that is told by all that it says. The two go apart for the speed of the former.
+#[derive(Clone, Copy)]
+pub enum ReadEntry {
+    Index { index: u16, used: usize },
+    Full(Item),
+}
 
 // The entries of the indices in order, each read, up to the first that is refused: the bytes from the next one on, where there is one, and its number.
 #[derive(Clone, Copy)]

@@ -3,18 +3,18 @@
 
 ghost use Rattle.std.specs.Prelude.{◌≡◌, true, false, ◌&&◌, ◌+◌, ◌≤◌, leb, ltb, length, drop, IfSome, IfOk};
 ghost use Rattle.std.specs.Bool.{then_some};
-ghost use Rattle.std.specs.Iterator.{YieldsFirst, item_count};
+ghost use Rattle.std.specs.Iterator.{item_count};
 ghost use Rattle.label.specs.Limits.{max_index};
 ghost use Rattle.label.specs.Entry.{entries};
 ghost use Rattle.number.specs.Digits.{ends, is_break, digits_from};
-ghost use Rattle.entry.specs.Results.{entry_results, results_left};
+ghost use Rattle.entry.specs.Results.{item_said, result_said, entry_results, results_left, GivesEntry};
 ghost use Rattle.entry.specs.Items.{is_semi, entry_here, index_item, IsIndex};
 ghost use Rattle.entry.specs.Parts.{map_of, cut_map, front_of, field_of, cut_field, offsets_of, parts_of, well_parted, cut_parts, index_within, advance_within, offset_within, glyph_within, rounded_number, SmallNumber};
 
 mod entries;
 
-pub use entries::Entries;
 use entries::EntryBytes;
+pub use entries::{Entries, ReadEntry};
 use label::{Advance, Cause, Glyph, Index, Limits, Refusal};
 use number::{Digits, Thousandths};
 
@@ -167,7 +167,7 @@ fn field_of(s: &[u8]) -> Option<Field>
         });
     }
     let sign = number::sign_length(behind);
-    let n = number::number_of(&behind[sign..])?;
+    let n = number::number_of(&behind[sign..]).ok()?;
     Some(Field {
         used: 1 + sign + n.used,
         number: Some(Signed {
@@ -341,7 +341,7 @@ fn is_index(e: EntryBytes) -> bool
 }
 
 // What these digits alone say.
-fn index_item(d: Digits) -> Item
+pub fn index_item(d: Digits) -> Item
     requires { d.value ≤ max_index }
     ensures { result ≡ index_item d }
 {
@@ -356,21 +356,49 @@ fn index_item(d: Digits) -> Item
 
 // ── the entries ──
 
+impl ReadEntry {
+    // What the entry says.
+    pub fn item(self) -> Item
+        ensures { result ≡ item_said self }
+    {
+        match self {
+            ReadEntry::Index { index, used } => index_item(Digits {
+                count: used,
+                value: u64::from(index),
+            }),
+            ReadEntry::Full(item) => item,
+        }
+    }
+
+    // How many bytes it has.
+    fn used(self) -> usize
+        ensures { result ≡ (item_said self).used }
+    {
+        match self {
+            ReadEntry::Index { used, .. } => used,
+            ReadEntry::Full(item) => item.used,
+        }
+    }
+}
+
 // The entry that s begins with, entry number k: an index alone, or one that is read by its parts. It is inlined with the step of the walk, for the speed of
 // indices alone.
 #[inline(always)]
-pub fn read_entry(s: &[u8], k: usize) -> Result<Item, Refusal>
-    ensures value { result ≡ entry_here k s.now }
-    ensures bounds { IfOk result (λ x. x.used ≤ length s.now) }
+pub fn read_entry(s: &[u8], k: usize) -> Result<ReadEntry, Refusal>
+    ensures value { result_said result ≡ entry_here k s.now }
+    ensures bounds { IfOk result (λ e. (item_said e).used ≤ length s.now) }
 {
     let e = EntryBytes {
         bytes: s,
         first: number::digits_of(s, 0),
     };
     if is_index(e) {
-        return Ok(index_item(e.first));
+        return Ok(ReadEntry::Index {
+            index: e.first.value as u16,
+            used: e.first.count,
+        });
     }
-    read_parts(e, k)
+    Ok(ReadEntry::Full(read_parts(e, k)?))
 }
 
 impl<'a> Entries<'a> {
@@ -386,22 +414,22 @@ impl<'a> Entries<'a> {
 }
 
 impl<'a> Iterator for Entries<'a> {
-    type Item = Result<Item, Refusal>;
+    type Item = Result<ReadEntry, Refusal>;
 
-    ghost next_gives = { YieldsFirst results_left };
+    ghost next_gives = { GivesEntry };
 
     ghost remaining = { item_count results_left };
 
     #[inline(always)]
-    fn next(&mut self) -> Option<Result<Item, Refusal>> {
+    fn next(&mut self) -> Option<Result<ReadEntry, Refusal>> {
         let s = self.rest?;
-        let item = read_entry(s, self.number);
+        let entry = read_entry(s, self.number);
         // Behind the last entry there is no `;`, and so no rest.
-        self.rest = match item {
-            Ok(x) => s.get(x.used + 1..),
+        self.rest = match entry {
+            Ok(e) => s.get(e.used() + 1..),
             Err(_) => None,
         };
         self.number += 1;
-        Some(item)
+        Some(entry)
     }
 }

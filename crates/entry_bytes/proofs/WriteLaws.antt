@@ -2,7 +2,7 @@
 -- which the empty ones at the end drop.
 -- Assumes nothing.
 use mathlib.Core.Path.{◌≡◌, refl, sym, ap, ◌∙◌}
-use mathlib.Core.Bool.{false, cond, ◌&&◌, and-false}
+use mathlib.Core.Bool.{Bool, true, false, cond, ◌&&◌, and-false}
 use mathlib.Core.List.{List, [], ◌∷◌, ◌++◌, append-nil}
 use Prim.Native.Nat.{ℕ, ◌+◌, ◌/◌, ◌%◌, ◌≤◌}
 use native.Mathlib.Omega.{arith}
@@ -34,6 +34,13 @@ module _ (f : ℕ) where
   pub frac_three : (f % 100 ≡ 0 → ⊥) → (f % 10 ≡ 0 → ⊥) → (((48 + f / 100) ∷ []) ++ ((48 + f / 10 % 10) ∷ [])) ++ ((48 + f % 10) ∷ []) ≡ fraction f
   unfolding fraction
   frac_three n h = rw (ne_eqb (f % 100) 0 n, ne_eqb (f % 10) 0 h)
+
+-- what a test chooses
+pub choose_true : {A : Type 0} (t : Bool) (a b : A) → t ≡ true → a ≡ cond t a b
+choose_true t a b e = rw e
+
+pub choose_false : {A : Type 0} (t : Bool) (a b : A) → t ≡ false → b ≡ cond t a b
+choose_false t a b e = rw e
 
 module _ (n : ℕ) where
   pub value_whole : n % 1000 ≡ 0 → decimal (n / 1000) ≡ value_bytes n

@@ -6,7 +6,7 @@ ghost use Rattle.label.specs.Limits.{max_text_bytes, max_indices_bytes, max_unit
 ghost use Rattle.label.specs.Relabel.{line, relabel_read};
 ghost use Rattle.label.specs.Calls.{outcome_of, lengths, text_after, indices_after, outputs};
 ghost use Rattle.std.specs.Iterator.{at_most};
-ghost use Rattle.lines.specs.Labels.{TwoLinesOf, GivesLabel};
+ghost use Rattle.lines.specs.Labels.{line_behind, line_end, place_ptr, TwoLinesOf, OwnLines, GivesLabel};
 ghost use Rattle.lines.specs.Lines.{answered, places_written, relabelled, text_line, indices_line};
 
 use label::{Cause, Counts, Label, Lengths, Limits, Refusal};
@@ -19,7 +19,7 @@ pub struct Relabelled {
     pub written: Lengths,
 }
 
-// A line, and what follows it.
+// A line, and what follows it: parts of the input, where they are empty too.
 #[derive(Clone, Copy)]
 struct Line<'a> {
     bytes: &'a [u8],
@@ -30,6 +30,8 @@ struct Line<'a> {
 fn first_line(input: &[u8]) -> Line<'_>
     ensures bytes { result.bytes.now ≡ (line input.now).before }
     ensures rest { result.rest.now ≡ (line input.now).after }
+    ensures own { (result.bytes.ref_ptr ≡ input.entry.ref_ptr)
+        × (result.rest.ref_ptr ≡ place_ptr input.entry.ref_ptr (line_behind input.now (line_end input.now 0))) }
 {
     match octets::position_of(input, b'\n') {
         Some(end) => Line {
@@ -38,7 +40,7 @@ fn first_line(input: &[u8]) -> Line<'_>
         },
         None => Line {
             bytes: input,
-            rest: &[],
+            rest: &input[input.len()..],
         },
     }
 }
@@ -50,9 +52,10 @@ pub struct TwoLines<'a> {
     pub rest: &'a [u8],
 }
 
-// The first two lines; a missing one is empty.
+// The first two lines, parts of the input; a missing one is empty.
 pub fn two_lines(input: &[u8]) -> TwoLines<'_>
     ensures lines { TwoLinesOf input.now result }
+    ensures own { OwnLines input.entry.ref_ptr input.now result }
     ensures less { 0 < length input.now → length result.rest.now < length input.now }
 {
     let text = first_line(input);

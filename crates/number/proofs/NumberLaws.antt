@@ -19,13 +19,15 @@ use Rattle.label.specs.Requests.RoundedCount.{is_whole}
 use Rattle.label.proofs.Basics.{and_l, and_r}
 use Rattle.label.proofs.Decimals.{value_append}
 use Rattle.std.specs.Bool.{then_some}
+use Rattle.std.specs.Result.{result_ok}
 use Rattle.std.proofs.Common.{Option, Some, None}
 use Rattle.number.specs.declared.Thousandths.{Thousandths}
 use Rattle.number.specs.declared.Digits.{Digits}
 use Rattle.number.specs.declared.Mantissa.{Mantissa}
 use Rattle.number.specs.declared.Exponent.{Exponent}
+use Rattle.number.specs.declared.Number.{Number}
 use Rattle.number.specs.Digits.{cap, head_of, lead, digits_from}
-use Rattle.number.specs.Numbers.{sized, Mant, Expo, pointed, plain, unraised, mantissa_of, exponent_of, sign_length, size_of, number_of, cut_mantissa, cut_exponent, formed, raised_by}
+use Rattle.number.specs.Numbers.{sized, Mant, Expo, Numeral, pointed, plain, unraised, mantissa_of, exponent_of, sign_length, size_of, number_of, cut_mantissa, cut_exponent, by_form, formed, raised_by}
 use Rattle.number.proofs.DigitLaws.{head_drop, lead_yes, lead_no, digit_high, cut_from}
 use Rattle.number.proofs.ValueLaws.{ten_mono}
 
@@ -91,22 +93,16 @@ mant_plain t h = rw (ne_eqb _ _ h)
 cut_append : (a b : List ℕ) → min (value_from (min (value a) cap) b) cap ≡ min (value (a ++ b)) cap
 cut_append a b = rw (value_append 0 a b) (cut_from b (min (value a) cap) (value a) (omega arith))
 
--- what the code tells of both
-abbrev told_mantissa : List ℕ → Option Mantissa
-told_mantissa t = let m = mantissa_of t in then_some m.ok (cut_mantissa m)
-
-abbrev told_exponent : List ℕ → Option Exponent
-told_exponent t = let x = exponent_of t in then_some x.ok (cut_exponent x)
-
 -- what the code makes of two runs of digits
 module _ (t : List ℕ) (r : Digits) (e : r ≡ digits_from 0 t) where
   pub code_pointed : get_or t r.count 0 ≡ 46 → (q : Digits) → q ≡ digits_from r.value (drop (r.count + 1) t)
-      → then_some (ltb 0 q.count) (record { used = r.count + 1 + q.count; count = r.count + q.count; value = q.value; behind = q.count })
-      ≡ told_mantissa t
+      → ◌≡◌ {A = Mantissa}
+      (record { ok = ltb 0 q.count; used = r.count + 1 + q.count; count = r.count + q.count; value = q.value; behind = q.count })
+      (cut_mantissa (mantissa_of t))
   code_pointed h q f = rw (mant_pointed t (rw (← ap (λ (d : Digits). d.count) e) h), f, e, length-append, ← cut_append)
 
   pub code_plain : (get_or t r.count 0 ≡ 46 → ⊥)
-      → then_some (ltb 0 r.count) (record { used = r.count; count = r.count; value = r.value; behind = 0 }) ≡ told_mantissa t
+      → ◌≡◌ {A = Mantissa} (record { ok = ltb 0 r.count; used = r.count; count = r.count; value = r.value; behind = 0 }) (cut_mantissa (mantissa_of t))
   code_plain h = rw (mant_plain t (λ k. h (rw (ap (λ (d : Digits). d.count) e) k)), e)
 
 -- the exponent by its letter, and what the code makes of it
@@ -118,14 +114,15 @@ pub expo_some : (t : List ℕ) → is_e (head_of t) ≡ true → exponent_of t �
 unfolding exponent_of
 expo_some t h = rw h
 
-pub code_unraised : (t : List ℕ) → is_e (head_of t) ≡ false → Some (record { used = 0; negative = false; count = 0; value = 0 }) ≡ told_exponent t
+pub code_unraised : (t : List ℕ) → is_e (head_of t) ≡ false
+    → ◌≡◌ {A = Exponent} (record { ok = true; used = 0; negative = false; count = 0; value = 0 }) (cut_exponent (exponent_of t))
 unfolding value_from
 code_unraised t h = rw (expo_none t h)
 
 pub code_raised : (t : List ℕ) → is_e (head_of t) ≡ true → (k : ℕ) → k ≡ sign_length (head_of (drop 1 t)) → (r : Digits)
     → r ≡ digits_from 0 (drop k (drop 1 t)) → (m : Bool) → m ≡ eqb (head_of (drop 1 t)) 45
-    → then_some (ltb 0 r.count) (record { used = 1 + k + r.count; negative = m; count = r.count; value = r.value })
-    ≡ told_exponent t
+    → ◌≡◌ {A = Exponent} (record { ok = ltb 0 r.count; used = 1 + k + r.count; negative = m; count = r.count; value = r.value })
+    (cut_exponent (exponent_of t))
 code_raised t h k ek r er m em = rw (expo_some t h, ← head_drop t 1, ← ek, ← em, er, drop-drop)
 
 -- a test and the value told where it holds
@@ -137,97 +134,71 @@ pub told_none : {A : Type 0} (b : Bool) (x : A) → None ≡ then_some b x → b
 told_none true x e = absurd (none-some x e)
 told_none false x e = refl
 
--- what is told of a mantissa within the digits' limit is exact, and within what the code asks of it
-module _ (t : List ℕ) (m : Mantissa) (e : Some m ≡ told_mantissa t) where
-  mant_ok : (mantissa_of t).ok ≡ true
-  mant_ok = (told_some (mantissa_of t).ok (cut_mantissa (mantissa_of t)) m e).0
+-- the number, where it is well formed
+pub formed_ok : (n : Numeral) → result_ok (formed n) ≡ then_some n.ok (record { used = n.used; size = n.size })
+formed_ok n = go n.ok (record { used = n.used; size = n.size })
+  where
+    go : (b : Bool) (x : Number) → result_ok (by_form b x) ≡ then_some b x
+    go true x = refl
+    go false x = refl
 
-  mant_is : cut_mantissa (mantissa_of t) ≡ m
-  mant_is = (told_some (mantissa_of t).ok (cut_mantissa (mantissa_of t)) m e).1
+-- a mantissa within the digits' limit is exact, and within what the code asks of it
+module _ (t : List ℕ) (m : Mantissa) (e : m ≡ cut_mantissa (mantissa_of t)) (h : m.count ≤ 18) where
+  mant_count : length (mantissa_of t).digits ≤ 18
+  mant_count = rw e at h
 
-  module _ (h : m.count ≤ 18) where
-    mant_count : length (mantissa_of t).digits ≤ 18
-    mant_count = rw (← mant_is) at h
+  mant_below : value (mantissa_of t).digits < cap
+  mant_below = within (length (mantissa_of t).digits) 18 (value (mantissa_of t).digits) mant_count (mant_small t)
 
-    mant_below : value (mantissa_of t).digits < cap
-    mant_below = within (length (mantissa_of t).digits) 18 (value (mantissa_of t).digits) mant_count (mant_small t)
+  mant_exact : value (mantissa_of t).digits ≡ m.value
+  mant_exact = rw e (omega (arith, mant_below))
 
-    mant_exact : value (mantissa_of t).digits ≡ m.value
-    mant_exact = rw (← mant_is) (omega (arith, mant_below))
+  pub mant_asked : m.behind ≤ 18
+  mant_asked = rw e (omega (arith, mant_behind t, mant_count))
 
-    pub mant_asked : m.behind ≤ 18
-    mant_asked = rw (← mant_is) (omega (arith, mant_behind t, mant_count))
+-- and an exponent
+module _ (t : List ℕ) (x : Exponent) (e : x ≡ cut_exponent (exponent_of t)) (h : x.count ≤ 2) where
+  expo_count : length (exponent_of t).digits ≤ 2
+  expo_count = rw e at h
 
--- and of an exponent
-module _ (t : List ℕ) (x : Exponent) (e : Some x ≡ told_exponent t) where
-  expo_ok : (exponent_of t).ok ≡ true
-  expo_ok = (told_some (exponent_of t).ok (cut_exponent (exponent_of t)) x e).0
+  expo_below : value (exponent_of t).digits < 10 ^ 2
+  expo_below = within (length (exponent_of t).digits) 2 (value (exponent_of t).digits) expo_count (expo_small t)
 
-  expo_is : cut_exponent (exponent_of t) ≡ x
-  expo_is = (told_some (exponent_of t).ok (cut_exponent (exponent_of t)) x e).1
+  expo_exact : value (exponent_of t).digits ≡ x.value
+  expo_exact = rw e (omega (arith, expo_below))
 
-  module _ (h : x.count ≤ 2) where
-    expo_count : length (exponent_of t).digits ≤ 2
-    expo_count = rw (← expo_is) at h
-
-    expo_below : value (exponent_of t).digits < 10 ^ 2
-    expo_below = within (length (exponent_of t).digits) 2 (value (exponent_of t).digits) expo_count (expo_small t)
-
-    expo_exact : value (exponent_of t).digits ≡ x.value
-    expo_exact = rw (← expo_is) (omega (arith, expo_below))
-
-    pub expo_asked : x.value ≤ 99
-    expo_asked = omega (arith, expo_exact, expo_below)
+  pub expo_asked : x.value ≤ 99
+  expo_asked = omega (arith, expo_exact, expo_below)
 
 within_few : {A : Type 0} (b : Bool) (y z o : A) → (b ≡ true → y ≡ z) → cond b y o ≡ cond b z o
 within_few true y z o e = e refl
 within_few false y z o e = refl
 
--- what the code tells of a number
-pub no_mantissa : (t : List ℕ) → None ≡ told_mantissa t → None ≡ formed (number_of t)
-unfolding number_of
-no_mantissa t e = rw (told_none (mantissa_of t).ok (cut_mantissa (mantissa_of t)) e)
+-- what the code makes of both
+module _ (t : List ℕ) (m : Mantissa) (em : m ≡ cut_mantissa (mantissa_of t)) (x : Exponent) (ex : x ≡ cut_exponent (exponent_of (drop m.used t))) where
+  size_is : size_of (mantissa_of t) (exponent_of (drop m.used t))
+      ≡ cond (leb m.count 18 && leb x.count 2) (sized (scaled m.value m.behind x.negative x.value) (is_whole m.value m.behind x.negative x.value)) None
+  size_is =
+      let y : List ℕ = drop m.used t in
+      rw (← ap (λ (r : Mantissa). r.count) em, ← ap (λ (r : Exponent). r.count) ex)
+      (within_few (leb m.count 18 && leb x.count 2) _ _ None
+      (λ h. rw (
+        mant_exact t m em (leb-true m.count 18 (and_l (leb m.count 18) (leb x.count 2) h)),
+        expo_exact y x ex (leb-true x.count 2 (and_r (leb m.count 18) (leb x.count 2) h)),
+        ap (λ (r : Mantissa). r.behind) em,
+        ap (λ (r : Exponent). r.negative) ex,
+      )))
 
-module _ (t : List ℕ) (m : Mantissa) (em : Some m ≡ told_mantissa t) where
-  rest_is : drop m.used t ≡ drop (mantissa_of t).used t
-  rest_is = rw (ap (λ (r : Mantissa). r.used) (mant_is t m em))
-
-  pub no_exponent : None ≡ told_exponent (drop m.used t) → None ≡ formed (number_of t)
-  unfolding number_of
-  no_exponent e =
-      let y : List ℕ = drop (mantissa_of t).used t in
-      rw (mant_ok t m em, told_none (exponent_of y).ok (cut_exponent (exponent_of y)) (rw rest_is at e))
-
-  module _ (x : Exponent) (ex : Some x ≡ told_exponent (drop m.used t)) where
+  module _ (ok : Bool) (eo : ok ≡ (m.ok && x.ok)) where
     number_told : (z : Option Thousandths) → z ≡ size_of (mantissa_of t) (exponent_of (drop m.used t))
-        → Some (record { used = m.used + x.used; size = z }) ≡ formed (number_of t)
+        → by_form ok (record { used = m.used + x.used; size = z }) ≡ formed (number_of t)
     unfolding number_of
-    number_told z ez = rw (
-      ez,
-      ← rest_is,
-      mant_ok t m em,
-      expo_ok (drop m.used t) x ex,
-      ap (λ (r : Mantissa). r.used) (mant_is t m em),
-      ap (λ (r : Exponent). r.used) (expo_is (drop m.used t) x ex),
-    )
+    number_told z ez = rw (ez, eo, ex, em)
 
-    size_is : size_of (mantissa_of t) (exponent_of (drop m.used t))
-        ≡ cond (leb m.count 18 && leb x.count 2) (sized (scaled m.value m.behind x.negative x.value) (is_whole m.value m.behind x.negative x.value)) None
-    size_is =
-        let y : List ℕ = drop m.used t in
-        rw (ap (λ (r : Mantissa). r.count) (mant_is t m em), ap (λ (r : Exponent). r.count) (expo_is y x ex))
-        (within_few (leb m.count 18 && leb x.count 2) _ _ None
-        (λ h. rw (
-          mant_exact t m em (leb-true m.count 18 (and_l (leb m.count 18) (leb x.count 2) h)),
-          expo_exact y x ex (leb-true x.count 2 (and_r (leb m.count 18) (leb x.count 2) h)),
-          ap (λ (r : Mantissa). r.behind) (mant_is t m em),
-          ap (λ (r : Exponent). r.negative) (expo_is y x ex),
-        )))
-
-    pub code_over : (leb m.count 18 && leb x.count 2) ≡ false → Some (record { used = m.used + x.used; size = None }) ≡ formed (number_of t)
+    pub code_over : (leb m.count 18 && leb x.count 2) ≡ false → by_form ok (record { used = m.used + x.used; size = None }) ≡ formed (number_of t)
     code_over h = number_told None (rw (size_is, h))
 
     pub code_sized : m.count ≤ 18 → x.count ≤ 2 → (z : Option Thousandths)
         → z ≡ sized (scaled m.value m.behind x.negative x.value) (is_whole m.value m.behind x.negative x.value)
-        → Some (record { used = m.used + x.used; size = z }) ≡ formed (number_of t)
+        → by_form ok (record { used = m.used + x.used; size = z }) ≡ formed (number_of t)
     code_sized h k z e = number_told z (rw (size_is, le-leb m.count 18 h, le-leb x.count 2 k) e)

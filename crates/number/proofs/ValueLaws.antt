@@ -5,7 +5,7 @@ use mathlib.Core.Path.{◌≡◌, refl, sym, ap, ◌∙◌}
 use mathlib.Core.Bool.{Bool, true}
 use Prim.Native.Nat.{ℕ, suc, zero, ◌+◌, ◌-◌, ◌*◌, ◌/◌, ◌%◌, ◌^◌, ◌≤◌, ◌<◌}
 use native.Mathlib.Omega.{arith}
-use native.Mathlib.Nat.{add-zero, zero-mul, mul-div-mul_right, mul-div_cancel, mul-mod_left, div-eq_of_lt, mul_assoc, one-le-pow, mod-eq_of_lt, pow-le-pow_right, mul-le-mul_right, mul-lt-mul_of_pos_right}
+use native.Mathlib.Nat.{add-zero, zero-mul, mul-div-mul_right, mul-div_cancel, mul-mod_left, div-eq_of_lt, mul_assoc, one-le-pow, mod-lt, mod-eq_of_lt, pow-le-pow_right, mul-le-mul_right, mul-lt-mul_of_pos_right}
 use lib.Arith.{mod-mul}
 use lib.Pow.{pow-add}
 use lib.Dec.{ltb, eqb, lit<}
@@ -16,6 +16,7 @@ use Rattle.label.proofs.Basics.{cases}
 use Rattle.label.proofs.Values.{nearest_exact}
 use Rattle.label.proofs.Statements.Rounding.{nearest_below, nearest_above, nearest_half, three}
 use Rattle.std.proofs.Common.{None}
+use Rattle.number.specs.Digits.{cap}
 use Rattle.number.specs.Numbers.{sized}
 
 -- ── powers of ten ──
@@ -58,6 +59,10 @@ round_up m d h = three (2 * (m % d)) d (λ t. absurd (omega arith)) (nearest_abo
 
 pub round_down : (m d : ℕ) → 2 * (m % d) + m / d % 2 ≤ d → nearest m d ≡ m / d
 round_down m d h = three (2 * (m % d)) d (nearest_below m d) (λ t. absurd (omega arith)) (λ t. nearest_half m d t ∙ omega arith)
+
+-- a remainder's double, and one more, has room
+pub twice_small : (m k : ℕ) → k ≤ 18 → 2 * (m % 10 ^ k) + 1 < 2 * cap
+twice_small m k h = omega (arith, mod-lt m (ten_pos k), ten_mono k 18 h)
 
 -- ── one shift ──
 

@@ -1,7 +1,6 @@
 -- A number at the front of a list: "digits, or digits `.` digits, or `.` digits; then optionally `e` or `E`, an optional sign, digits".
 -- Assumes nothing.
-use Rattle.std.specs.Prelude.{Bool, true, false, cond, ◌&&◌, ◌||◌, List, [], ◌++◌, ℕ, ◌+◌, ◌≤◌, min, length, drop, get_or, leb, ltb, eqb, Option, Some, None, IfSome}
-use Rattle.std.specs.Bool.{then_some}
+use Rattle.std.specs.Prelude.{Bool, true, false, cond, ◌&&◌, ◌||◌, List, [], ◌++◌, ℕ, ◌+◌, ◌≤◌, min, length, drop, get_or, leb, ltb, eqb, Option, Some, None, IfSome, Result, Ok, Err}
 use Rattle.label.specs.Limits.{max_digits, max_exponent_digits, max_thousandths}
 use Rattle.label.specs.Bytes.{value}
 use Rattle.label.specs.Entry.{is_e, scaled}
@@ -89,11 +88,15 @@ number_of t = number_with (mantissa_of t) (exponent_of (drop (mantissa_of t).use
 
 -- what the code keeps of them: counts and values of the digits
 abbrev pub cut_mantissa : Mant → Mantissa
-cut_mantissa m = record { used = m.used; count = length m.digits; value = min (value m.digits) cap; behind = m.behind }
+cut_mantissa m = record { ok = m.ok; used = m.used; count = length m.digits; value = min (value m.digits) cap; behind = m.behind }
 
 abbrev pub cut_exponent : Expo → Exponent
-cut_exponent x = record { used = x.used; negative = x.negative; count = length x.digits; value = min (value x.digits) cap }
+cut_exponent x = record { ok = x.ok; used = x.used; negative = x.negative; count = length x.digits; value = min (value x.digits) cap }
 
--- the number, where it is well formed
-abbrev pub formed : Numeral → Option Number
-formed n = then_some n.ok (record { used = n.used; size = n.size })
+-- a number, or, where it is not well formed, what stands in its place
+abbrev pub by_form : Bool → Number → Result Number Number
+by_form ok n = cond ok (Ok n) (Err n)
+
+-- its bytes and its size, by whether it is well formed
+abbrev pub formed : Numeral → Result Number Number
+formed n = by_form n.ok (record { used = n.used; size = n.size })

@@ -1,13 +1,12 @@
 // The digits that bytes begin with, and the number, rounded to whole thousandths.
 #![tactic(auto)]
 
-ghost use Rattle.std.specs.Prelude.{◌≡◌, true, ◌+◌, ◌-◌, ◌*◌, ◌%◌, ◌^◌, ◌≤◌, ◌<◌, eqb, length, IfSome};
-ghost use Rattle.std.specs.Bool.{then_some};
+ghost use Rattle.std.specs.Prelude.{◌≡◌, true, ◌+◌, ◌-◌, ◌*◌, ◌%◌, ◌^◌, ◌≤◌, ◌<◌, eqb, length, IfOk, IfErr};
 ghost use Rattle.label.specs.Bytes.{is_digit};
 ghost use Rattle.label.specs.Entry.{nearest, scaled};
 ghost use Rattle.label.specs.Requests.RoundedCount.{is_whole};
 ghost use Rattle.number.specs.Digits.{cap, head_of, pushed, digits_from};
-ghost use Rattle.number.specs.Numbers.{sized, Small, mantissa_of, cut_mantissa, sign_length, exponent_of, cut_exponent, number_of, formed};
+ghost use Rattle.number.specs.Numbers.{sized, Small, mantissa_of, cut_mantissa, sign_length, exponent_of, cut_exponent, number_of, by_form, formed};
 
 use label::Limits;
 
@@ -117,10 +116,12 @@ fn shifted(m: u64, up: usize, down: usize) -> Option<Thousandths>
 
 // ── numbers ──
 
-// The digits before any exponent: the bytes used, the count of digits, their value, and the count behind the point. Each part says how many bytes it has, as
-// the definitions do; that they are among those it was read from is a clause, as a part does not hold these.
+// The digits before any exponent: whether they are well formed, the bytes used, the count of digits, their value, and the count behind the point. Each part
+// says how many bytes it has, as the definitions do; that they are among those it was read from is a clause, as a part does not hold these. What is not well
+// formed has bytes and digits too, as the number around it has its bytes and its size, so `ok` stands beside them.
 #[derive(Clone, Copy)]
 struct Mantissa {
+    ok: bool,
     used: usize,
     count: usize,
     value: u64,
@@ -130,6 +131,7 @@ struct Mantissa {
 // The exponent, of no bytes where there is none.
 #[derive(Clone, Copy)]
 struct Exponent {
+    ok: bool,
     used: usize,
     negative: bool,
     count: usize,
@@ -143,27 +145,29 @@ pub struct Number {
     pub size: Option<Thousandths>,
 }
 
-// The digits before any exponent, where they are well formed.
-fn mantissa_of(s: &[u8]) -> Option<Mantissa>
-    ensures value { let m = mantissa_of s.now in result ≡ then_some m.ok (cut_mantissa m) }
-    ensures bounds { IfSome result (λ m. m.used ≤ length s.now) }
+// The digits before any exponent.
+fn mantissa_of(s: &[u8]) -> Mantissa
+    ensures value { result ≡ cut_mantissa (mantissa_of s.now) }
+    ensures bounds { result.used ≤ length s.now }
 {
     let whole = digits_of(s, 0);
     if s.get(whole.count) == Some(&b'.') {
         let part = digits_of(&s[whole.count + 1..], whole.value);
-        (0 < part.count).then_some(Mantissa {
+        Mantissa {
+            ok: 0 < part.count,
             used: whole.count + 1 + part.count,
             count: whole.count + part.count,
             value: part.value,
             behind: part.count,
-        })
+        }
     } else {
-        (0 < whole.count).then_some(Mantissa {
+        Mantissa {
+            ok: 0 < whole.count,
             used: whole.count,
             count: whole.count,
             value: whole.value,
             behind: 0,
-        })
+        }
     }
 }
 
@@ -175,28 +179,30 @@ pub fn sign_length(s: &[u8]) -> usize
     usize::from(matches!(s.first(), Some(b'+' | b'-')))
 }
 
-// The exponent, where it is well formed. A missing one is read as 0 of no digits, so the value needs no case for it.
-fn exponent_of(s: &[u8]) -> Option<Exponent>
-    ensures value { let x = exponent_of s.now in result ≡ then_some x.ok (cut_exponent x) }
-    ensures bounds { IfSome result (λ x. x.used ≤ length s.now) }
+// The exponent. A missing one is read as 0 of no digits, so the value needs no case for it.
+fn exponent_of(s: &[u8]) -> Exponent
+    ensures value { result ≡ cut_exponent (exponent_of s.now) }
+    ensures bounds { result.used ≤ length s.now }
 {
     if !matches!(s.first(), Some(b'e' | b'E')) {
-        return Some(Exponent {
+        return Exponent {
+            ok: true,
             used: 0,
             negative: false,
             count: 0,
             value: 0,
-        });
+        };
     }
     let behind = &s[1..];
     let sign = sign_length(behind);
     let digits = digits_of(&behind[sign..], 0);
-    (0 < digits.count).then_some(Exponent {
+    Exponent {
+        ok: 0 < digits.count,
         used: 1 + sign + digits.count,
         negative: behind.first() == Some(&b'-'),
         count: digits.count,
         value: digits.value,
-    })
+    }
 }
 
 // m × 10^(e − f) × 1000, rounded. `number_of` asks the limits on digits first, so what is required here is of this call and not of every mantissa.
@@ -213,20 +219,26 @@ fn to_thousandths(m: Mantissa, x: Exponent) -> Option<Thousandths>
     shifted(m.value, up, down)
 }
 
-// The number that s begins with, where that is well formed.
-pub fn number_of(s: &[u8]) -> Option<Number>
-    ensures value { result ≡ formed (number_of s.now) }
-    ensures bounds { IfSome result (λ n. n.used ≤ length s.now) }
-    ensures small { IfSome result (λ n. Small n.size) }
+// A number, or, where it is not well formed, what stands in its place.
+fn formed(ok: bool, number: Number) -> Result<Number, Number>
+    ensures { result ≡ by_form ok number }
 {
-    let m = mantissa_of(s)?;
-    let x = exponent_of(&s[m.used..])?;
+    if ok { Ok(number) } else { Err(number) }
+}
+
+// The number that s begins with; where that is not well formed, the bytes and the size of what stands in its place.
+pub fn number_of(s: &[u8]) -> Result<Number, Number>
+    ensures value { result ≡ formed (number_of s.now) }
+    ensures bounds { IfOk result (λ n. n.used ≤ length s.now) × IfErr result (λ n. n.used ≤ length s.now) }
+    ensures small { IfOk result (λ n. Small n.size) × IfErr result (λ n. Small n.size) }
+{
+    let m = mantissa_of(s);
+    let x = exponent_of(&s[m.used..]);
+    let ok = m.ok && x.ok;
     let used = m.used + x.used;
     if Limits::DIGITS < m.count || Limits::EXPONENT_DIGITS < x.count {
-        return Some(Number { used, size: None });
+        return formed(ok, Number { used, size: None });
     }
-    Some(Number {
-        used,
-        size: to_thousandths(m, x),
-    })
+    let size = to_thousandths(m, x);
+    formed(ok, Number { used, size })
 }

@@ -44,18 +44,27 @@ impl<'a> Output<'a> {
     pub fn put_byte(&mut self, b: u8)
         ensures { Gains self.old (b ∷ []) self.new }
     {
-        // A copy of the place: the field would be fetched again behind the store, one instruction in a hundred of a writing.
+        // A copy of the place: the field would be fetched again behind the store, one instruction in a hundred of a writing. Where there is room the count
+        // cannot end, so a store is not held up by the test for it.
         let at = self.at;
         if at < self.bytes.len() {
             self.bytes[at] = b;
+            self.at = at + 1;
+        } else {
+            self.at = at.saturating_add(1);
         }
-        self.at = at.saturating_add(1);
     }
 
-    // Byte by byte: those that find room are stored, and all are counted.
+    // All at once where all find room, for speed; else byte by byte: those that find room are stored, and all are counted.
     pub fn put_bytes(&mut self, s: &[u8])
         ensures { Gains self.old s.now self.new }
     {
+        let at = self.at;
+        if at <= self.bytes.len() && s.len() <= self.bytes.len() - at {
+            self.bytes[at..at + s.len()].copy_from_slice(s);
+            self.at = at + s.len();
+            return;
+        }
         for b in s {
             self.put_byte(*b);
         }

@@ -37,4 +37,8 @@ sums ToGlyphs z h =
     let g = glyphs_add_up z.units z.clusters z.glyphs h in
     (few_units z.units z.clusters z.glyphs h, rw turned_twice u, omega (arith, g, few_glyphs z.units z.clusters z.glyphs h))
 
+-- so what is picked from, and what a pick adds up, is small
+pub few : (w : Way) (z : Places) → sound z ≡ true → (total w z ≤ 4096) × (unit_sum (along w (clusters_of (words z.clusters))) ≤ 4096)
+few w z h = let s = sums w z h in (s.0, s.2)
+
 pub ruleset picking = (pick_is, sums)

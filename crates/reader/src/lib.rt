@@ -11,10 +11,11 @@ ghost use Rattle.label.specs.Fetched.{halves};
 ghost use Rattle.label.specs.Calls.{reading_outcome, reading_rounded, room_of, read_into, counted, units_after, clusters_after, glyphs_after};
 ghost use Rattle.label.specs.Requests.RoundedCount.{rounded as rounded_in, beside};
 ghost use Rattle.wire.specs.Stores.{glyph_places};
+ghost use Rattle.entry.specs.Results.{item_said};
 ghost use Rattle.text.specs.Moves.{units as units_of};
 ghost use Rattle.reader.specs.Stores.{cluster_places, cluster_bytes, glyph_bytes, opened, added, behind, cluster_opened, Storable, Fillable};
 
-use entry::{Entries, Item};
+use entry::{Entries, Item, ReadEntry};
 use label::{Advance, Cause, Glyph, Index, Label, Reading, Refusal};
 use text::TextUnits;
 use wire::{ClusterNumbers, GlyphNumbers};
@@ -83,6 +84,7 @@ fn add_glyph(at: Stored, glyph: Glyph, glyphs: &mut [u8]) -> Stored
 }
 
 // Stores what entry x says in a text of `count` units: the cluster that it opens, if none is open, and its glyph.
+#[inline(always)]
 fn put_entry(count: usize, at: Stored, x: Item, clusters: &mut [u8], glyphs: &mut [u8]) -> Stored
     requires { Storable count at x (length clusters.old) (length glyphs.old) }
     ensures value { result ≡ behind count at x }
@@ -95,6 +97,26 @@ fn put_entry(count: usize, at: Stored, x: Item, clusters: &mut [u8], glyphs: &mu
     // In a text of no units a cluster has none.
     let units = if count == 0 { 0 } else { x.units };
     open_cluster(at, units, x.glyphs, x.glyph, clusters, glyphs)
+}
+
+// The same of an entry that was read. The two kinds go apart for speed: of an index alone all but the index is known here.
+#[inline(always)]
+fn put_read(
+    count: usize,
+    at: Stored,
+    entry: ReadEntry,
+    clusters: &mut [u8],
+    glyphs: &mut [u8],
+) -> Stored
+    requires { Storable count at (item_said entry) (length clusters.old) (length glyphs.old) }
+    ensures value { result ≡ behind count at (item_said entry) }
+    ensures clusters { clusters.new ≡ sets clusters.old (8 * at.clusters) (cluster_opened count at (item_said entry)) }
+    ensures glyphs { glyphs.new ≡ sets glyphs.old (16 * at.glyphs) (glyph_places (item_said entry).glyph) }
+{
+    match entry {
+        ReadEntry::Index { .. } => put_entry(count, at, entry.item(), clusters, glyphs),
+        ReadEntry::Full(x) => put_entry(count, at, x, clusters, glyphs),
+    }
 }
 
 // Stores the tail: the units of the run that no cluster has yet, each with a glyph of the font's.
@@ -131,7 +153,7 @@ fn fill(text: TextUnits, indices: &[u8], units: &mut [u8], clusters: &mut [u8], 
     };
     for entry in Entries::new(indices) {
         match entry {
-            Ok(x) => at = put_entry(text.count, at, x, clusters, glyphs),
+            Ok(entry) => at = put_read(text.count, at, entry, clusters, glyphs),
             // An accepted label has no such entry.
             Err(_) => unreachable!(),
         }

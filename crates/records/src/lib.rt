@@ -57,3 +57,25 @@ pub fn list_records(run: Run, out: &mut [Glyph]) -> Result<usize, Refusal>
     fill(out, run.glyphs());
     Ok(n)
 }
+
+// Four records by value, and what the listing into them answers.
+#[derive(Clone, Copy)]
+pub struct Four {
+    pub answer: Result<usize, Refusal>,
+    pub records: [Glyph; 4],
+}
+
+// The same with four records that are passed by value and handed back.
+pub fn list_four(run: Run, records: [Glyph; 4]) -> Four
+    ensures result { let p = as_places run.entry in
+        outcome_of result.answer ≡ filled_count (list_into 4 p) }
+    ensures records { let p = as_places run.entry in
+        result.records ≡ filled_after (list_into 4 p) records }
+{
+    let mut out = records;
+    let answer = list_records(run, &mut out);
+    Four {
+        answer,
+        records: out,
+    }
+}

@@ -11,6 +11,10 @@ use Rattle.wire.specs.Numbers.{as_cluster, as_glyph}
 use Rattle.wire.specs.declared.ClusterNumbers.{ClusterNumbers}
 use Rattle.wire.specs.declared.GlyphNumbers.{GlyphNumbers}
 
+-- so many bytes are whole numbers
+abbrev pub whole_bytes : ℕ → ℕ → ℕ → Bool
+whole_bytes u c g = eqb (u % 2) 0 && eqb (c % 4) 0 && eqb (g % 4) 0
+
 -- so many bytes are whole units, clusters and glyphs
 abbrev pub whole_run : ℕ → ℕ → ℕ → Bool
 whole_run u c g = eqb (u % 2) 0 && eqb (c % 8) 0 && eqb (g % 16) 0

@@ -2,31 +2,39 @@
 #![tactic(auto)]
 
 ghost use Rattle.std.specs.Prelude.{◌≡◌, [], ◌∷◌, ◌/◌, ◌≤◌, ◌&&◌, leb, length};
-ghost use Rattle.label.specs.Fetched.{halves, words};
+ghost use Rattle.label.specs.Fetched.{halves};
 ghost use Rattle.label.specs.Limits.{max_thousandths};
 ghost use Rattle.label.specs.Run.{keeps_pair};
-ghost use Rattle.label.specs.Sound.{choice, nat, size, glyph_fits, glyphs_of, tail_pair};
+ghost use Rattle.label.specs.Sound.{choice, nat, size, glyph_fits, tail_pair};
 ghost use Rattle.wire.specs.Numbers.{as_cluster, as_glyph};
-ghost use Rattle.rules.specs.Rules.{whole_run, limited, glyph_ok, opens_at, owes};
+ghost use Rattle.rules.specs.Rules.{whole_bytes, whole_run, limited, glyph_ok, opens_at, owes};
 
 use label::Limits;
 use wire::{ClusterNumbers, GlyphNumbers, Run};
 
 // ── how many ──
 
-// Whether the bytes of a run are whole units, clusters and glyphs: by `%`, as the definition has it, and not by `is_multiple_of`.
+// Whether so many bytes are whole numbers, 2 bytes a unit and 4 each number of a cluster or a glyph: by `%`, as the definition has it, and not by
+// `is_multiple_of`.
+pub fn whole_bytes(units: usize, clusters: usize, glyphs: usize) -> bool
+    ensures { result ≡ whole_bytes units clusters glyphs }
+{
+    units % 2 == 0 && clusters % 4 == 0 && glyphs % 4 == 0
+}
+
+// Whether the bytes of a run are whole numbers, and these whole clusters, of two, and glyphs, of four.
 pub fn is_whole(run: Run) -> bool
     ensures { result ≡ whole_run (length run.entry.units.now) (length run.entry.clusters.now) (length run.entry.glyphs.now) }
 {
-    run.units.len() % 2 == 0 && run.clusters.len() % 8 == 0 && run.glyphs.len() % 16 == 0
+    let clusters = run.clusters.len();
+    let glyphs = run.glyphs.len();
+    whole_bytes(run.units.len(), clusters, glyphs) && clusters % 8 == 0 && glyphs % 16 == 0
 }
 
-// Whether a run is within the limits of units and glyphs, and not empty.
-pub fn is_limited(run: Run) -> bool
-    ensures { result ≡ limited (length (halves run.entry.units.now)) (length (glyphs_of (words run.entry.glyphs.now))) }
+// Whether a run of so many units and glyphs is within the limits and not empty.
+pub fn is_limited(units: usize, glyphs: usize) -> bool
+    ensures { result ≡ limited units glyphs }
 {
-    let units = run.unit_count();
-    let glyphs = run.glyph_count();
     units <= Limits::UNITS && glyphs <= Limits::GLYPHS && !(units == 0 && glyphs == 0)
 }
 

@@ -92,7 +92,7 @@ pub fn is_sound(run: Run) -> bool
     ensures { result ≡ sound (as_places run.entry) }
 {
     rules::is_whole(run)
-        && rules::is_limited(run)
+        && rules::is_limited(run.unit_count(), run.glyph_count())
         && units::proper_units(run.units)
         && well_run(run)
 }

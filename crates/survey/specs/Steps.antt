@@ -14,6 +14,8 @@ use Rattle.label.specs.declared.Refusal.{Refusal}
 use Rattle.text.specs.Moves.{units}
 use Rattle.text.specs.Texts.{units_start}
 use Rattle.entry.specs.declared.Item.{Item}
+use Rattle.entry.specs.declared.entries.ReadEntry.TheVariants.{Index}
+use Rattle.entry.specs.Results.{item_said}
 use Rattle.survey.specs.declared.walk.Walk.{Walk}
 use Rattle.survey.specs.declared.Surveyed.{Surveyed}
 
@@ -59,6 +61,10 @@ unfoldable pub Turns : Walk → Item → Result Walk Refusal → Type 0
 Turns w x (Ok v) =
     let e = item_entry x in (placed (bare w) (state_at w) e ≡ ok e) × Behind w (takes (bare w) (state_at w) e) x.glyphs v
 Turns w x (Err r) = placed (bare w) (state_at w) (item_entry x) ≡ said_no r
+
+-- the same for an index alone, whatever it is and however many bytes it has
+abbrev pub TurnsIndex : Walk → Result Walk Refusal → Type 0
+TurnsIndex w r = (index used : ℕ) → Turns w (item_said (Index index used)) r
 
 -- ── the counts ──
 

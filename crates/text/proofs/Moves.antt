@@ -1,6 +1,6 @@
 -- A move over a text's characters is one over its units: behind the first k of them the others are left, and one character takes its own from those.
 -- Assumes nothing.
-use Prim.Native.Nat.{ℕ, ◌+◌, ◌-◌, ◌%◌, ◌≤◌, ◌<◌}
+use Prim.Native.Nat.{ℕ, zero, suc, ◌+◌, ◌-◌, ◌%◌, ◌≤◌, ◌<◌}
 use native.Mathlib.Omega.{arith}
 use native.Mathlib.Nat.{add-zero}
 use mathlib.Core.Path.{◌≡◌, refl, sym, ◌∙◌, ap}
@@ -23,8 +23,10 @@ use Rattle.label.proofs.Text.{proper_first}
 use Rattle.label.proofs.Sound.{decode_proper}
 use Rattle.utf8.specs.declared.Char.{Char}
 use Rattle.text.specs.Units.{units_from, well_formed}
+use Rattle.text.specs.Texts.{IsPlain}
 use Rattle.text.specs.Walk.{characters_from}
 use Rattle.text.proofs.Units.{well_read, is_formed, units_are}
+use Rattle.utf8.specs.Chars.{char_at}
 use Rattle.utf8.proofs.Chars.{char_plain}
 use Rattle.text.proofs.Walk.{good_first, units_read, reads}
 
@@ -114,6 +116,46 @@ module _ (s : List ℕ) (i : ℕ) (f : well_formed s i ≡ true) (l : i < length
 
   pub plain_units : units_from s (i + 1) ≡ drop 1 (units_from s i)
   plain_units = done_units s (units_from s i) (i + 1) 1 plain_left.0 1 refl
+
+-- past p of these
+module _ (s : List ℕ) (i : ℕ) (f : well_formed s i ≡ true) where
+  pub plain_run : (p : ℕ) → IsPlain (drop i s) p → Left (units_from s i) p (characters_from s (i + p)) × (p ≤ length (units_from s i))
+  unfolding units_of
+  plain_run zero h = (rw add-zero (left_all s i f), omega arith)
+  plain_run (suc p) h =
+      let us = units_from s i in
+      let b = get_or s (i + p) 0 in
+      let j = i + p + 1 in
+      let c : Char = record { code = b; next = j } in
+      let less : IsPlain (drop i s) p = record { inside = omega (arith, h.inside); plain = λ k e. h.plain k (omega (arith, e)) } in
+      let w : within 32 127 b ≡ true = rw get_or-drop at (h.plain p (omega arith)) in
+      let l : i + p < length s = omega (arith, h.inside, length-drop i s) in
+      let x : char_at s (i + p) ≡ Ok c = char_plain s (i + p) (within_lo 32 127 b w) (within_hi 32 127 b w) in
+      let e : characters_from s (i + p) ≡ Ok c ∷ characters_from s j = good_first s (i + p) c l x in
+      let r = plain_run p less in
+      let a : Left us p (Ok c ∷ characters_from s j) = rw e at r.0 in
+      let k : b ≤ 127 = within_hi 32 127 b w in
+      let one : length (units_of b) ≡ 1 = rw (le-leb b 0xffff (omega arith)) in
+      let n : suc p ≡ p + length (units_of b) = omega (arith, one) in
+      let g : i + suc p ≡ j = omega arith in
+      (rw g (left_next us p c (characters_from s j) a (suc p) n), omega (arith, one, left_fits us p c (characters_from s j) a r.1))
+
+-- each is a character
+module _ (s : List ℕ) (i : ℕ) where
+  pub plain_count : (p : ℕ) → IsPlain (drop i s) p → length (characters_from s i) ≡ p + length (characters_from s (i + p))
+  plain_count zero h = rw add-zero (omega arith)
+  plain_count (suc p) h =
+      let b = get_or s (i + p) 0 in
+      let j = i + p + 1 in
+      let c : Char = record { code = b; next = j } in
+      let less : IsPlain (drop i s) p = record { inside = omega (arith, h.inside); plain = λ k e. h.plain k (omega (arith, e)) } in
+      let w : within 32 127 b ≡ true = rw get_or-drop at (h.plain p (omega arith)) in
+      let l : i + p < length s = omega (arith, h.inside, length-drop i s) in
+      let x : char_at s (i + p) ≡ Ok c = char_plain s (i + p) (within_lo 32 127 b w) (within_hi 32 127 b w) in
+      let e : characters_from s (i + p) ≡ Ok c ∷ characters_from s j = good_first s (i + p) c l x in
+      let g : i + suc p ≡ j = omega arith in
+      let n : length (characters_from s (i + p)) ≡ 1 + length (characters_from s j) = ap length e ∙ omega arith in
+      rw g (omega (arith, plain_count p less, n))
 
 -- what `move_past` and `past_plain` are proved by
 pub ruleset moves = (left_at_none, left_none, left_next, left_fits, left_formed, done_pair, done_units)

@@ -7,7 +7,7 @@ use Rattle.label.specs.Steps.{text_units}
 use Rattle.label.specs.Cause.{cause_number}
 use Rattle.label.specs.declared.Refusal.{Refusal}
 use Rattle.text.specs.Texts.{units_start}
-use Rattle.text.specs.Units.{units_from}
+use Rattle.text.specs.Units.{units_from, well_formed}
 use Rattle.text.specs.declared.passage.Passage.{Passage}
 use Rattle.text.specs.declared.passage.TextUnits.{TextUnits}
 use Rattle.text.specs.declared.MoveFault.{MoveFault}
@@ -21,6 +21,14 @@ units p = units_from p.text.now p.at
 abbrev pub Reads : List ℕ → Result TextUnits Refusal → Type 0
 Reads t (Ok x) = (text_units t ≡ ok (units x.passage)) × (x.passage.at ≡ units_start t)
 Reads t (Err r) = text_units t ≡ no (cause_number r.cause) r.place
+
+-- what the place behind the first a units says: they are not there (12); or they end between the halves of a pair (13); or the byte from which on a passage
+-- has the others
+abbrev pub MovesTo : Passage → ℕ → Result ℕ MoveFault → Type 0
+MovesTo p a (Err PastEnd) = leb a (length (units p)) ≡ false
+MovesTo p a (Err InsidePair) = (leb a (length (units p)) ≡ true) × (keeps_pair a (units p) ≡ false)
+MovesTo p a (Ok j) = (leb a (length (units p)) ≡ true) × (keeps_pair a (units p) ≡ true) × (units_from p.text.now j ≡ drop a (units p))
+    × (well_formed p.text.now j ≡ true)
 
 -- what a move past the first a units says: they are not there (12); or they end between the halves of a pair (13); or what stands behind them
 abbrev pub Moves : Passage → ℕ → Result Passage MoveFault → Type 0

@@ -12,9 +12,9 @@ ghost use Rattle.label.specs.Steps.{decode};
 ghost use Rattle.label.specs.Wire.{from_halves};
 ghost use Rattle.label.specs.Calls.{outcome_of, filled};
 ghost use Rattle.text.specs.Walk.{fault_refusal, left, Takes};
-ghost use Rattle.text.specs.Texts.{text_count, start_read};
+ghost use Rattle.text.specs.Texts.{IsPlain, text_count, start_read};
 ghost use Rattle.text.specs.Units.{units_from, well_formed};
-ghost use Rattle.text.specs.Moves.{units, Reads, Moves};
+ghost use Rattle.text.specs.Moves.{units, Reads, MovesTo, Moves};
 
 use label::{Cause, Refusal};
 use utf8::{Char, CharFault};
@@ -87,14 +87,36 @@ fn unit_count(code: u32) -> usize
     if code <= 0xffff { 1 } else { 2 }
 }
 
-// How many units the text has, `{}` included, or 2 or 3 with its place.
+// How many bytes of U+0020 to U+007F the text begins with.
+fn plain_length(text: &[u8]) -> usize
+    ensures { IsPlain text.now result }
+{
+    for (count, b) in text.iter().enumerate() {
+        if !matches!(b, 0x20..=0x7f) {
+            return count;
+        }
+    }
+    text.len()
+}
+
+// How many of these stand from a place on, at most so many.
+fn plain_stretch(text: &[u8], at: usize, most: usize) -> usize
+    ensures { (result ≤ most) × IsPlain (drop at text.now) result }
+{
+    let ahead = text.get(at..).unwrap_or(&[]);
+    plain_length(ahead.get(..most).unwrap_or(ahead))
+}
+
+// How many units the text has, `{}` included, or 2 or 3 with its place. Each plain byte in front is a character of one unit: most texts have no others, so
+// these are counted by themselves, for speed.
 #[tactic(auto, using(crate::proofs::Counts::counted_all, crate::proofs::Walk::no_more))]
 fn count_units(text: &[u8]) -> Result<usize, Refusal>
     requires { length text.now ≤ max_text_bytes }
     ensures { outcome_of result ≡ text_count (decode 0 0 text.now) }
 {
-    let mut n = 0;
-    for c in characters_from(text, 0) {
+    let plain = plain_length(text);
+    let mut n = plain;
+    for c in characters_from(text, plain) {
         n += unit_count(c?.code);
     }
     Ok(n)
@@ -172,13 +194,15 @@ pub enum MoveFault {
 }
 
 impl<'a> Passage<'a> {
-    // What stands behind the first `count` units.
+    // The byte behind the first `count` units: of the passage that begins there the place alone, for the speed of moves.
     #[tactic(auto, using(crate::proofs::Moves::moves))]
-    pub fn move_past(self, count: usize) -> Result<Passage<'a>, MoveFault>
-        ensures { Moves self.entry count result }
+    fn place_past(self, count: usize) -> Result<usize, MoveFault>
+        ensures { MovesTo self.entry count result }
     {
-        let mut rest = characters_from(self.text, self.at);
-        let mut left = count;
+        // The plain ones in front go by themselves, for speed, as in `count_units`.
+        let plain = plain_stretch(self.text, self.at, count);
+        let mut rest = characters_from(self.text, self.at + plain);
+        let mut left = count - plain;
         // A `for` over `rest.by_ref()` would need a case in front, for no units to pass, and one behind, for a text that ends too early: so a `while`.
         while left != 0 {
             let c = match rest.next() {
@@ -190,9 +214,18 @@ impl<'a> Passage<'a> {
                 .checked_sub(unit_count(c.code))
                 .ok_or(MoveFault::InsidePair)?;
         }
+        Ok(rest.at)
+    }
+
+    // What stands behind the first `count` units.
+    #[inline(always)]
+    pub fn move_past(self, count: usize) -> Result<Passage<'a>, MoveFault>
+        ensures { Moves self.entry count result }
+    {
+        let at = self.place_past(count)?;
         Ok(Passage {
             text: self.text,
-            at: rest.at,
+            at,
         })
     }
 
@@ -231,6 +264,8 @@ impl<'a> Passage<'a> {
         requires { length (units self) ≤ max_units }
         ensures { result ≡ length (tail (units self.entry)).clusters }
     {
-        characters_from(self.text, self.at).count()
+        // The plain ones in front go by themselves here too.
+        let plain = plain_stretch(self.text, self.at, self.text.len());
+        plain + characters_from(self.text, self.at + plain).count()
     }
 }

@@ -7,8 +7,8 @@ use native.Mathlib.Numerals.{add-one}
 use native.Mathlib.Omega.{arith}
 use mathlib.Core.Path.{◌≡◌, refl, sym, ap, ◌∙◌}
 use mathlib.Core.Bool.{Bool, true, false}
-use mathlib.Core.List.{List, [], ◌∷◌, ◌++◌}
-use borrow.Author.Tests.{leb-true, leb-false}
+use mathlib.Core.List.{List, [], ◌∷◌, ◌++◌, append-nil}
+use borrow.Author.Tests.{le-leb, lt-leb, leb-true, leb-false}
 use lib.Dec.{leb}
 use lib.ListN.{length, get_or, drop, length-append, drop_of_length-le}
 use lib.Seq.{drop-cons, get_or-drop}
@@ -19,7 +19,7 @@ use Rattle.std.proofs.lemmas.Grind.{common_steps}
 use Rattle.label.specs.Fetched.{halves}
 use Rattle.label.specs.Bytes.{ascii}
 use Rattle.label.specs.Text.{braced}
-use Rattle.label.specs.Write.{unit_bytes, units_bytes, text_of}
+use Rattle.label.specs.Write.{utf8, unit_bytes, units_bytes, text_of}
 use Rattle.label.specs.Requests.Attribute.{escape_byte, escape, as_asked}
 use Rattle.label.proofs.Basics.{cases}
 use Rattle.label.proofs.Text.{unit_short}
@@ -27,9 +27,23 @@ use Rattle.label.proofs.Requests.Escaping.{asked_append, asked_nil, asked_stays,
 
 -- ── a unit as it is asked for ──
 
+pub asked_byte : (b : ℕ) → escape_byte b ≡ as_asked true (b ∷ [])
+unfolding escape
+asked_byte b = sym (append-nil (escape_byte b))
+
+-- a character of one byte is that byte
+pub asked_one : (e : Bool) (u v : ℕ) → u ≤ 127 → as_asked e (u ∷ []) ≡ as_asked e (unit_bytes u v)
+unfolding unit_bytes utf8
+asked_one e u v h = rw (lt-leb 56320 u (omega arith), lt-leb 55296 u (omega arith), le-leb u 127 h)
+
 -- a character of one byte is escaped as that byte; no other has one of the six
 pub asked_ascii : (u v : ℕ) → u ≤ 127 → escape_byte u ≡ as_asked true (unit_bytes u v)
 asked_ascii u v h = sym (unit_ascii u v h)
+
+-- a unit below the halves is its character
+pub unit_below : (u v : ℕ) → u < 55296 → utf8 u ≡ unit_bytes u v
+unfolding unit_bytes
+unit_below u v h = rw (lt-leb 56320 u (omega arith), lt-leb 55296 u h)
 
 pub asked_plain : (e : Bool) (u v : ℕ) → (e ≡ true → 127 < u) → unit_bytes u v ≡ as_asked e (unit_bytes u v)
 asked_plain true u v h = sym (asked_stays true (unit_bytes u v) (unit_none u v (h refl)))

@@ -20,6 +20,8 @@ fn put_tail(out: &mut Output, c: u32)
 }
 
 // A character's bytes, by its number: what `pair_of` gives where no low half follows may be above every `char`, so `encode_utf8` does not take it.
+// It is inlined, as all that stores a text below, for speed: the output of a loop then stands in registers, and one that only counts makes no bytes.
+#[inline(always)]
 pub fn put_char(out: &mut Output, c: u32)
     requires { c < 2097152 }
     ensures gains { Gains out.old (utf8 c) out.new }
@@ -54,6 +56,7 @@ fn pair_of(h: u16, l: u16) -> u32
 
 // The bytes of unit u before unit v: a pair's stand at its high half.
 #[tactic(auto, using(octets::proofs::Outputs::nothing), unfolding(label::specs::Write::unit_bytes))]
+#[inline(always)]
 fn put_unit(out: &mut Output, u: u16, v: u16)
     ensures { Gains out.old (unit_bytes u v) out.new }
 {
@@ -69,6 +72,7 @@ fn put_unit(out: &mut Output, u: u16, v: u16)
 
 // A byte escaped: one of six as its reference, any other as it is.
 #[tactic(auto, unfolding(label::specs::Requests::Attribute::escape_byte, label::specs::Bytes::ascii))]
+#[inline(always)]
 fn put_escaped(out: &mut Output, b: u8)
     ensures { Gains out.old (escape_byte b) out.new }
 {
@@ -83,27 +87,37 @@ fn put_escaped(out: &mut Output, b: u8)
     }
 }
 
-// The same as it is asked for. Only a character of one byte can be one of the six.
+// A byte as it is asked for.
 // `escape` is a bool, as the definition `as_asked` has it: with an enum each contract that hands it on would have to turn it into one.
 // It is no field of the output, nor of a struct with the units: what an output gains is said of it alone, and most stores do not ask for it.
-fn put_asked(escape: bool, out: &mut Output, u: u16, v: u16)
-    ensures { Gains out.old (as_asked escape (unit_bytes u v)) out.new }
+#[inline(always)]
+fn put_asked(escape: bool, out: &mut Output, b: u8)
+    ensures { Gains out.old (as_asked escape (b ∷ [])) out.new }
 {
-    if escape && u <= 0x7f {
-        put_escaped(out, u as u8);
+    if escape {
+        put_escaped(out, b);
     } else {
-        put_unit(out, u, v);
+        out.put_byte(b);
     }
 }
 
 // ── a run's units ──
 
-// Each unit with the one behind it. The last has none, and `array_windows` leaves it out, so they are fetched by their numbers.
+// Only a character of one byte can be one of the six, and only a half of a pair is asked for the unit behind it: the last unit has none, and `array_windows`
+// leaves it out, so they are fetched by their numbers.
+#[inline(always)]
 fn put_units(escape: bool, out: &mut Output, us: &[u8])
     ensures { Gains out.old (as_asked escape (units_bytes (halves us.now))) out.new }
 {
     for i in 0..wire::unit_count(us) {
-        put_asked(escape, out, wire::unit_at(us, i), wire::unit_at(us, i + 1));
+        let u = wire::unit_at(us, i);
+        if u <= 0x7f {
+            put_asked(escape, out, u as u8);
+        } else if u < 0xd800 {
+            put_char(out, u32::from(u));
+        } else {
+            put_unit(out, u, wire::unit_at(us, i + 1));
+        }
     }
 }
 
@@ -115,6 +129,7 @@ fn is_braced(us: &[u8]) -> bool
 }
 
 // The text of a run's units. `{}` has none of the six bytes.
+#[inline(always)]
 pub fn put_text(escape: bool, out: &mut Output, us: &[u8])
     ensures { Gains out.old (as_asked escape (text_of (halves us.now))) out.new }
 {

@@ -1,7 +1,9 @@
 -- Laws of a walk over the characters that units spell: what a step takes of the units that are left, and what that says of them.
 -- Assumes nothing.
-use Rattle.std.proofs.Common.{◌≡◌, ℕ, ◌+◌, ◌-◌, ◌/◌, ◌%◌, ◌<◌, ◌≤◌, true, false, ◌&&◌, nat_lt, leb, ◌⊎◌, List, [], ◌∷◌, ◌++◌, get_or, Option, Some, None, Result, Ok, Err, MatchOption, IsSomeAnd, IfSome, refl, ap, subst, ⊎_elim, ◌∙◌, arith}
+use Rattle.std.proofs.Common.{◌≡◌, ℕ, ◌+◌, ◌-◌, ◌/◌, ◌%◌, ◌<◌, ◌≤◌, true, false, ◌&&◌, nat_lt, leb, ◌⊎◌, List, [], ◌∷◌, ◌++◌, length, get_or, drop, Option, Some, None, Result, Ok, Err, MatchOption, IsSomeAnd, IfSome, refl, ap, subst, ⊎_elim, ◌∙◌, arith}
 use mathlib.Core.Bool.{and-false}
+use lib.Seq.{drop-cons}
+use native.Mathlib.Numerals.{add-one}
 use Rattle.std.proofs.lemmas.Bool.Decides.{nat_tests}
 use Rattle.std.proofs.lemmas.Option.{same_Some}
 use Rattle.std.specs.Iterator.{YieldsFirst}
@@ -60,6 +62,14 @@ one_unit c us h =
     let e : is_high c ≡ false = grind (arith, nat_tests) in
     let l : leb c 65535 ≡ true = grind (arith, nat_tests) in
     rw (e, l)
+
+-- a unit that XML allows by itself
+pub single_unit : (us : List ℕ) (i : ℕ) {u : ℕ} → i < length us → u ≡ get_or us i 0 → u ≤ 65535 → xml_char u ≡ true
+    → proper_units false (drop i us) ≡ proper_units false (drop (i + 1) us)
+single_unit us i {u} l e k x =
+    let r : u < 55296 ⊎ ((57344 ≤ u) × (u ≤ 65535)) = unfold xml_char in grind (arith, nat_tests) in
+    let d : drop i us ≡ u ∷ drop (i + 1) us = rw (e, add-one) (drop-cons us i 0 l) in
+    ap (proper_units false) d ∙ one_unit u (drop (i + 1) us) r ∙ rw x
 
 two_units : (u v : ℕ) (us : List ℕ) → is_high u ≡ true → is_low v ≡ true → proper_units false (u ∷ v ∷ us) ≡ proper_units false us
 unfolding proper_units

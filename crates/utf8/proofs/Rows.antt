@@ -194,6 +194,14 @@ pub following_is : (b : ℕ) (bs : List ℕ) → starts_char b bs ≡ true → f
 unfolding starts_char lead following
 following_is b bs h = (same table 0 rising all_trailed b bs).more h
 
+-- its bytes are there
+pub following_inside : (b : ℕ) (bs : List ℕ) → starts_char b bs ≡ true → following b bs ≤ length bs
+following_inside b bs h = go (lead b) refl
+  where
+    go : (x : Option Trailing) → lead b ≡ x → following b bs ≤ length bs
+    go None e = absurd (false≢true (sym (starts_is b bs ∙ rw e) ∙ h))
+    go (Some x) e = rw (following_is b bs h, e) (trail_inside x.more x.lo x.hi bs (sym (starts_is b bs ∙ rw e) ∙ h))
+
 -- a byte below 128 is a character
 pub starts_one : (b : ℕ) (bs : List ℕ) → b ≤ 127 → (starts_char b bs ≡ true) × (following b bs ≡ 0)
 unfolding trail table

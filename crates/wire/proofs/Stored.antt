@@ -1,13 +1,11 @@
 -- Bytes copied over a part of a buffer are the bytes stored there.
 -- Assumes nothing.
-use Rattle.std.proofs.Common.{◌≡◌, ℕ, ◌+◌, ◌≤◌, List, length, take, drop, sym, ◌∙◌, arith, append_assoc, refl, ◌*◌, ◌++◌, ℤ, to_z, of_z, w32, ◌/◌, ◌%◌}
-use Rattle.std.proofs.lemmas.List.Edits.{paste_all, sets-eq}
-use Rattle.std.proofs.lemmas.Slice.{put_mid-paste}
+use Rattle.std.proofs.Common.{◌≡◌, ℕ, ◌+◌, ◌≤◌, List, length, ◌∙◌, arith, refl, ◌*◌, ◌++◌, ℤ, to_z, of_z, w32, ◌/◌, ◌%◌}
 use Rattle.std.proofs.lemmas.Int.{of_z-to_z}
 use Rattle.std.specs.Int.{to_le_bytes}
 use Rattle.label.specs.Wire.{bits_of, four_bytes}
 use Rattle.octets.specs.Puts.{puts}
-use Rattle.octets.proofs.Puts.{sets_append}
+use Rattle.octets.proofs.Puts.{sets_append, copied}
 use Rattle.wire.specs.Stores.{cluster_stored, glyph_stored}
 use Rattle.wire.proofs.Signed.{bits_are, bits_below}
 use borrow.Rule.Slice.PartMut.{put_mid}
@@ -15,10 +13,7 @@ use mir.Val.{SFits}
 
 -- the n bytes w at a place
 pub stored : (at n : ℕ) (out s w : List ℕ) → s ≡ w → n ≡ length w → at + length w ≤ length out → put_mid at n out s ≡ puts out at w
-unfolding puts
-stored at n out s w e f h =
-    let same : n ≡ n = omega arith in
-    put_mid-paste at n out s w n e same f ∙ paste_all out at w n f ∙ rw f (sym (sets-eq w out at h ∙ append_assoc (take at out) w (drop (at + length w) out)))
+stored at n out s w e f h = copied at n out s w e f h
 
 -- the four bytes of a number of 32 bits
 pub four_are : (v : ℤ) → SFits w32 v → to_le_bytes w32 (of_z w32 (to_z w32 (of_z w32 v))) ≡ four_bytes (bits_of v)

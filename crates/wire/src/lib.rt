@@ -26,6 +26,15 @@ pub fn unit_count(s: &[u8]) -> usize
     s.len() / 2
 }
 
+// Likewise of numbers of 4 bytes: `number` takes one below this count.
+#[tactic(auto, using(crate::proofs::Fetched::words_length))]
+pub fn number_count(s: &[u8]) -> usize
+    ensures value { result ≡ length (words s.now) }
+    ensures bounds { result ≡ length s.now / 4 }
+{
+    s.len() / 4
+}
+
 // ── fetched ──
 
 // A unit by its number, or 0 past the end: that is no half and no `{`, so who looks at the unit behind another needs no case for the end. The bytes go whole

@@ -1,14 +1,14 @@
--- The writer's call: that 19 was passed, and one law for each return behind it, by 20 and 21 in order (`write_steps`).
+-- The writer's call: one law for each return, by 19, 20 and 21 in order (`write_steps`), and that 19 was passed.
 -- Assumes nothing.
-use Rattle.std.proofs.Common.{Err, Result}
+use Rattle.std.proofs.Common.{Ok, Err, Result}
 use Rattle.label.proofs.Basics.{no_ok}
 use Rattle.label.proofs.Steps.{write_steps}
 use mathlib.Core.Path.{◌≡◌, refl, sym, ◌∙◌}
-use mathlib.Core.Bool.{Bool, true, false}
+use mathlib.Core.Bool.{Bool, true, false, not}
 use mathlib.Core.List.{List}
 use Prim.Native.Nat.{ℕ, ◌<◌, ◌≤◌}
 use native.Mathlib.Omega.{arith}
-use borrow.Author.Tests.{le-leb, lt-leb}
+use borrow.Author.Tests.{le-leb, lt-leb, not-true}
 use lib.ListN.{length}
 use Rattle.label.specs.Outcome.{Outcome, ok, no, need}
 use Rattle.label.specs.Fetched.{halves, words}
@@ -47,6 +47,13 @@ module _ (a : Bool) (us cs gs T I : List ℕ) where
   abbrev i : ℕ
   i = length (indices_of (clusters_of (words cs)) (glyphs_of (words gs)))
 
+  -- of an unsound run; `write_as` has it by `sound::check`, whose clause the search takes with `write_steps`
+  pub refuses_19 : {x : Refusal} {s : Bool} → s ≡ sound (places us cs gs) → x ≡ refusal C.UnsoundRun 0 → not s ≡ true → Answer W (Err x) T T I I
+  refuses_19 {s = s} e f k = rw f (refuses (refusal C.UnsoundRun 0) T I is)
+    where
+      is : W ≡ no 19 0
+      is = write_steps a (outputs T I) (places us cs gs) ∙ rw (sym e ∙ not-true s k)
+
   module _ (yes : sound (places us cs gs) ≡ true) {n : ℕ} (et : n ≡ t) where
     pub refuses_20 : {x : Refusal} → x ≡ refusal C.TextRoom n → length T < n → Answer W (Err x) T T I I
     refuses_20 f h = rw f (refuses (refusal C.TextRoom n) T I is)
@@ -81,3 +88,9 @@ module _ (a : Bool) (us cs gs T I : List ℕ) where
 
         pub indices_written : {I' : List ℕ} {p : ℕ} → Put I 0 (indices_of (clusters_of (words cs)) (glyphs_of (words gs))) p I' → I' ≡ indices_after W I
         indices_written b = rw accepts (put_room b (omega arith))
+
+        -- the three clauses together
+        pub writes : {T' I' : List ℕ} {p q : ℕ} → Put T 0 (as_asked a (text_of (halves us))) p T'
+            → Put I 0 (indices_of (clusters_of (words cs)) (glyphs_of (words gs))) q I'
+            → Answer W (Ok (record { text = n; indices = m })) T T' I I'
+        writes b d = record { result = written; text = text_written b; indices = indices_written d }

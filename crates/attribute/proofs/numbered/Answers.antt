@@ -1,24 +1,28 @@
 -- `attribute::numbered`: each return is a law of Digits.
-use Rattle.std.proofs.Common.{rules, arith}
-use Rattle.attribute.proofs.Digits.{digit, no_digit, none_empty, at_other, at_large, further, at_end, as_char}
+use Rattle.std.proofs.Common.{arith}
+use Rattle.attribute.proofs.Digits.{digit, no_digit, at_char, at_none, at_other, at_large, further, at_end}
 use Rattle.attribute.proofs.numbered.Goals as goal
 
-pub returns-then-is_empty : goal.returns-then-is_empty
-returns-then-is_empty c = none_empty _ _ (search rules)
+pub returns-in_err-character_of : goal.returns-in_err-character_of
+returns-in_err-character_of c = rw c.from_residual.ensures (at_none c.requires.1 c.loop-count.invariant c.loop-count-test.true c.if-b-eq59.true
+    c.if-count-gt0.true c.in_err-character_of.ensures)
+
+pub returns-then-count-gt0 : goal.returns-then-count-gt0
+returns-then-count-gt0 c = at_char c.requires.1 c.loop-count.invariant c.loop-count-test.true c.if-b-eq59.true c.if-count-gt0.true
+    c.in_ok-character_of.ensures
 
 pub returns-in_err-digit : goal.returns-in_err-digit
-returns-in_err-digit c = rw c.from_residual.ensures (at_other c.loop-b.invariant c.loop-b-test.true
+returns-in_err-digit c = rw c.from_residual-in_err-digit.ensures (at_other c.requires.1 c.loop-count.invariant c.loop-count-test.true (λ e. omega arith)
     (no_digit c.requires.1 c.from.ensures c.in_err-digit.ensures.value))
 
 pub returns-in_err-n : goal.returns-in_err-n
-returns-in_err-n c =
-    let d = digit c.requires.1 c.from.ensures c.in_ok-digit.ensures.value in
-    rw c.from_residual-in_err-n.ensures (at_large c.loop-b.invariant c.loop-b-test.true (search rules) (omega (arith, c.in_err-n.ensures)))
+returns-in_err-n c = rw c.from_residual-in_err-n.ensures (at_large c.requires.1 c.loop-count.invariant c.loop-count-test.true (omega arith)
+    (omega (arith, c.in_err-n.ensures)))
 
-pub loop-b-preserved : goal.loop-b-preserved
-loop-b-preserved c =
+pub loop-count-preserved : goal.loop-count-preserved
+loop-count-preserved c =
     let d = digit c.requires.1 c.from.ensures c.in_ok-digit.ensures.value in
-    further c.loop-b.invariant c.loop-b-test.true (omega arith) (omega (arith, c.in_ok-n.ensures))
+    further c.requires.1 c.loop-count.invariant c.loop-count-test.true (omega arith) (omega (arith, c.in_ok-n.ensures))
 
 pub returns : goal.returns
-returns c = as_char _ (at_end c.loop-b.invariant c.loop-b-test.false (search rules)) c.from_u32.ensures.value c.from_u32.ensures.cases
+returns c = at_end c.loop-count.invariant c.loop-count-test.false

@@ -7,7 +7,7 @@ use Rattle.label.specs.Steps.{run_from}
 use Rattle.label.specs.Fetched.{halves}
 use Rattle.label.specs.Calls.{clusters_after, glyphs_after}
 use Rattle.text.specs.Moves.{units}
-use Rattle.entry.specs.Results.{results_left}
+use Rattle.entry.specs.Results.{item_said, result_said, results_left}
 use Rattle.reader.proofs.Calls.{parts, walked, few, units_room, units_filled, all_left}
 use Rattle.reader.proofs.Filling.{Turn, fill_turn, fill_never, fill_end}
 use Rattle.reader.proofs.Storing.{Storing}
@@ -25,10 +25,10 @@ stands c = units_stored (units c.args.text.passage) c.args.units.now c.args.text
 -- the entry that a turn takes
 turn : (c : In-Ok) → let o = run_from (units c.args.text.passage) c.args.indices.now in
     Turn (clusters_after o c.args.clusters.now) (glyphs_after o c.args.glyphs.now) (units c.args.text.passage) (results_left c.next.new.self)
-    c.loop-entry.clusters c.loop-entry.glyphs c.loop-entry.at c.args.text.count c.in-Ok.x
+    c.loop-entry.clusters c.loop-entry.glyphs c.loop-entry.at c.args.text.count (item_said c.in-Ok.entry)
 turn c =
-    fill_turn c.loop-entry.invariant c.args.text.count c.args.text.counted (omega (arith, c.args.text.counted, c.args.text.few)) c.in-Ok.x
-    (results_left c.next.new.self) (c.in-Some.ensures.steps ∙ ap (λ y. y ∷ results_left c.next.new.self) c.in-Ok.is)
+    fill_turn c.loop-entry.invariant c.args.text.count c.args.text.counted (omega (arith, c.args.text.counted, c.args.text.few)) (item_said c.in-Ok.entry)
+    (results_left c.next.new.self) (c.in-Some.ensures.steps ∙ ap (λ y. result_said y ∷ results_left c.next.new.self) c.in-Ok.is)
 
 -- behind the last one the tail is left
 left : (c : In-None) → let o = run_from (units c.args.text.passage) c.args.indices.now in
@@ -53,16 +53,16 @@ loop-entry-init c =
       few = omega (arith, few c.requires);
     }
 
-pub put_entry-at-requires : goal.put_entry-at-requires
-put_entry-at-requires c = (turn (goal.at.put_entry-at-requires c).In-Ok).fits
+pub put_read-at-requires : goal.put_read-at-requires
+put_read-at-requires c = (turn (goal.at.put_read-at-requires c).In-Ok).fits
 
 pub loop-entry-preserved : goal.loop-entry-preserved
-loop-entry-preserved c = let e = c.put_entry-at.ensures in (turn (goal.at.loop-entry-preserved c).In-Ok).then e.value e.clusters e.glyphs
+loop-entry-preserved c = let e = c.put_read-at.ensures in (turn (goal.at.loop-entry-preserved c).In-Ok).then e.value e.clusters e.glyphs
 
 pub unreachable-requires : goal.unreachable-requires
 unreachable-requires c =
     fill_never c.loop-entry.invariant c.in-Err.field-0 (results_left c.next.new.self)
-    (c.in-Some.ensures.steps ∙ ap (λ y. y ∷ results_left c.next.new.self) c.in-Err.is)
+    (c.in-Some.ensures.steps ∙ ap (λ y. result_said y ∷ results_left c.next.new.self) c.in-Err.is)
 
 pub slice_bounds-fill_tail-end : goal.slice_bounds-fill_tail-end
 slice_bounds-fill_tail-end c = room (goal.at.slice_bounds-fill_tail-end c).After-fill_units

@@ -4,5 +4,5 @@ use Rattle.entry.specs.Results.{results_left}
 use Rattle.survey.proofs.Surveying.{Underway}
 use Rattle.survey.proofs.survey_run.Given as goal
 
-abbrev pub invariant-loop-item : goal.invariant-loop-item
-invariant-loop-item l = Underway (units l.run.passage) l.indices l.walk l.rounded (results_left l.item-iterator)
+abbrev pub invariant-loop-entry : goal.invariant-loop-entry
+invariant-loop-entry l = Underway (units l.run.passage) l.indices l.walk l.rounded (results_left l.entry-iterator)

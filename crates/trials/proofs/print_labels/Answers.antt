@@ -22,4 +22,4 @@ loop-label-preserved g c =
 pub returns : goal.returns
 returns g c =
     let before = c.loop-label.invariant in
-    subst (Appends _ _) (sym (append-nil before.0) ∙ ap (λ l. before.0 ++ l) (sym (prints_none _ c.in-None.ensures.steps)) ∙ before.2) before.1
+    subst (Appends _ _) (sym (append-nil before.0) ∙ ap (λ l. before.0 ++ l) (sym (prints_none _ c.in-None.ensures.steps.0)) ∙ before.2) before.1

@@ -1,6 +1,10 @@
 -- `units::proper_units`: one law of Decoded for the start, each return and a turn; a `char` is no half of a pair, as the walk's laws ask.
 -- Assumes nothing.
-use Rattle.std.proofs.Common.{sym, ap, ◌∙◌, false, rules}
+use Rattle.std.proofs.Common.{◌≡◌, ◌*◌, length, drop, sym, ap, ◌∙◌, false, rules, arith}
+use Rattle.std.specs.List.{between}
+use Rattle.std.proofs.lemmas.Slice.{between_to_end}
+use Rattle.label.specs.Fetched.{halves}
+use Rattle.wire.proofs.Fetched.{halves_drop}
 use Rattle.std.specs.Char.{InScalarRange}
 use Rattle.label.specs.Sound.{proper_units}
 use Rattle.units.proofs.Decoded.{at_start, at_char, at_half, at_end}
@@ -9,7 +13,13 @@ use Rattle.units.proofs.proper_units.Goals as goal
 pub loop-c-init : goal.loop-c-init
 loop-c-init c =
     let d = c.decode_utf16-c-items.ensures in
-    rw c.into_iter-c-iterator.ensures.into_iter_gives (ap (proper_units false) (sym c.of.ensures ∙ at_start _ d.source d.peeked))
+    let s = c.args.us.now in
+    let n = c.single_count.result in
+    let rest : drop n (halves s) ≡ halves (between (2 * n) (length s) s) =
+    halves_drop n s ∙ ap halves (sym (between_to_end s (2 * n) (length s) (omega arith))) in
+    c.single_count.ensures.value
+    ∙ ap (proper_units false) rest
+    ∙ rw c.into_iter-c-iterator.ensures.into_iter_gives (ap (proper_units false) (sym c.of.ensures ∙ at_start _ d.source d.peeked))
 
 pub returns-in_default : goal.returns-in_default
 returns-in_default c = sym (c.loop-c.invariant ∙ at_half _ _ c.in-Some.ensures.steps c.in_default.is)

@@ -1,4 +1,4 @@
--- `text::Passage::move_past`: the units passed so far are of the passage, and those of the characters left are the others (`Left`); a character takes at least
+-- `text::Passage::place_past`: the units passed so far are of the passage, and those of the characters left are the others (`Left`); a character takes at least
 -- one. Assumes nothing.
 use Prim.Native.Nat.{◌-◌, ◌≤◌}
 use mathlib.Core.Path.{◌≡◌}
@@ -6,7 +6,7 @@ use lib.ListN.{length}
 use Rattle.text.specs.Moves.{units}
 use Rattle.text.specs.Walk.{characters_from}
 use Rattle.text.proofs.Moves.{Left}
-use Rattle.text.proofs.passage.Passage.move_past.Given as goal
+use Rattle.text.proofs.passage.Passage.place_past.Given as goal
 
 abbrev pub invariant-loop-left : goal.invariant-loop-left
 invariant-loop-left l =
